@@ -1,0 +1,4 @@
+pub mod StageRuns
+pub mod StageTurns
+pub mod LevelSteps
+pub mod EnvelopeSteps

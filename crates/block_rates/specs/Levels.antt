@@ -1,0 +1,59 @@
+-- Levels of an operator's envelope, from its settings to the level of each block. 2 ^ 24 is one octave of gain. Levels and targets are not negative, so `max t (x - m * i)` is the same number whether `-` stops at 0 or not.
+use Rattle.std.specs.Prelude.{ℕ, zero, suc, ◌+◌, ◌-◌, ◌*◌, ◌/◌, ◌%◌, ◌^◌, min, max, nat_le, ◌==◌, if◌then◌else◌, List, [], ◌∷◌, Option, Some, None, slice_index}
+use Rattle.dx_tables.specs.Constants.{level}
+use Rattle.block_rates.specs.declared.slope.Slope.{Slope}
+use Rattle.block_rates.specs.Stages.{Motion, after}
+
+-- rates and levels of the four stages, 0 to 99, the operator's output level, and what its rate scaling adds to the rates
+pub record EnvelopeSettings : Type 0 where
+  pub rates : List ℕ
+  pub levels : List ℕ
+  pub out : ℕ
+  pub rate_scale : ℕ
+
+-- the level that a stage leads to, from its level parameter and the output level
+unfoldable pub target_level : ℕ → ℕ → ℕ
+target_level parameter out = 65536 * max 16 (64 * (level parameter / 2) + out - 4256)
+
+-- the rate of a stage in steps of 1/4 octave of speed, from its rate parameter and the rate scale
+abbrev pub scaled_rate : ℕ → ℕ → ℕ
+scaled_rate rate rate_scale = min 63 (rate * 41 / 64 + rate_scale)
+
+-- what a stage of this scaled rate moves by
+unfoldable pub rate_step : ℕ → ℕ
+rate_step q = (4 + q % 4) * 2 ^ (8 + q / 4)
+
+-- the stage of this number, from 0 to 3
+abbrev pub slope_at : EnvelopeSettings → ℕ → Slope
+slope_at s i = record {
+  target = target_level (slice_index s.levels i) s.out;
+  step = rate_step (scaled_rate (slice_index s.rates i) s.rate_scale);
+}
+
+-- one step of a rising stage: the level is lifted, and rises by less the higher it is
+abbrev pub rise : Slope → ℕ → ℕ
+rise s x = let y = max x (1716 * 65536) in min s.target (y + (17 * 2 ^ 24 - y) / 2 ^ 24 * s.step)
+
+-- m steps of a rising stage
+unfoldable pub risen : Slope → ℕ → ℕ → ℕ
+risen s zero x = x
+risen s (suc m) x = risen s m (rise s x)
+
+-- the level m steps after the stage is entered at x
+unfoldable pub go : Slope → ℕ → ℕ → ℕ
+go s x zero = x
+go s x (suc m) = if nat_le s.target x then max s.target (x - suc m * s.step) else risen s (suc m) x
+
+abbrev pub sloping : Motion Slope ℕ
+sloping = record { target = λ s. s.target; is_there = λ s x. x == s.target; go = go }
+
+-- the level k steps after an envelope begins, while the key is down
+abbrev pub level_while_down : EnvelopeSettings → ℕ → ℕ
+level_while_down s k = after sloping (slope_at s 0 ∷ slope_at s 1 ∷ slope_at s 2 ∷ []) 0 k
+
+-- the level that the k-th step of an envelope answers, where the key is let go after `off` steps, or never
+unfoldable pub envelope_level : EnvelopeSettings → ℕ → Option ℕ → ℕ
+envelope_level s k None = level_while_down s k
+envelope_level s k (Some off) =
+    if nat_le k off then level_while_down s k
+    else after sloping (slope_at s 3 ∷ []) (level_while_down s off) (k - off)

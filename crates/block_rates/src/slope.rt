@@ -1,0 +1,79 @@
+ghost use Rattle.std.specs.Prelude.{◌≡◌, ◌≤◌};
+ghost use Rattle.block_rates.specs.Levels.{target_level, rate_step, scaled_rate, go};
+
+use dx_tables::constants::level;
+
+/// The highest level that an envelope reaches: level 99 and an output level of 4288.
+pub(crate) const HIGHEST: u32 = 266_338_304;
+
+/// The largest step of an envelope, at the scaled rate 63.
+pub(crate) const LARGEST_STEP: u32 = 58_720_256;
+
+/// The level that a rising stage begins at, if it is entered below.
+const LIFT: u32 = 1716 * 65536;
+
+/// Where a stage of an envelope leads, and by how much it moves.
+#[derive(Clone, Copy)]
+pub(crate) struct Slope {
+    pub(crate) target: u32,
+    pub(crate) step: u32,
+}
+
+impl Slope {
+    /// The slope for a stage's rate and level, the operator's output level and its rate scale.
+    pub(crate) fn new(rate: u8, parameter: u8, out: u32, rate_scale: u32) -> Slope
+        requires rate { rate ≤ 99 }
+        requires parameter { parameter ≤ 99 }
+        requires out { out ≤ 4288 }
+        requires rate_scale { rate_scale ≤ 27 }
+        ensures target { result.target ≡ target_level parameter out }
+        ensures step { result.step ≡ rate_step (scaled_rate rate rate_scale) }
+        ensures target_bound { result.target ≤ HIGHEST }
+        ensures step_bound { result.step ≤ LARGEST_STEP }
+    {
+        let scaled = (u32::from(rate) * 41 / 64 + rate_scale).min(63);
+        Slope {
+            target: target(parameter, out),
+            step: step(scaled),
+        }
+    }
+
+    /// The level one step on from `level`.
+    pub(crate) fn stepped(self, level: u32) -> u32
+        requires target { self.target ≤ HIGHEST }
+        requires step { self.step ≤ LARGEST_STEP }
+        requires level { level ≤ HIGHEST }
+        ensures value { result ≡ go self level 1 }
+        ensures bound { result ≤ HIGHEST }
+    {
+        if self.target <= level {
+            self.target.max(level.saturating_sub(self.step))
+        } else {
+            let from = level.max(LIFT);
+            self.target
+                .min(from + ((0x1100_0000 - from) >> 24) * self.step)
+        }
+    }
+}
+
+/// The level that a stage leads to.
+fn target(parameter: u8, out: u32) -> u32
+    requires parameter { parameter ≤ 99 }
+    requires out { out ≤ 4288 }
+    ensures value { result ≡ target_level parameter out }
+    ensures bound { result ≤ HIGHEST }
+{
+    65536
+        * (64 * u32::from(level(parameter) / 2) + out)
+            .saturating_sub(4256)
+            .max(16)
+}
+
+/// What a stage of this scaled rate moves by.
+fn step(scaled: u32) -> u32
+    requires { scaled ≤ 63 }
+    ensures value { result ≡ rate_step scaled }
+    ensures bound { result ≤ LARGEST_STEP }
+{
+    (4 + scaled % 4) << (8 + scaled / 4)
+}

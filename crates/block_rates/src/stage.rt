@@ -1,0 +1,25 @@
+ghost use Rattle.std.specs.Prelude.{◌≡◌};
+
+/// The stage that an envelope is in. The third waits for the key to be let go, the fourth has no end.
+#[derive(Clone, Copy)]
+pub(crate) enum Stage {
+    First,
+    Second,
+    Third,
+    Fourth,
+}
+
+impl Stage {
+    ghost use Rattle.block_rates.specs.Envelopes.{next_stage};
+
+    /// The stage to go on in from the target of this one.
+    pub(crate) fn next(self) -> Stage
+        ensures { result ≡ next_stage self }
+    {
+        match self {
+            Stage::First => Stage::Second,
+            Stage::Second | Stage::Third => Stage::Third,
+            Stage::Fourth => Stage::Fourth,
+        }
+    }
+}

@@ -1,0 +1,3 @@
+pub mod Notes
+pub mod Sums
+pub mod Slots
