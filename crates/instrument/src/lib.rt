@@ -10,3 +10,8 @@ mod slot;
 pub use command::{Command, Entry, LineText, Logged};
 pub use dx_tables::Engine;
 pub use instrument::Instrument;
+
+#[cfg(test)]
+mod plain;
+#[cfg(test)]
+mod tests;

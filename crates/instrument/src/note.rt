@@ -16,7 +16,7 @@ pub(crate) struct Note {
     phase: i32,
     step: i32,
     gain: i32,
-    envelope: Envelope,
+    pub(crate) envelope: Envelope,
     ghost gain_from_zero: { pos 0 ≤ℤ gain },
     ghost gain_small: { gain ≤ℤ pos (2 ^ 26) },
 }
