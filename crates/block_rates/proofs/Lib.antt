@@ -1,4 +1,5 @@
 pub mod StageRuns
 pub mod StageTurns
 pub mod LevelSteps
-pub mod EnvelopeSteps
+pub mod PitchSteps
+pub mod OscillatorSteps

@@ -1,8 +1,8 @@
 -- Levels of an operator's envelope, from its settings to the level of each block. 2 ^ 24 is one octave of gain. Levels and targets are not negative, so `max t (x - m * i)` is the same number whether `-` stops at 0 or not.
-use Rattle.std.specs.Prelude.{ℕ, zero, suc, ◌+◌, ◌-◌, ◌*◌, ◌/◌, ◌%◌, ◌^◌, min, max, nat_le, ◌==◌, if◌then◌else◌, List, [], ◌∷◌, Option, Some, None, slice_index}
+use Rattle.std.specs.Prelude.{ℕ, zero, suc, ◌+◌, ◌-◌, ◌*◌, ◌/◌, ◌%◌, ◌^◌, min, max, nat_le, ◌==◌, if◌then◌else◌, List, Option, slice_index}
 use Rattle.dx_tables.specs.Constants.{level}
 use Rattle.block_rates.specs.declared.slope.Slope.{Slope}
-use Rattle.block_rates.specs.Stages.{Motion, after}
+use Rattle.block_rates.specs.Stages.{Motion, four_stages}
 
 -- rates and levels of the four stages, 0 to 99, the operator's output level, and what its rate scaling adds to the rates
 pub record EnvelopeSettings : Type 0 where
@@ -44,16 +44,10 @@ unfoldable pub go : Slope → ℕ → ℕ → ℕ
 go s x zero = x
 go s x (suc m) = if nat_le s.target x then max s.target (x - suc m * s.step) else risen s (suc m) x
 
+-- how a stage moves a level
 abbrev pub sloping : Motion Slope ℕ
 sloping = record { target = λ s. s.target; is_there = λ s x. x == s.target; go = go }
 
--- the level k steps after an envelope begins, while the key is down
-abbrev pub level_while_down : EnvelopeSettings → ℕ → ℕ
-level_while_down s k = after sloping (slope_at s 0 ∷ slope_at s 1 ∷ slope_at s 2 ∷ []) 0 k
-
 -- the level that the k-th step of an envelope answers, where the key is let go after `off` steps, or never
 unfoldable pub envelope_level : EnvelopeSettings → ℕ → Option ℕ → ℕ
-envelope_level s k None = level_while_down s k
-envelope_level s k (Some off) =
-    if nat_le k off then level_while_down s k
-    else after sloping (slope_at s 3 ∷ []) (level_while_down s off) (k - off)
+envelope_level s k off = four_stages sloping 0 (slope_at s) k off

@@ -1,3 +1,9 @@
 pub mod Stages
+pub mod StageOrder
 pub mod Levels
 pub mod Envelopes
+pub mod Pitches
+pub mod PitchEnvelopes
+pub mod Waves
+pub mod Oscillators
+pub mod OscillatorStates

@@ -23,8 +23,9 @@ pub struct Envelope {
 impl Envelope {
     ghost use Rattle.std.specs.Prelude.{◌+◌};
     ghost use Rattle.block_rates.specs.Stages.{released_after};
+    ghost use Rattle.block_rates.specs.StageOrder.{at_stage};
     ghost use Rattle.block_rates.specs.Levels.{EnvelopeSettings, envelope_level};
-    ghost use Rattle.block_rates.specs.Envelopes.{IsEnvelope, at_stage};
+    ghost use Rattle.block_rates.specs.Envelopes.{IsEnvelope};
 
     /// An envelope at its begin, for rates and levels of 0 to 99, an output level of 0 to 4288 and a rate scale of 0 to 27.
     pub fn new(rates: [u8; 4], levels: [u8; 4], out: i32, rate_scale: i32) -> Envelope

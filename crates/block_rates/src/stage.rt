@@ -10,7 +10,7 @@ pub(crate) enum Stage {
 }
 
 impl Stage {
-    ghost use Rattle.block_rates.specs.Envelopes.{next_stage};
+    ghost use Rattle.block_rates.specs.StageOrder.{next_stage};
 
     /// The stage to go on in from the target of this one.
     pub(crate) fn next(self) -> Stage

@@ -71,7 +71,7 @@ impl Tables {
         requires high { x <ℤ pos (7 * 2 ^ 24) }
         ensures value { result ≡ exponential x }
         ensures low { pos 0 ≤ℤ result }
-        ensures gain { x ≤ℤ pos (266338304 - 14 * 2 ^ 24) → result ≤ℤ pos (2 ^ 26) }
+        ensures gain { x <ℤ pos (2 * 2 ^ 24) → result ≤ℤ pos (2 ^ 26) }
     {
         let bits = x.cast_unsigned();
         let i = (bits >> 14) as usize % 1024;

@@ -7,7 +7,7 @@ use Rattle.dx_tables.specs.Numbers.{wrap}
 use Rattle.dx_tables.specs.Powers.{exponential, frequency}
 use Rattle.block_rates.specs.declared.envelope.Envelope.{Envelope}
 use Rattle.block_rates.specs.Levels.{EnvelopeSettings, envelope_level}
-use Rattle.block_rates.specs.Stages.{released_after}
+use Rattle.block_rates.specs.Stages.{released_after, four_stages}
 use Rattle.block_rates.specs.Envelopes.{IsEnvelope}
 use Rattle.operator_kernel.specs.declared.OpBlock.{OpBlock}
 use Rattle.instrument.specs.Note.{NoteData, operator_in, begun, let_go, later, envelope_settings, pitch_of_key, step_in, steps_before, gain_after, gain_before}
@@ -15,7 +15,7 @@ use Rattle.instrument.specs.Running.{IsRunning}
 
 -- a release leaves the levels up to it as they are
 pub level_at_release : (s : EnvelopeSettings) (k : ℕ) (off : Option ℕ) → envelope_level s k (released_after k off) ≡ envelope_level s k off
-unfolding envelope_level
+unfolding envelope_level four_stages
 level_at_release s k None = let e : leb k k ≡ true = le-leb k k (omega arith) in rw e
 level_at_release s k (Some off) = refl
 

@@ -1,0 +1,41 @@
+-- Levels of the pitch envelope, from its settings to the level of each block. 2 ^ 24 is one octave.
+use Rattle.std.specs.Prelude.{ℕ, ◌*◌, ◌^◌, if◌then◌else◌, List, Option, slice_index, ℤ, pos, ◌+ℤ◌, ◌-ℤ◌, ◌*ℤ◌, int_le}
+use Rattle.std.specs.Ordering.{int_eq}
+use Rattle.std.specs.Int.{int_max, int_min}
+use Rattle.dx_tables.specs.Constants.{pitch_rate, pitch_level}
+use Rattle.block_rates.specs.declared.glide.Glide.{Glide}
+use Rattle.block_rates.specs.Stages.{Motion, four_stages}
+
+-- rates and levels of the four stages, 0 to 99
+pub record PitchEnvelopeSettings : Type 0 where
+  pub rates : List ℕ
+  pub levels : List ℕ
+
+-- the pitch of a level parameter
+unfoldable pub pitch_of : ℕ → ℤ
+pitch_of parameter = pitch_level parameter *ℤ pos (2 ^ 19)
+
+-- what a stage moves by, for its rate parameter
+unfoldable pub pitch_step : ℕ → ℕ
+pitch_step rate = pitch_rate rate * 1143
+
+-- the stage of this number, from 0 to 3
+abbrev pub glide_at : PitchEnvelopeSettings → ℕ → Glide
+glide_at s i = record {
+  target = pitch_of (slice_index s.levels i);
+  step = pitch_step (slice_index s.rates i);
+}
+
+-- the pitch m steps after the stage is entered at x: nearer to the target by m of its steps, and not past it
+unfoldable pub glided : Glide → ℤ → ℕ → ℤ
+glided g x m =
+    if int_le g.target x then int_max g.target (x -ℤ pos (m * g.step))
+    else int_min g.target (x +ℤ pos (m * g.step))
+
+-- how a stage moves a pitch
+abbrev pub gliding : Motion Glide ℤ
+gliding = record { target = λ g. g.target; is_there = λ g x. int_eq x g.target; go = glided }
+
+-- the level that the k-th step of a pitch envelope answers, where the key is let go after `off` steps, or never: it begins at the last level
+unfoldable pub pitch_envelope_level : PitchEnvelopeSettings → ℕ → Option ℕ → ℤ
+pitch_envelope_level s k off = four_stages gliding (pitch_of (slice_index s.levels 3)) (glide_at s) k off

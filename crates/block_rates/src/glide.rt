@@ -1,0 +1,67 @@
+ghost use Rattle.std.specs.Prelude.{◌≡◌, ◌≤◌, pos, neg_ℤ, ◌≤ℤ◌};
+ghost use Rattle.block_rates.specs.Pitches.{pitch_of, pitch_step, glided};
+
+use dx_tables::constants::{pitch_level, pitch_rate};
+
+/// Where a stage of a pitch envelope leads, and by how much it moves.
+#[derive(Clone, Copy)]
+pub(crate) struct Glide {
+    pub(crate) target: i32,
+    pub(crate) step: u32,
+}
+
+impl Glide {
+    /// The glide for a stage's rate and level.
+    pub(crate) fn new(rate: u8, parameter: u8) -> Glide
+        requires rate { rate ≤ 99 }
+        requires parameter { parameter ≤ 99 }
+        ensures target { result.target ≡ pitch_of parameter }
+        ensures step { result.step ≡ pitch_step rate }
+        ensures low { neg_ℤ (pos 67108864) ≤ℤ result.target }
+        ensures high { result.target ≤ℤ pos 67108864 }
+        ensures step_bound { result.step ≤ 291465 }
+    {
+        Glide {
+            target: pitch(parameter),
+            step: step(rate),
+        }
+    }
+
+    /// The pitch one step on from `level`.
+    pub(crate) fn stepped(self, level: i32) -> i32
+        requires target_low { neg_ℤ (pos 67108864) ≤ℤ self.target }
+        requires target_high { self.target ≤ℤ pos 67108864 }
+        requires step { self.step ≤ 291465 }
+        requires level_low { neg_ℤ (pos 67108864) ≤ℤ level }
+        requires level_high { level ≤ℤ pos 67108864 }
+        ensures value { result ≡ glided self level 1 }
+        ensures low { neg_ℤ (pos 67108864) ≤ℤ result }
+        ensures high { result ≤ℤ pos 67108864 }
+    {
+        let step = self.step as i32;
+        if self.target <= level {
+            self.target.max(level - step)
+        } else {
+            self.target.min(level + step)
+        }
+    }
+}
+
+/// The pitch of a level parameter, where 2^24 is one octave.
+pub(crate) fn pitch(parameter: u8) -> i32
+    requires { parameter ≤ 99 }
+    ensures value { result ≡ pitch_of parameter }
+    ensures low { neg_ℤ (pos 67108864) ≤ℤ result }
+    ensures high { result ≤ℤ pos 67108864 }
+{
+    i32::from(pitch_level(parameter)) * 524_288
+}
+
+/// What a stage moves by, for its rate parameter.
+fn step(rate: u8) -> u32
+    requires { rate ≤ 99 }
+    ensures value { result ≡ pitch_step rate }
+    ensures bound { result ≤ 291465 }
+{
+    u32::from(pitch_rate(rate)) * 1143
+}

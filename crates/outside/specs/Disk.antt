@@ -1,0 +1,26 @@
+-- The counts of faults of the shelf on disk and of the standard output.
+use Rattle.std.specs.Prelude.{ℕ, List, Option, None}
+use Rattle.outside.specs.declared.disk.DiskShelf.{DiskShelf}
+use Rattle.outside.specs.declared.disk.StdOut.{StdOut}
+use Rattle.outside.specs.Files.{Files}
+
+-- files on disk are not told
+abbrev pub disk_files : {R : Type 0} → DiskShelf R → Option Files
+disk_files shelf = None
+
+abbrev pub disk_reading : {R : Type 0} → DiskShelf R → ℕ
+disk_reading shelf = shelf.reading
+
+abbrev pub disk_writing : {R : Type 0} → DiskShelf R → ℕ
+disk_writing shelf = shelf.writing
+
+-- its reads are not counted
+abbrev pub disk_reads : {R : Type 0} → DiskShelf R → ℕ
+disk_reads shelf = 0
+
+-- what was put on the standard output is not told
+abbrev pub output_bytes : {R : Type 0} → StdOut R → Option (List ℕ)
+output_bytes out = None
+
+abbrev pub output_faults : {R : Type 0} → StdOut R → ℕ
+output_faults out = out.faults

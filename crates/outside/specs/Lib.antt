@@ -1,0 +1,6 @@
+pub mod Files
+pub mod Faults
+pub mod Calls
+pub mod Memory
+pub mod Sure
+pub mod Disk

@@ -1,0 +1,16 @@
+-- What a shelf serves that never fails.
+use Rattle.std.specs.Prelude.{ℕ, Option, None}
+use Rattle.outside.specs.declared.sure.SureShelf.{SureShelf}
+use Rattle.outside.specs.Files.{Files}
+use Rattle.outside.specs.Memory.{files_in}
+
+-- the files that it serves reads from
+abbrev pub served : SureShelf → Files
+served shelf = files_in shelf.files.entries
+
+-- it tells no files, and counts no faults
+abbrev pub sure_files : SureShelf → Option Files
+sure_files shelf = None
+
+abbrev pub sure_faults : SureShelf → ℕ
+sure_faults shelf = 0

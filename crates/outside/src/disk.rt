@@ -1,0 +1,169 @@
+ghost use Rattle.std.specs.Prelude.{◌≡◌, ◌≤◌, ◌<◌, ◌+◌, length, take, drop, IfOk, OnOk, OnErr, IfSome, IsSomeAnd, IsErr, option_map};
+ghost use Rattle.std.specs.FinMap.{get};
+ghost use Rattle.outside.specs.Files.{Lacks, ReadsFrom, appended, created, said};
+ghost use Rattle.outside.specs.Faults.{HasCause, one_more};
+ghost use Rattle.outside.specs.Disk.{disk_files, disk_reading, disk_reads, disk_writing, output_bytes, output_faults};
+
+use crate::{Failed, Out, Shelf};
+use std::fs::{File, OpenOptions};
+use std::io;
+use std::io::{Read, Seek, SeekFrom, Write};
+use std::rt::Files;
+
+/// The files of the system. It tells no content.
+#[derive(Drop)]
+pub struct DiskShelf<'a, R> {
+    rt: &'a R,
+    reading: u64,
+    writing: u64,
+}
+
+impl<'a, R: Files> DiskShelf<'a, R> {
+    /// The files of this system, with no fault counted yet.
+    pub fn new(rt: &'a R) -> DiskShelf<'a, R>
+        ensures reading { disk_reading result ≡ 0 }
+        ensures writing { disk_writing result ≡ 0 }
+    {
+        DiskShelf {
+            rt,
+            reading: 0,
+            writing: 0,
+        }
+    }
+}
+
+impl<R: Files> Shelf for DiskShelf<'_, R> {
+    ghost files = { disk_files };
+
+    ghost reading = { disk_reading };
+
+    ghost writing = { disk_writing };
+
+    ghost reads = { disk_reads };
+
+    fn read_at(&mut self, name: &str, at: u64, into: &mut [u8]) -> Result<usize, Failed>
+        ensures count { IfOk result (λ count. count ≤ length into.old) }
+        ensures rest { IfOk result (λ count. drop count into.new ≡ drop count into.old) }
+        ensures bytes { IfOk result (λ count. IfSome (disk_files self.old) (λ told.
+            IsSomeAnd (get told name.now) (λ file. ReadsFrom file at count into.new))) }
+        ensures files { disk_files self.new ≡ disk_files self.old }
+        ensures lacks { Lacks (disk_files self.old) name.now → IsErr result }
+        ensures cause { HasCause (disk_reading self.old) (disk_reading self.new) (disk_writing self.old) (disk_writing self.new)
+            (Lacks (disk_files self.old) name.now) result }
+        ensures reads { disk_reads self.new ≤ disk_reads self.old + 1 }
+
+        // The count of reading faults rises by one exactly where the call fails.
+        ensures by_one { OnErr result (disk_reading self.new ≡ one_more (disk_reading self.old)) }
+    {
+        match read_file(self.rt, name, at, into) {
+            Ok(count) => Ok(count),
+            Err(_) => {
+                self.reading = self.reading.saturating_add(1);
+                Err(Failed)
+            }
+        }
+    }
+
+    fn create(&mut self, name: &str) -> Result<(), Failed>
+        ensures made { OnOk result (disk_files self.new ≡ option_map (created name.now) (disk_files self.old)) }
+        ensures failed { OnErr result (disk_files self.new ≡ disk_files self.old) }
+        ensures cause { HasCause (disk_writing self.old) (disk_writing self.new) (disk_reading self.old) (disk_reading self.new) ⊥ result }
+        ensures reads { disk_reads self.new ≡ disk_reads self.old }
+
+        // The count of writing faults rises by one exactly where the call fails.
+        ensures by_one { OnErr result (disk_writing self.new ≡ one_more (disk_writing self.old)) }
+    {
+        match File::create(self.rt, name) {
+            Ok(_) => Ok(()),
+            Err(_) => {
+                self.writing = self.writing.saturating_add(1);
+                Err(Failed)
+            }
+        }
+    }
+
+    fn append(&mut self, name: &str, bytes: &[u8]) -> Result<usize, Failed>
+        ensures count { IfOk result (λ count. count ≤ length bytes.now) }
+        ensures some { IfOk result (λ count. 0 < length bytes.now → 0 < count) }
+        ensures taken { IfOk result (λ count.
+            disk_files self.new ≡ option_map (appended name.now (take count bytes.now)) (disk_files self.old)) }
+        ensures failed { OnErr result (disk_files self.new ≡ disk_files self.old) }
+        ensures lacks { Lacks (disk_files self.old) name.now → IsErr result }
+        ensures cause { HasCause (disk_writing self.old) (disk_writing self.new) (disk_reading self.old) (disk_reading self.new)
+            (Lacks (disk_files self.old) name.now) result }
+        ensures reads { disk_reads self.new ≡ disk_reads self.old }
+
+        // The count of writing faults rises by one exactly where the call fails.
+        ensures by_one { OnErr result (disk_writing self.new ≡ one_more (disk_writing self.old)) }
+    {
+        match append_file(self.rt, name, bytes) {
+            Ok(count) if count > 0 || bytes.is_empty() => Ok(count),
+            _ => {
+                self.writing = self.writing.saturating_add(1);
+                Err(Failed)
+            }
+        }
+    }
+}
+
+fn read_file<R: Files>(rt: &R, name: &str, at: u64, into: &mut [u8]) -> io::Result<usize>
+    ensures count { IfOk result (λ count. count ≤ length into.old) }
+    ensures rest { IfOk result (λ count. drop count into.new ≡ drop count into.old) }
+{
+    let mut file = File::open(rt, name)?;
+    file.seek(SeekFrom::Start(at))?;
+    let mut chunk = [0u8; 4096];
+    let room = into.len().min(4096);
+    let count = file.read(&mut chunk[..room])?;
+    into[..count].copy_from_slice(&chunk[..count]);
+    Ok(count)
+}
+
+fn append_file<R: Files>(rt: &R, name: &str, bytes: &[u8]) -> io::Result<usize>
+    ensures count { IfOk result (λ count. count ≤ length bytes.now) }
+{
+    let mut file = OpenOptions::new().append(true).open(rt, name)?;
+    file.write(bytes)
+}
+
+/// The standard output. It tells no content.
+#[derive(Drop)]
+pub struct StdOut<'a, R> {
+    rt: &'a R,
+    faults: u64,
+}
+
+impl<'a, R: Print> StdOut<'a, R> {
+    /// The standard output, with no fault counted yet.
+    pub fn new(rt: &'a R) -> StdOut<'a, R>
+        ensures { output_faults result ≡ 0 }
+    {
+        StdOut { rt, faults: 0 }
+    }
+}
+
+impl<R: Print> Out for StdOut<'_, R> {
+    ghost written = { output_bytes };
+
+    ghost faults = { output_faults };
+
+    fn put(&mut self, bytes: &[u8]) -> Result<usize, Failed>
+        ensures count { IfOk result (λ count. count ≤ length bytes.now) }
+        ensures some { IfOk result (λ count. 0 < length bytes.now → 0 < count) }
+        ensures taken { IfOk result (λ count.
+            output_bytes self.new ≡ option_map (said (take count bytes.now)) (output_bytes self.old)) }
+        ensures failed { OnErr result (output_bytes self.new ≡ output_bytes self.old) }
+        ensures cause { HasCause (output_faults self.old) (output_faults self.new) 0 0 ⊥ result }
+
+        // The count of faults rises by one exactly where the call fails.
+        ensures by_one { OnErr result (output_faults self.new ≡ one_more (output_faults self.old)) }
+    {
+        match io::writer(self.rt).write(bytes) {
+            Ok(count) if count > 0 || bytes.is_empty() => Ok(count),
+            _ => {
+                self.faults = self.faults.saturating_add(1);
+                Err(Failed)
+            }
+        }
+    }
+}

@@ -1,0 +1,22 @@
+//! What a program meets outside: a shelf of files by name, and an output. Each counts its faults.
+#![tactic(auto)]
+
+mod copy;
+mod disk;
+mod failures;
+mod memory;
+mod output;
+mod shelf;
+mod store;
+mod sure;
+mod whole;
+
+pub use disk::{DiskShelf, StdOut};
+pub use memory::MemShelf;
+pub use output::MemOut;
+pub use shelf::{Failed, Out, Shelf};
+pub use sure::SureShelf;
+pub use whole::{ReadFault, append_all, put_all, read_all};
+
+#[cfg(test)]
+mod tests;

@@ -1,0 +1,103 @@
+ghost use Rattle.std.specs.Prelude.{◌≡◌, ◌≤◌, ◌<◌, ◌+◌, None, length, take, drop, IfOk, OnOk, OnErr, IfSome, IsSomeAnd, IsOk, IsErr, option_map};
+ghost use Rattle.std.specs.FinMap.{empty, get, insert};
+ghost use Rattle.outside.specs.Files.{Lacks, ReadsFrom, appended, content, created};
+ghost use Rattle.outside.specs.Faults.{HasCause};
+ghost use Rattle.outside.specs.Sure.{served, sure_faults, sure_files};
+
+use crate::copy::copy_from;
+use crate::store::{Store, find, put};
+use crate::{Failed, Shelf};
+use std::alloc::{AllocError, Global};
+use std::collections::BTreeMap;
+
+/// Serves reads from memory, an unknown name as empty, and swallows what is written. It tells no files and never fails.
+#[derive(Drop)]
+pub struct SureShelf {
+    files: Store,
+}
+
+impl SureShelf {
+    /// A shelf that serves each name as empty. It allocates nothing.
+    pub fn new(alloc: Global) -> SureShelf
+        ensures served { served result ≡ empty }
+        ensures untold { sure_files result ≡ None }
+        ensures reading { sure_faults result ≡ 0 }
+        ensures writing { sure_faults result ≡ 0 }
+    {
+        SureShelf {
+            files: BTreeMap::new(alloc),
+        }
+    }
+
+    /// Serves these bytes under this name from now on.
+    pub fn put_file(&mut self, alloc: Global, name: &str, bytes: &[u8]) -> Result<(), AllocError>
+        ensures ok { OnOk result (served self.new ≡ insert (served self.old) name.now bytes.now) }
+        ensures err { OnErr result (served self.new ≡ served self.old) }
+    {
+        put(&mut self.files, alloc, name, bytes.to_vec(alloc)?)
+    }
+}
+
+impl Shelf for SureShelf {
+    ghost files = { sure_files };
+
+    ghost reading = { sure_faults };
+
+    ghost writing = { sure_faults };
+
+    ghost reads = { sure_faults };
+
+    fn read_at(&mut self, name: &str, at: u64, into: &mut [u8]) -> Result<usize, Failed>
+        ensures count { IfOk result (λ count. count ≤ length into.old) }
+        ensures rest { IfOk result (λ count. drop count into.new ≡ drop count into.old) }
+        ensures bytes { IfOk result (λ count. IfSome (sure_files self.old) (λ told.
+            IsSomeAnd (get told name.now) (λ file. ReadsFrom file at count into.new))) }
+        ensures files { sure_files self.new ≡ sure_files self.old }
+        ensures lacks { Lacks (sure_files self.old) name.now → IsErr result }
+        ensures cause { HasCause (sure_faults self.old) (sure_faults self.new) (sure_faults self.old) (sure_faults self.new)
+            (Lacks (sure_files self.old) name.now) result }
+        ensures reads { sure_faults self.new ≤ sure_faults self.old + 1 }
+
+        // It never fails, and reads what it serves, an unknown name as empty.
+        ensures sure { IsOk result }
+        ensures serves { IfOk result (λ count. ReadsFrom (content (served self.old) name.now) at count into.new) }
+        ensures same { served self.new ≡ served self.old }
+    {
+        match find(&self.files, name) {
+            Some(bytes) => Ok(copy_from(bytes, at, into)),
+            None => Ok(copy_from(b"", at, into)),
+        }
+    }
+
+    fn create(&mut self, _name: &str) -> Result<(), Failed>
+        ensures made { OnOk result (sure_files self.new ≡ option_map (created _name.now) (sure_files self.old)) }
+        ensures failed { OnErr result (sure_files self.new ≡ sure_files self.old) }
+        ensures cause { HasCause (sure_faults self.old) (sure_faults self.new) (sure_faults self.old) (sure_faults self.new) ⊥ result }
+        ensures reads { sure_faults self.new ≡ sure_faults self.old }
+
+        // It never fails, and serves as before.
+        ensures sure { IsOk result }
+        ensures same { served self.new ≡ served self.old }
+    {
+        Ok(())
+    }
+
+    fn append(&mut self, _name: &str, bytes: &[u8]) -> Result<usize, Failed>
+        ensures count { IfOk result (λ count. count ≤ length bytes.now) }
+        ensures some { IfOk result (λ count. 0 < length bytes.now → 0 < count) }
+        ensures taken { IfOk result (λ count.
+            sure_files self.new ≡ option_map (appended _name.now (take count bytes.now)) (sure_files self.old)) }
+        ensures failed { OnErr result (sure_files self.new ≡ sure_files self.old) }
+        ensures lacks { Lacks (sure_files self.old) _name.now → IsErr result }
+        ensures cause { HasCause (sure_faults self.old) (sure_faults self.new) (sure_faults self.old) (sure_faults self.new)
+            (Lacks (sure_files self.old) _name.now) result }
+        ensures reads { sure_faults self.new ≡ sure_faults self.old }
+
+        // It never fails, swallows all, and serves as before.
+        ensures sure { IsOk result }
+        ensures whole { IfOk result (λ count. count ≡ length bytes.now) }
+        ensures same { served self.new ≡ served self.old }
+    {
+        Ok(bytes.len())
+    }
+}

@@ -1,0 +1,103 @@
+-- What a text without a fault is like, place by place, and the other way round.
+use Rattle.std.proofs.Common.{◌≡◌, ◌≢◌, ℕ, suc, ◌+◌, ◌-◌, ◌*◌, ◌/◌, ◌%◌, ◌<◌, ◌≤◌, Bool, true, false, not, ◌&&◌, ◌||◌, nat_le, nat_lt, ◌==◌, if◌then◌else◌, List, [], ◌∷◌, ◌++◌, length, get_or, take, drop, ap, sym, ◌∙◌, arith, refl, subst, inl, inr, ◌⊎◌, Some, None}
+use Rattle.std.specs.declared.option.Option.{Option}
+use Rattle.std.specs.Option.{option_or, option_map}
+use Rattle.std.specs.List.{sum, slice_range, position, position_or_len}
+use Rattle.std.proofs.lemmas.Bool.{leb-true, leb-false, ltb-true, ltb-false, eqb-true, eqb-false, eq-eqb, ne_eqb, le-leb, lt-leb, lt-ltb, le-ltb, cases_eq, cases_lt, and_parts, or_parts, and_cases, cases_Bool, not-true, not-false}
+use Rattle.std.proofs.lemmas.Bool.Decides.{nat_tests}
+use Rattle.std.proofs.lemmas.List.{take_more, take_all, length-take, length-drop, get_or-drop, get_or-take}
+use Rattle.std.proofs.lemmas.List.Edits.{length-between, get_or-between}
+use Rattle.std.proofs.lemmas.List.Sums.{fails_before_first, position_or_len_is}
+use Rattle.voice_record.specs.Voice.{greatest_value}
+use Rattle.sysex_frame.specs.Checksum.{IsChecksum, checksum_of}
+use Rattle.sysex_frame.specs.Frame.{IsData}
+use Rattle.sysex_frame.specs.FrameFault.{last, substatus, device, format, group, number, payload, check, where_true, not_framed, not_yamaha, data_byte, too_short, unknown_substatus, unknown_format, has_count, wrong_count, wanted_length, has_length, wrong_length, wrong_checksum, high_value, first_fault, early_fault, later_fault}
+use Rattle.sysex_frame.specs.declared.frame.FrameFault.{FrameFault}
+use Rattle.sysex_frame.specs.declared.frame.FrameFault.TheVariants.{DataByte}
+
+-- ---- options and rows
+pub none_parts : {A : Type 0} (a b : Option A) → option_or a b ≡ None → (a ≡ None) × (b ≡ None)
+none_parts None b h = (refl, h)
+none_parts (Some x) b h = absurd (cc)
+
+pub option_or_assoc : {A : Type 0} (a b c : Option A) → option_or (option_or a b) c ≡ option_or a (option_or b c)
+option_or_assoc None b c = refl
+option_or_assoc (Some x) b c = refl
+
+pub row_free : (b : Bool) (f : FrameFault) → where_true b f ≡ None → b ≡ false
+row_free true f h = absurd (cc)
+row_free false f h = refl
+
+pub row_none : (b : Bool) (f : FrameFault) → b ≡ false → where_true b f ≡ None
+row_none b f h = rw h
+
+-- the first four rows and the others are the whole table
+pub by_parts : (text : List ℕ) → first_fault text ≡ option_or (early_fault text) (later_fault text)
+unfolding first_fault
+by_parts text =
+    elim (not_framed text) as (λ a. option_or a (option_or (not_yamaha text) (option_or (data_byte text) (option_or (too_short text) (later_fault text))))
+        ≡ option_or (option_or a (option_or (not_yamaha text) (option_or (data_byte text) (option_or (too_short text) None)))) (later_fault text)) [
+      | None ↦ elim (not_yamaha text) as (λ a. option_or a (option_or (data_byte text) (option_or (too_short text) (later_fault text)))
+            ≡ option_or (option_or a (option_or (data_byte text) (option_or (too_short text) None))) (later_fault text)) [
+          | None ↦ elim (data_byte text) as (λ a. option_or a (option_or (too_short text) (later_fault text)) ≡ option_or (option_or a (option_or (too_short text) None)) (later_fault text)) [
+              | None ↦ elim (too_short text) as (λ a. option_or a (later_fault text) ≡ option_or (option_or a None) (later_fault text)) [ None ↦ refl | Some x ↦ refl ]
+              | Some x ↦ refl
+            ]
+          | Some x ↦ refl
+        ]
+      | Some x ↦ refl
+    ]
+
+-- ---- the ends and the data bytes
+pub record IsPlain (text : List ℕ) : Type 0 where
+  pub long : 5 ≤ length text
+  pub first : get_or text 0 0 ≡ 0xF0
+  pub maker : get_or text 1 0 ≡ 0x43
+  pub bytes : (k : ℕ) → 2 ≤ k → k + 1 < length text → get_or text k 0 < 128
+  pub ended : get_or text (length text - 1) 0 ≡ 0xF7
+
+no_position : (xs : List ℕ) → option_map (λ k. DataByte (k + 2)) (position (λ b. nat_le 128 b) xs) ≡ None → (k : ℕ) → k < length xs → get_or xs k 0 < 128
+no_position xs h k l =
+    elim (cases_lt (position_or_len (λ b. nat_le 128 b) xs) (length xs)) [
+      | inl a ↦ absurd (let e = lt-ltb _ _ a in let g = rw e at h in cc)
+      | inr b ↦ leb-false _ _ (fails_before_first (λ b. nat_le 128 b) xs k 0 (omega arith))
+    ]
+
+position_none : (xs : List ℕ) → ((k : ℕ) → k < length xs → get_or xs k 0 < 128) → option_map (λ k. DataByte (k + 2)) (position (λ b. nat_le 128 b) xs) ≡ None
+position_none xs h =
+    let e : position_or_len (λ b. nat_le 128 b) xs ≡ length xs =
+      position_or_len_is (λ b. nat_le 128 b) xs (length xs) 0 (omega arith) (λ k l. lt-leb _ _ (h k l)) (λ l. absurd (omega (arith, l))) in
+    rw e (rw (le-ltb (length xs) (length xs) (omega arith)))
+
+pub plain_from_none : (text : List ℕ) → early_fault text ≡ None → IsPlain text
+plain_from_none text h =
+    let one = none_parts (not_framed text) _ h in
+    let two = none_parts (not_yamaha text) _ one.1 in
+    let three = none_parts (data_byte text) _ two.1 in
+    let four = none_parts (too_short text) None three.1 in
+    let long : 5 ≤ length text = ltb-false _ _ (row_free _ _ four.0) in
+    let ends = or_parts _ _ (row_free _ _ one.0) in
+    let both = or_parts _ _ ends.1 in
+    record {
+      long = long;
+      first = eqb-true _ _ (not-false _ both.0);
+      maker = eqb-true _ _ (not-false _ (row_free _ _ two.0));
+      bytes = λ k two_on below.
+          let size : length (slice_range text 2 (length text - 1)) ≡ length text - 1 - 2 = length-between text 2 (length text - 1) (omega arith) in
+          let there : get_or (slice_range text 2 (length text - 1)) (k - 2) 0 ≡ get_or text (2 + (k - 2)) 0 = get_or-between text 2 (length text - 1) (k - 2) 0 (omega arith) in
+          let same : 2 + (k - 2) ≡ k = omega arith in
+          let small = no_position (slice_range text 2 (length text - 1)) three.0 (k - 2) (omega arith) in
+          subst (λ j. get_or text j 0 < 128) same (rw there at small);
+      ended = eqb-true _ _ (not-false _ both.1);
+    }
+
+pub none_from_plain : (text : List ℕ) → IsPlain text → early_fault text ≡ None
+none_from_plain text p =
+    let framed : not_framed text ≡ None =
+      row_none _ _ (rw (le-ltb _ _ (let l = p.long in let m : 2 ≤ length text = omega arith in m), eq-eqb _ _ p.first, eq-eqb _ _ p.ended)) in
+    let made : not_yamaha text ≡ None = row_none _ _ (rw (eq-eqb _ _ p.maker)) in
+    let size : length (slice_range text 2 (length text - 1)) ≡ length text - 1 - 2 = length-between text 2 (length text - 1) (omega arith) in
+    let clean : data_byte text ≡ None =
+      position_none (slice_range text 2 (length text - 1)) (λ k l. rw (get_or-between text 2 (length text - 1) k 0 (omega arith)) (p.bytes (2 + k) (omega arith) (omega arith))) in
+    let long : too_short text ≡ None = row_none _ _ (le-ltb _ _ p.long) in
+    rw (framed, made, clean, long)

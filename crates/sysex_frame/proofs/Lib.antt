@@ -1,0 +1,7 @@
+pub mod Payloads
+pub mod Facts
+pub mod Tests
+pub mod Shapes
+pub mod Dumps
+pub mod Changes
+pub mod Laws

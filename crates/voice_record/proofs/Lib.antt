@@ -1,0 +1,4 @@
+pub mod Every
+pub mod Voices
+pub mod Rows
+pub mod Packed

@@ -1,0 +1,2 @@
+pub mod Voice
+pub mod Packing

@@ -1,0 +1,13 @@
+//! Voices of the DX7: the 155 numbers of a voice, the greatest value of each, and the packed form of
+//! 128 bytes that a bank of 32 voices has.
+#![tactic(auto)]
+
+mod limits;
+mod packing;
+mod voice;
+
+pub use limits::{COMMON, OPERATOR_FIELDS, greatest};
+pub use voice::{ValueHigh, Voice};
+
+#[cfg(test)]
+mod tests;
