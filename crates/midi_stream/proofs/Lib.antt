@@ -1,0 +1,6 @@
+pub mod Cuts
+pub mod Ends
+pub mod Groups
+pub mod Steps
+pub mod Rests
+pub mod Answered

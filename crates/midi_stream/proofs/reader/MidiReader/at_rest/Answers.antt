@@ -1,0 +1,10 @@
+use Rattle.std.proofs.Common.{◌∙◌}
+use Rattle.midi_stream.specs.Segments.{clean, segments}
+use Rattle.midi_stream.specs.Messages.{is_unfinished}
+use Rattle.midi_stream.specs.Reading.{Reads}
+use Rattle.midi_stream.proofs.Rests.{rests_is}
+use Rattle.midi_stream.proofs.reader.MidiReader.at_rest.Goals as goal
+
+pub returns : goal.returns
+unfolding Reads is_unfinished
+returns c stream h = c.is_at_rest.ensures ∙ rests_is c.args.self.now.place c.args.self.now.kept.items (segments (clean stream)) h

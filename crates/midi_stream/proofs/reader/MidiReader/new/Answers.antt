@@ -1,0 +1,7 @@
+use Rattle.std.proofs.Common.{inl, refl}
+use Rattle.midi_stream.specs.Reading.{Reads}
+use Rattle.midi_stream.proofs.reader.MidiReader.new.Goals as goal
+
+pub returns : goal.returns
+unfolding Reads
+returns c = record { closed = inl refl; text = tt }

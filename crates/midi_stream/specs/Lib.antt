@@ -1,0 +1,6 @@
+pub mod Segments
+pub mod Messages
+pub mod Place
+pub mod Ranges
+pub mod Standing
+pub mod Reading
