@@ -1,5 +1,5 @@
 -- Levels of an operator's envelope, from its settings to the level of each block. 2 ^ 24 is one octave of gain. Levels and targets are not negative, so `max t (x - m * i)` is the same number whether `-` stops at 0 or not.
-use Rattle.std.specs.Prelude.{ℕ, zero, suc, ◌+◌, ◌-◌, ◌*◌, ◌/◌, ◌%◌, ◌^◌, min, max, nat_le, ◌==◌, if◌then◌else◌, List, Option, slice_index}
+use Rattle.std.specs.Prelude.{◌≤◌, ℕ, zero, suc, ◌+◌, ◌-◌, ◌*◌, ◌/◌, ◌%◌, ◌^◌, min, max, nat_le, ◌==◌, if◌then◌else◌, List, Option, slice_index}
 use Rattle.dx_tables.specs.Constants.{level}
 use Rattle.block_rates.specs.declared.slope.Slope.{Slope}
 use Rattle.block_rates.specs.Stages.{Motion, four_stages}
@@ -29,6 +29,10 @@ slope_at s i = record {
   target = target_level (slice_index s.levels i) s.out;
   step = rate_step (scaled_rate (slice_index s.rates i) s.rate_scale);
 }
+
+-- what every slope of an envelope is: its target is at most that of level 99 and output level 4288, its step at most that of the scaled rate 63
+abbrev pub IsSlope : Slope → Type 0
+IsSlope s = (s.target ≤ 266338304) × (s.step ≤ 58720256)
 
 -- one step of a rising stage: the level is lifted, and rises by less the higher it is
 abbrev pub rise : Slope → ℕ → ℕ

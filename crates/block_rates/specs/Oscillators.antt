@@ -31,10 +31,11 @@ unfoldable pub times : {X : Type 0} → ℕ → (X → X) → X → X
 times zero f x = x
 times (suc n) f x = f (times n f x)
 
--- how fast a speed is, and by what that is taken
+-- the rate of a speed
 abbrev pub speed_rate : ℕ → ℕ
 speed_rate speed = if speed == 0 then 1 else 165 * speed / 64
 
+-- what a rate is multiplied by: high rates count for more
 abbrev pub rate_factor : ℕ → ℕ
 rate_factor rate = if nat_lt rate 160 then 11 else 11 + (rate - 160) / 16
 

@@ -1,5 +1,5 @@
 -- Levels of the pitch envelope, from its settings to the level of each block. 2 ^ 24 is one octave.
-use Rattle.std.specs.Prelude.{ℕ, ◌*◌, ◌^◌, if◌then◌else◌, List, Option, slice_index, ℤ, pos, ◌+ℤ◌, ◌-ℤ◌, ◌*ℤ◌, int_le}
+use Rattle.std.specs.Prelude.{◌≤◌, ◌≤ℤ◌, neg_ℤ, ℕ, ◌*◌, ◌^◌, if◌then◌else◌, List, Option, slice_index, ℤ, pos, ◌+ℤ◌, ◌-ℤ◌, ◌*ℤ◌, int_le}
 use Rattle.std.specs.Ordering.{int_eq}
 use Rattle.std.specs.Int.{int_max, int_min}
 use Rattle.dx_tables.specs.Constants.{pitch_rate, pitch_level}
@@ -25,6 +25,14 @@ glide_at s i = record {
   target = pitch_of (slice_index s.levels i);
   step = pitch_step (slice_index s.rates i);
 }
+
+-- what every pitch of a pitch envelope is: at most four octaves up or down
+abbrev pub IsPitch : ℤ → Type 0
+IsPitch z = (neg_ℤ (pos (2 ^ 26)) ≤ℤ z) × (z ≤ℤ pos (2 ^ 26))
+
+-- what every glide of it is: its step is at most that of rate 99
+abbrev pub IsGlide : Glide → Type 0
+IsGlide g = IsPitch g.target × (g.step ≤ 291465)
 
 -- the pitch m steps after the stage is entered at x: nearer to the target by m of its steps, and not past it
 unfoldable pub glided : Glide → ℤ → ℕ → ℤ

@@ -1,10 +1,11 @@
 ghost use Rattle.std.specs.Prelude.{ℕ, ◌≡◌, ◌≤◌, pos, ◌≤ℤ◌, All, unsigned_abs, Option, None};
-ghost use Rattle.block_rates.specs.declared.slope.TheConstants.{HIGHEST, LARGEST_STEP};
+ghost use Rattle.block_rates.specs.Levels.{IsSlope};
 
 use crate::slope::Slope;
 use crate::stage::Stage;
 
-/// The envelope generator of an operator: four stages, of which the fourth begins when the key is let go.
+/// The envelope generator of an operator: four stages, of which the fourth begins when the key is
+/// let go.
 #[derive(Clone, Copy)]
 pub struct Envelope {
     level: u32,
@@ -13,11 +14,11 @@ pub struct Envelope {
     second: Slope,
     third: Slope,
     fourth: Slope,
-    ghost level_bound: { level ≤ HIGHEST },
-    ghost first_bound: { (first.target ≤ HIGHEST) × (first.step ≤ LARGEST_STEP) },
-    ghost second_bound: { (second.target ≤ HIGHEST) × (second.step ≤ LARGEST_STEP) },
-    ghost third_bound: { (third.target ≤ HIGHEST) × (third.step ≤ LARGEST_STEP) },
-    ghost fourth_bound: { (fourth.target ≤ HIGHEST) × (fourth.step ≤ LARGEST_STEP) },
+    ghost level_bound: { level ≤ 266338304 },
+    ghost first_bound: { IsSlope first },
+    ghost second_bound: { IsSlope second },
+    ghost third_bound: { IsSlope third },
+    ghost fourth_bound: { IsSlope fourth },
 }
 
 impl Envelope {
@@ -27,7 +28,8 @@ impl Envelope {
     ghost use Rattle.block_rates.specs.Levels.{EnvelopeSettings, envelope_level};
     ghost use Rattle.block_rates.specs.Envelopes.{IsEnvelope};
 
-    /// An envelope at its begin, for rates and levels of 0 to 99, an output level of 0 to 4288 and a rate scale of 0 to 27.
+    /// An envelope at its begin, for rates and levels of 0 to 99, an output level of 0 to 4288 and a
+    /// rate scale of 0 to 27.
     pub fn new(rates: [u8; 4], levels: [u8; 4], out: i32, rate_scale: i32) -> Envelope
         requires rates { All (λ r. r ≤ 99) rates }
         requires levels { All (λ l. l ≤ 99) levels }
@@ -51,15 +53,18 @@ impl Envelope {
 
     /// The key is let go: the fourth stage begins at the present level. A second release does nothing.
     pub fn release(&mut self)
-        ensures { (s : EnvelopeSettings) (k : ℕ) (off : Option ℕ) → IsEnvelope self.old s k off → IsEnvelope self.new s k (released_after k off) }
+        ensures { (s : EnvelopeSettings) (k : ℕ) (off : Option ℕ) →
+            IsEnvelope self.old s k off → IsEnvelope self.new s k (released_after k off) }
     {
         self.stage = Stage::Fourth;
     }
 
     /// The level of the next block, where 2^24 is one octave of gain.
     pub fn step(&mut self) -> i32
-        ensures value { (s : EnvelopeSettings) (k : ℕ) (off : Option ℕ) → IsEnvelope self.old s k off → result ≡ pos (envelope_level s (k + 1) off) }
-        ensures stands { (s : EnvelopeSettings) (k : ℕ) (off : Option ℕ) → IsEnvelope self.old s k off → IsEnvelope self.new s (k + 1) off }
+        ensures value { (s : EnvelopeSettings) (k : ℕ) (off : Option ℕ) →
+            IsEnvelope self.old s k off → result ≡ pos (envelope_level s (k + 1) off) }
+        ensures stands { (s : EnvelopeSettings) (k : ℕ) (off : Option ℕ) →
+            IsEnvelope self.old s k off → IsEnvelope self.new s (k + 1) off }
         ensures low { pos 0 ≤ℤ result }
         ensures high { result ≤ℤ pos 266338304 }
     {
@@ -74,8 +79,7 @@ impl Envelope {
     /// The slope of the present stage.
     fn slope(&self) -> Slope
         ensures value { result ≡ at_stage self.now.stage self.now.first self.now.second self.now.third self.now.fourth }
-        ensures target { result.target ≤ HIGHEST }
-        ensures step { result.step ≤ LARGEST_STEP }
+        ensures bound { IsSlope result }
     {
         match self.stage {
             Stage::First => self.first,

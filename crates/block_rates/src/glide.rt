@@ -1,5 +1,5 @@
-ghost use Rattle.std.specs.Prelude.{◌≡◌, ◌≤◌, pos, neg_ℤ, ◌≤ℤ◌};
-ghost use Rattle.block_rates.specs.Pitches.{pitch_of, pitch_step, glided};
+ghost use Rattle.std.specs.Prelude.{◌≡◌, ◌≤◌};
+ghost use Rattle.block_rates.specs.Pitches.{IsPitch, IsGlide, pitch_of, pitch_step, glided};
 
 use dx_tables::constants::{pitch_level, pitch_rate};
 
@@ -17,9 +17,7 @@ impl Glide {
         requires parameter { parameter ≤ 99 }
         ensures target { result.target ≡ pitch_of parameter }
         ensures step { result.step ≡ pitch_step rate }
-        ensures low { neg_ℤ (pos 67108864) ≤ℤ result.target }
-        ensures high { result.target ≤ℤ pos 67108864 }
-        ensures step_bound { result.step ≤ 291465 }
+        ensures bound { IsGlide result }
     {
         Glide {
             target: pitch(parameter),
@@ -29,14 +27,10 @@ impl Glide {
 
     /// The pitch one step on from `level`.
     pub(crate) fn stepped(self, level: i32) -> i32
-        requires target_low { neg_ℤ (pos 67108864) ≤ℤ self.target }
-        requires target_high { self.target ≤ℤ pos 67108864 }
-        requires step { self.step ≤ 291465 }
-        requires level_low { neg_ℤ (pos 67108864) ≤ℤ level }
-        requires level_high { level ≤ℤ pos 67108864 }
+        requires glide { IsGlide self }
+        requires level { IsPitch level }
         ensures value { result ≡ glided self level 1 }
-        ensures low { neg_ℤ (pos 67108864) ≤ℤ result }
-        ensures high { result ≤ℤ pos 67108864 }
+        ensures bound { IsPitch result }
     {
         let step = self.step as i32;
         if self.target <= level {
@@ -51,8 +45,7 @@ impl Glide {
 pub(crate) fn pitch(parameter: u8) -> i32
     requires { parameter ≤ 99 }
     ensures value { result ≡ pitch_of parameter }
-    ensures low { neg_ℤ (pos 67108864) ≤ℤ result }
-    ensures high { result ≤ℤ pos 67108864 }
+    ensures bound { IsPitch result }
 {
     i32::from(pitch_level(parameter)) * 524_288
 }

@@ -22,7 +22,9 @@ pub struct Lfo {
 
 impl Lfo {
     ghost use Rattle.std.specs.Prelude.{◌+◌};
-    ghost use Rattle.block_rates.specs.Oscillators.{Oscillation, oscillator_settings, opening_oscillation, assigned, key_pressed, oscillator_value, oscillator_delay};
+    ghost use Rattle.block_rates.specs.Oscillators.{Oscillation, opening_oscillation};
+    ghost use Rattle.block_rates.specs.Oscillators.{oscillator_settings, assigned, key_pressed};
+    ghost use Rattle.block_rates.specs.Oscillators.{oscillator_value, oscillator_delay};
     ghost use Rattle.block_rates.specs.OscillatorStates.{IsOscillator};
 
     /// An oscillator with the settings of the opening voice.
@@ -42,7 +44,8 @@ impl Lfo {
 
     /// Takes the settings of a voice: speed, delay, sync and wave.
     pub fn assign(&mut self, voice: &Voice)
-        ensures { (o : Oscillation) (m : ℕ) → IsOscillator self.old o m → IsOscillator self.new (assigned (oscillator_settings voice.now) o m) 0 }
+        ensures { (o : Oscillation) (m : ℕ) →
+            IsOscillator self.old o m → IsOscillator self.new (assigned (oscillator_settings voice.now) o m) 0 }
     {
         self.speed = voice.get(137);
         self.delay = voice.get(138);
@@ -52,7 +55,8 @@ impl Lfo {
 
     /// A key goes down: the delay begins anew, and the wave where it is in sync.
     pub fn key_down(&mut self)
-        ensures { (o : Oscillation) (m : ℕ) → IsOscillator self.old o m → IsOscillator self.new (key_pressed o m) 0 }
+        ensures { (o : Oscillation) (m : ℕ) →
+            IsOscillator self.old o m → IsOscillator self.new (key_pressed o m) 0 }
     {
         self.phase = phase_at_key(self.is_synced, self.phase);
         self.waited = 0;
@@ -60,9 +64,12 @@ impl Lfo {
 
     /// The value and the delay of the next block, where 2^24 is the greatest of both.
     pub fn step(&mut self, tables: &Tables) -> (i32, i32)
-        ensures value { (o : Oscillation) (m : ℕ) → IsOscillator self.old o m → result.0 ≡ oscillator_value o (m + 1) }
-        ensures delay { (o : Oscillation) (m : ℕ) → IsOscillator self.old o m → result.1 ≡ pos (oscillator_delay o (m + 1)) }
-        ensures stands { (o : Oscillation) (m : ℕ) → IsOscillator self.old o m → IsOscillator self.new o (m + 1) }
+        ensures value { (o : Oscillation) (m : ℕ) →
+            IsOscillator self.old o m → result.0 ≡ oscillator_value o (m + 1) }
+        ensures delay { (o : Oscillation) (m : ℕ) →
+            IsOscillator self.old o m → result.1 ≡ pos (oscillator_delay o (m + 1)) }
+        ensures stands { (o : Oscillation) (m : ℕ) →
+            IsOscillator self.old o m → IsOscillator self.new o (m + 1) }
         ensures value_low { pos 0 ≤ℤ result.0 }
         ensures value_high { result.0 ≤ℤ pos 16777216 }
         ensures delay_low { pos 0 ≤ℤ result.1 }

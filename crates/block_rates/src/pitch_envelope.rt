@@ -1,4 +1,5 @@
-ghost use Rattle.std.specs.Prelude.{ℕ, ◌≡◌, ◌≤◌, pos, neg_ℤ, ◌≤ℤ◌, All, Option, None};
+ghost use Rattle.std.specs.Prelude.{ℕ, ◌≡◌, ◌≤◌, ◌^◌, pos, neg_ℤ, ◌≤ℤ◌, All, Option, None};
+ghost use Rattle.block_rates.specs.Pitches.{IsPitch, IsGlide};
 
 use crate::glide::{Glide, pitch};
 use crate::stage::Stage;
@@ -12,11 +13,11 @@ pub struct PitchEnvelope {
     second: Glide,
     third: Glide,
     fourth: Glide,
-    ghost level_bound: { (neg_ℤ (pos 67108864) ≤ℤ level) × (level ≤ℤ pos 67108864) },
-    ghost first_bound: { (neg_ℤ (pos 67108864) ≤ℤ first.target) × (first.target ≤ℤ pos 67108864) × (first.step ≤ 291465) },
-    ghost second_bound: { (neg_ℤ (pos 67108864) ≤ℤ second.target) × (second.target ≤ℤ pos 67108864) × (second.step ≤ 291465) },
-    ghost third_bound: { (neg_ℤ (pos 67108864) ≤ℤ third.target) × (third.target ≤ℤ pos 67108864) × (third.step ≤ 291465) },
-    ghost fourth_bound: { (neg_ℤ (pos 67108864) ≤ℤ fourth.target) × (fourth.target ≤ℤ pos 67108864) × (fourth.step ≤ 291465) },
+    ghost level_bound: { IsPitch level },
+    ghost first_bound: { IsGlide first },
+    ghost second_bound: { IsGlide second },
+    ghost third_bound: { IsGlide third },
+    ghost fourth_bound: { IsGlide fourth },
 }
 
 impl PitchEnvelope {
@@ -44,15 +45,18 @@ impl PitchEnvelope {
 
     /// The key is let go: the fourth stage begins at the present pitch. A second release does nothing.
     pub fn release(&mut self)
-        ensures { (s : PitchEnvelopeSettings) (k : ℕ) (off : Option ℕ) → IsPitchEnvelope self.old s k off → IsPitchEnvelope self.new s k (released_after k off) }
+        ensures { (s : PitchEnvelopeSettings) (k : ℕ) (off : Option ℕ) →
+            IsPitchEnvelope self.old s k off → IsPitchEnvelope self.new s k (released_after k off) }
     {
         self.stage = Stage::Fourth;
     }
 
     /// The pitch of the next block, where 2^24 is one octave.
     pub fn step(&mut self) -> i32
-        ensures value { (s : PitchEnvelopeSettings) (k : ℕ) (off : Option ℕ) → IsPitchEnvelope self.old s k off → result ≡ pitch_envelope_level s (k + 1) off }
-        ensures stands { (s : PitchEnvelopeSettings) (k : ℕ) (off : Option ℕ) → IsPitchEnvelope self.old s k off → IsPitchEnvelope self.new s (k + 1) off }
+        ensures value { (s : PitchEnvelopeSettings) (k : ℕ) (off : Option ℕ) →
+            IsPitchEnvelope self.old s k off → result ≡ pitch_envelope_level s (k + 1) off }
+        ensures stands { (s : PitchEnvelopeSettings) (k : ℕ) (off : Option ℕ) →
+            IsPitchEnvelope self.old s k off → IsPitchEnvelope self.new s (k + 1) off }
         ensures low { neg_ℤ (pos 67108864) ≤ℤ result }
         ensures high { result ≤ℤ pos 67108864 }
     {
@@ -67,9 +71,7 @@ impl PitchEnvelope {
     /// The glide of the present stage.
     fn glide(&self) -> Glide
         ensures value { result ≡ at_stage self.now.stage self.now.first self.now.second self.now.third self.now.fourth }
-        ensures low { neg_ℤ (pos 67108864) ≤ℤ result.target }
-        ensures high { result.target ≤ℤ pos 67108864 }
-        ensures step { result.step ≤ 291465 }
+        ensures bound { IsGlide result }
     {
         match self.stage {
             Stage::First => self.first,

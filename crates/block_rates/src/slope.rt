@@ -1,13 +1,7 @@
 ghost use Rattle.std.specs.Prelude.{◌≡◌, ◌≤◌};
-ghost use Rattle.block_rates.specs.Levels.{target_level, rate_step, scaled_rate, go};
+ghost use Rattle.block_rates.specs.Levels.{IsSlope, target_level, rate_step, scaled_rate, go};
 
 use dx_tables::constants::level;
-
-/// The highest level that an envelope reaches: level 99 and an output level of 4288.
-pub(crate) const HIGHEST: u32 = 266_338_304;
-
-/// The largest step of an envelope, at the scaled rate 63.
-pub(crate) const LARGEST_STEP: u32 = 58_720_256;
 
 /// The level that a rising stage begins at, if it is entered below.
 const LIFT: u32 = 1716 * 65536;
@@ -28,8 +22,7 @@ impl Slope {
         requires rate_scale { rate_scale ≤ 27 }
         ensures target { result.target ≡ target_level parameter out }
         ensures step { result.step ≡ rate_step (scaled_rate rate rate_scale) }
-        ensures target_bound { result.target ≤ HIGHEST }
-        ensures step_bound { result.step ≤ LARGEST_STEP }
+        ensures bound { IsSlope result }
     {
         let scaled = (u32::from(rate) * 41 / 64 + rate_scale).min(63);
         Slope {
@@ -40,11 +33,10 @@ impl Slope {
 
     /// The level one step on from `level`.
     pub(crate) fn stepped(self, level: u32) -> u32
-        requires target { self.target ≤ HIGHEST }
-        requires step { self.step ≤ LARGEST_STEP }
-        requires level { level ≤ HIGHEST }
+        requires slope { IsSlope self }
+        requires level { level ≤ 266338304 }
         ensures value { result ≡ go self level 1 }
-        ensures bound { result ≤ HIGHEST }
+        ensures bound { result ≤ 266338304 }
     {
         if self.target <= level {
             self.target.max(level.saturating_sub(self.step))
@@ -61,7 +53,7 @@ fn target(parameter: u8, out: u32) -> u32
     requires parameter { parameter ≤ 99 }
     requires out { out ≤ 4288 }
     ensures value { result ≡ target_level parameter out }
-    ensures bound { result ≤ HIGHEST }
+    ensures bound { result ≤ 266338304 }
 {
     65536
         * (64 * u32::from(level(parameter) / 2) + out)
@@ -73,7 +65,7 @@ fn target(parameter: u8, out: u32) -> u32
 fn step(scaled: u32) -> u32
     requires { scaled ≤ 63 }
     ensures value { result ≡ rate_step scaled }
-    ensures bound { result ≤ LARGEST_STEP }
+    ensures bound { result ≤ 58720256 }
 {
     (4 + scaled % 4) << (8 + scaled / 4)
 }

@@ -35,12 +35,12 @@ key_scaling voice operator note =
     on_side distance (curve_value (left_curve voice operator) (left_depth voice operator) (key_group distance))
     (curve_value (right_curve voice operator) (right_depth voice operator) (key_group distance))
 
--- what the level of an operator gains by a velocity, 1/1024 octave of gain each
+-- what the level of an operator gains by a velocity, 1/256 octave of gain each
 unfoldable pub velocity_part : ℕ → ℕ → ℤ
 velocity_part sensitivity velocity =
     pos 16 *ℤ int_shr (pos sensitivity *ℤ (pos (velocity_entry (velocity / 2)) -ℤ pos 239) +ℤ pos 7) 3
 
--- the whole level, 1/1024 octave of gain each, and never below 0
+-- the whole level, 1/256 octave of gain each, and never below 0
 unfoldable pub whole_level : ℕ → ℤ → ℤ → ℤ
 whole_level setting scaling velocity = int_max (pos 0) (pos 32 *ℤ int_min (pos 127) (pos (level setting) +ℤ scaling) +ℤ velocity)
 

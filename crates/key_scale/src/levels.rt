@@ -41,7 +41,7 @@ pub fn velocity_gain(sensitivity: u8, velocity: u8) -> i32
     rounded(weighted(sensitivity, constants::velocity_entry(velocity >> 1)))
 }
 
-/// The level of a setting with key scaling, at most 127, in units of 1/32 octave of gain.
+/// The level of a setting with key scaling, at most 127, in units of 1/8 octave of gain.
 fn capped(setting: u8, scaling: i32) -> i32
     requires setting { setting ≤ 99 }
     requires low { neg_ℤ (pos 400) ≤ℤ scaling }
@@ -53,7 +53,7 @@ fn capped(setting: u8, scaling: i32) -> i32
     (i32::from(constants::level(setting)) + scaling).min(127)
 }
 
-/// A level in units of 1/32 octave of gain and a velocity's part in units of 1/1024, summed, and at least 0.
+/// A level in units of 1/8 octave of gain and a velocity's part in units of 1/256, summed, and at least 0.
 fn above_zero(level: i32, velocity: i32) -> i32
     requires level_low { neg_ℤ (pos 400) ≤ℤ level }
     requires level_high { level ≤ℤ pos 127 }

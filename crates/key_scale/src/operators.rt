@@ -14,7 +14,7 @@ use dx_tables::Tables;
 use voice_record::Voice;
 
 /// The output level of an operator, 1 to 6, at a note from -24 to 151 and a velocity from 1 to 127:
-/// its level setting with key scaling and velocity, in units of 1/1024 octave of gain.
+/// its level setting with key scaling and velocity, in units of 1/256 octave of gain.
 pub fn out_level(voice: &Voice, operator: u8, note: i32, velocity: u8) -> i32
     requires first { 1 ≤ operator }
     requires last { operator ≤ 6 }

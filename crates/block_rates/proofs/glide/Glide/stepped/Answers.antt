@@ -48,9 +48,9 @@ up_is g x r f fr test e =
 pub returns-then-self-level-clause-value : goal.returns-then-self-level-clause-value
 returns-then-self-level-clause-value c =
     let r = c.requires in
-    down_is c.args.self c.args.level c.max.result (step_fits _ _ _ r.target_low r.target_high r.step r.level_low r.level_high) (record { sfits = c.max.type_inv }) c.if-self-level.true c.max.ensures.value
+    down_is c.args.self c.args.level c.max.result (step_fits _ _ _ r.glide.0.0 r.glide.0.1 r.glide.1 r.level.0 r.level.1) (record { sfits = c.max.type_inv }) c.if-self-level.true c.max.ensures.value
 
 pub returns-else-self-level-clause-value : goal.returns-else-self-level-clause-value
 returns-else-self-level-clause-value c =
     let r = c.requires in
-    up_is c.args.self c.args.level c.min.result (step_fits _ _ _ r.target_low r.target_high r.step r.level_low r.level_high) (record { sfits = c.min.type_inv }) c.if-self-level.false c.min.ensures.value
+    up_is c.args.self c.args.level c.min.result (step_fits _ _ _ r.glide.0.0 r.glide.0.1 r.glide.1 r.level.0 r.level.1) (record { sfits = c.min.type_inv }) c.if-self-level.false c.min.ensures.value

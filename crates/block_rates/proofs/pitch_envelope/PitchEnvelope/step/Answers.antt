@@ -28,8 +28,8 @@ returns-clause-stands c =
     let glide : Glide = at_stage e.stage e.first e.second e.third e.fourth in
     let v = c.glide-glide.ensures.value in
     let fl = fits e.level e.level_bound.0 e.level_bound.1 in
-    let ft = fits c.glide-glide.result.target c.glide-glide.ensures.low c.glide-glide.ensures.high in
-    let fr = fits c.stepped-self.result c.stepped-self.ensures.low c.stepped-self.ensures.high in
+    let ft = fits c.glide-glide.result.target c.glide-glide.ensures.bound.0.0 c.glide-glide.ensures.bound.0.1 in
+    let fr = fits c.stepped-self.result c.stepped-self.ensures.bound.0 c.stepped-self.ensures.bound.1 in
     let moved = c.stepped-self.ensures.value ∙ ap (λ x. glided c.glide-glide.result x 1) (to_z-of_z w32 e.level fl) ∙ ap (λ (g : Glide). glided g e.level 1) v in
     let level = to_z-of_z w32 c.stepped-self.result fr ∙ moved in
     λ s k off h. elim c.if-self-glide.branch [
