@@ -1,16 +1,15 @@
 -- Parameter changes and requests without a fault.
-use Rattle.std.proofs.Common.{◌≡◌, ◌≢◌, ℕ, zero, suc, ◌+◌, ◌-◌, ◌*◌, ◌/◌, ◌%◌, ◌<◌, ◌≤◌, List, [], ◌∷◌, ◌++◌, length, get_or, take, drop, ap, sym, ◌∙◌, arith, refl, subst, length-append, inl, inr, ◌⊎◌, None}
+use Rattle.std.proofs.Common.{◌≡◌, ◌≢◌, ℕ, ◌+◌, ◌-◌, ◌*◌, ◌/◌, ◌%◌, ◌<◌, ◌≤◌, List, [], ◌∷◌, ◌++◌, length, get_or, take, drop, ap, sym, ◌∙◌, arith, refl, subst, length-append, None}
 use Rattle.std.specs.List.{slice_range}
-use Rattle.std.proofs.lemmas.Bool.{lt-leb, leb-false}
+use Rattle.std.proofs.lemmas.Bool.{lt-leb}
 use Rattle.std.proofs.lemmas.List.Edits.{length-between}
 use Rattle.voice_record.specs.Voice.{greatest_value}
 use Rattle.voice_record.proofs.Voices.{greatest_small}
-use Rattle.sysex_frame.specs.Checksum.{checksum_of}
 use Rattle.sysex_frame.specs.Frame.{IsData, IsParamChange, IsOtherChange, IsRequest}
-use Rattle.sysex_frame.specs.FrameFault.{substatus, device, format, group, number, payload, check, unknown_substatus, unknown_format, wrong_count, wanted_length, wrong_length, wrong_checksum, high_value, later_fault}
+use Rattle.sysex_frame.specs.FrameFault.{substatus, device, group, number, unknown_substatus, unknown_format, wrong_count, wanted_length, wrong_length, wrong_checksum, high_value, later_fault}
 use Rattle.sysex_frame.proofs.Facts.{none_parts, row_free, row_none, IsPlain}
-use Rattle.sysex_frame.proofs.Tests.{not_a_dump, not_a_change, length_of_change, change_length, request_length, value_known, value_good}
-use Rattle.sysex_frame.proofs.Shapes.{heads_3, heads_5, heads_6, tail_end, range_is_data, data_cons, data_none, data_append, plain_text}
+use Rattle.sysex_frame.proofs.Conditions.{not_a_dump, not_a_change, length_of_change, change_length, request_length, value_known, value_good}
+use Rattle.sysex_frame.proofs.Shapes.{heads_3, heads_5, heads_6, tail_end, range_is_data, data_cons, data_none, plain_text}
 
 -- the places of a parameter change
 pub record IsChangeText (text : List ℕ) : Type 0 where
@@ -46,7 +45,7 @@ change_clean text d =
     let e : wrong_length text ≡ None = row_none _ _ (change_length (substatus text) (length text) (wanted_length text) (group text) d.kind d.least d.one) in
     let f : wrong_checksum text ≡ None = row_none _ _ (not_a_dump (substatus text) _ other) in
     let g : high_value text ≡ None =
-      row_none _ _ (value_good (substatus text) (group text) (number text) (greatest_value (number text)) (get_or text 5 0) d.value) in
+    row_none _ _ (value_good (substatus text) (group text) (number text) (greatest_value (number text)) (get_or text 5 0) d.value) in
     rw (a, b, c, e, f, g)
 
 pub request_clean : (text : List ℕ) → substatus text ≡ 2 → later_fault text ≡ None
@@ -125,34 +124,34 @@ request_frame text plain s =
 
 -- ---- texts that are spelled so have these places
 pub param_places :
-  (text : List ℕ) (d n v : ℕ) → IsParamChange text d n v → IsChangeText text × (group text ≡ 0) × (number text ≡ n) × (device text ≡ d) × (get_or text 5 0 ≡ v)
+    (text : List ℕ) (d n v : ℕ) → IsParamChange text d n v → IsChangeText text × (group text ≡ 0) × (number text ≡ n) × (device text ≡ d) × (get_or text 5 0 ≡ v)
 param_places text d n v h =
     let spelled : List ℕ = 0xF0 ∷ 0x43 ∷ (0x10 + d) ∷ (n / 128) ∷ (n % 128) ∷ v ∷ 0xF7 ∷ [] in
     let sixteen = h.sixteen in
     let known = h.known in
     let small : v < 128 = omega (arith, h.within, greatest_small n (omega arith)) in
     let clean : IsData ((0x10 + d) ∷ (n / 128) ∷ (n % 128) ∷ v ∷ []) =
-      data_cons (0x10 + d) ((n / 128) ∷ (n % 128) ∷ v ∷ []) (omega arith)
-        (data_cons (n / 128) ((n % 128) ∷ v ∷ []) (omega arith) (data_cons (n % 128) (v ∷ []) (omega arith) (data_cons v [] small data_none))) in
+    data_cons (0x10 + d) ((n / 128) ∷ (n % 128) ∷ v ∷ []) (omega arith)
+    (data_cons (n / 128) ((n % 128) ∷ v ∷ []) (omega arith) (data_cons (n % 128) (v ∷ []) (omega arith) (data_cons v [] small data_none))) in
     let zero_group : n / 128 / 4 % 32 ≡ 0 = omega arith in
     let whole : n / 128 % 4 * 128 + n % 128 ≡ n = omega arith in
     let all : IsChangeText spelled × (group spelled ≡ 0) × (number spelled ≡ n) × (device spelled ≡ d) × (get_or spelled 5 0 ≡ v) = (
-        record {
-          plain = plain_text ((0x10 + d) ∷ (n / 128) ∷ (n % 128) ∷ v ∷ []) (omega arith) clean;
-          kind = omega arith;
-          least = omega arith;
-          one = λ _. refl;
-          value = λ _ _. rw whole h.within;
-        },
-        zero_group,
-        whole,
-        omega arith,
-        refl,
-      ) in
+      record {
+        plain = plain_text ((0x10 + d) ∷ (n / 128) ∷ (n % 128) ∷ v ∷ []) (omega arith) clean;
+        kind = omega arith;
+        least = omega arith;
+        one = λ _. refl;
+        value = λ _ _. rw whole h.within;
+      },
+      zero_group,
+      whole,
+      omega arith,
+      refl,
+    ) in
     subst (λ t. IsChangeText t × (group t ≡ 0) × (number t ≡ n) × (device t ≡ d) × (get_or t 5 0 ≡ v)) (sym h.spelled) all
 
 pub other_places :
-  (text : List ℕ) (d g n : ℕ) → IsOtherChange text d g n → IsChangeText text × (group text ≡ g) × (number text ≡ n) × (device text ≡ d)
+    (text : List ℕ) (d g n : ℕ) → IsOtherChange text d g n → IsChangeText text × (group text ≡ g) × (number text ≡ n) × (device text ≡ d)
 other_places text d g n h =
     let rest = h.rest in
     let spelled : List ℕ = 0xF0 ∷ 0x43 ∷ (0x10 + d) ∷ (4 * g + n / 128) ∷ (n % 128) ∷ (rest ++ 0xF7 ∷ []) in
@@ -161,23 +160,23 @@ other_places text d g n h =
     let numbers = h.numbers in
     let least = h.least in
     let clean : IsData ((0x10 + d) ∷ (4 * g + n / 128) ∷ (n % 128) ∷ rest) =
-      data_cons (0x10 + d) ((4 * g + n / 128) ∷ (n % 128) ∷ rest) (omega arith)
-        (data_cons (4 * g + n / 128) ((n % 128) ∷ rest) (omega arith) (data_cons (n % 128) rest (omega arith) h.bytes)) in
+    data_cons (0x10 + d) ((4 * g + n / 128) ∷ (n % 128) ∷ rest) (omega arith)
+    (data_cons (4 * g + n / 128) ((n % 128) ∷ rest) (omega arith) (data_cons (n % 128) rest (omega arith) h.bytes)) in
     let same_group : (4 * g + n / 128) / 4 % 32 ≡ g = omega arith in
     let whole : (4 * g + n / 128) % 4 * 128 + n % 128 ≡ n = omega arith in
     let size : length (rest ++ 0xF7 ∷ []) ≡ length rest + 1 = length-append rest (0xF7 ∷ []) in
     let all : IsChangeText spelled × (group spelled ≡ g) × (number spelled ≡ n) × (device spelled ≡ d) = (
-        record {
-          plain = plain_text ((0x10 + d) ∷ (4 * g + n / 128) ∷ (n % 128) ∷ rest) (omega arith) clean;
-          kind = omega arith;
-          least = omega arith;
-          one = λ z. let zero_group : g ≡ 0 = sym same_group ∙ z in let one : length rest ≡ 1 = h.one zero_group in omega arith;
-          value = λ z l. let zero_group : g ≡ 0 = sym same_group ∙ z in let above : 155 < n = h.other zero_group in absurd (omega (arith, l, whole, above));
-        },
-        same_group,
-        whole,
-        omega arith,
-      ) in
+      record {
+        plain = plain_text ((0x10 + d) ∷ (4 * g + n / 128) ∷ (n % 128) ∷ rest) (omega arith) clean;
+        kind = omega arith;
+        least = omega arith;
+        one = λ z. let zero_group : g ≡ 0 = sym same_group ∙ z in let one : length rest ≡ 1 = h.one zero_group in omega arith;
+        value = λ z l. let zero_group : g ≡ 0 = sym same_group ∙ z in let above : 155 < n = h.other zero_group in absurd (omega (arith, l, whole, above));
+      },
+      same_group,
+      whole,
+      omega arith,
+    ) in
     subst (λ t. IsChangeText t × (group t ≡ g) × (number t ≡ n) × (device t ≡ d)) (sym h.spelled) all
 
 pub request_places : (text : List ℕ) (d : ℕ) → IsRequest text d → IsPlain text × (substatus text ≡ 2) × (device text ≡ d)

@@ -1,16 +1,13 @@
 -- Dumps without a fault.
-use Rattle.std.proofs.Common.{◌≡◌, ◌≢◌, ℕ, zero, suc, ◌+◌, ◌-◌, ◌/◌, ◌%◌, ◌<◌, ◌≤◌, List, [], ◌∷◌, ◌++◌, length, get_or, take, drop, ap, sym, ◌∙◌, arith, refl, subst, length-append, append_assoc, inl, inr, ◌⊎◌, None, ◌==◌}
-use Rattle.std.specs.Option.{option_or}
-use Rattle.std.specs.List.{sum, slice_range}
-use Rattle.std.proofs.lemmas.Bool.{cases_lt, eq-eqb, ne_eqb, leb-true, le-leb, lt-leb}
+use Rattle.std.proofs.Common.{◌≡◌, ℕ, suc, ◌+◌, ◌-◌, ◌<◌, ◌≤◌, List, [], ◌∷◌, ◌++◌, length, get_or, take, drop, ap, sym, ◌∙◌, arith, refl, subst, length-append, append_assoc, inl, inr, ◌⊎◌, None}
+use Rattle.std.proofs.lemmas.Bool.{lt-leb}
 use Rattle.std.proofs.lemmas.List.Edits.{length-between}
-use Rattle.std.proofs.lemmas.List.{get_or_at, get_or-append-add, take_at}
+use Rattle.std.proofs.lemmas.List.{get_or_at, take_at}
 use Rattle.sysex_frame.specs.Checksum.{IsChecksum, checksum_of}
-use Rattle.sysex_frame.specs.Frame.{IsData, IsDump, IsFrame, Content, VoiceDump, CartridgeDump}
-use Rattle.sysex_frame.specs.FrameFault.{substatus, device, format, group, number, payload, check, unknown_substatus, unknown_format, wrong_count, wanted_length, wrong_length, wrong_checksum, high_value, later_fault}
-use Rattle.sysex_frame.specs.Reading.{dump, reading}
+use Rattle.sysex_frame.specs.Frame.{IsData, IsDump}
+use Rattle.sysex_frame.specs.FrameFault.{substatus, device, format, group, payload, check, unknown_substatus, unknown_format, wrong_count, wanted_length, wrong_length, wrong_checksum, high_value, later_fault}
 use Rattle.sysex_frame.proofs.Facts.{none_parts, row_free, row_none, IsPlain}
-use Rattle.sysex_frame.proofs.Tests.{format_known, format_good, not_a_dump, not_a_change, count_known_voice, count_known_cartridge, count_good_voice, count_good_cartridge, length_of_dump, dump_length, wanted_voice, wanted_cartridge, check_known, check_good}
+use Rattle.sysex_frame.proofs.Conditions.{format_known, format_good, not_a_change, count_known_voice, count_known_cartridge, count_good_voice, count_good_cartridge, length_of_dump, dump_length, wanted_voice, wanted_cartridge, check_known, check_good}
 use Rattle.sysex_frame.proofs.Shapes.{heads_6, tail_two, range_is_data, data_cons, data_none, data_append, plain_text}
 
 -- the places of a dump
@@ -56,7 +53,7 @@ voice_clean text d =
     let b : unknown_format text ≡ None = row_none _ _ (format_good (substatus text) (format text) 0 d.form_is (inl refl)) in
     let c : wrong_count text ≡ None = row_none _ _ (count_good_voice (substatus text) (length text) (format text) (get_or text 4 0) (get_or text 5 0) d.form_is d.high_is d.low_is) in
     let e : wrong_length text ≡ None =
-      row_none _ _ (dump_length (substatus text) (length text) (wanted_length text) (group text) d.kind (d.size_is ∙ sym (wanted_voice (substatus text) (format text) d.kind d.form_is))) in
+    row_none _ _ (dump_length (substatus text) (length text) (wanted_length text) (group text) d.kind (d.size_is ∙ sym (wanted_voice (substatus text) (format text) d.kind d.form_is))) in
     let f : wrong_checksum text ≡ None = row_none _ _ (check_good (substatus text) (check text) (checksum_of (payload text)) d.checked) in
     let g : high_value text ≡ None = row_none _ _ (not_a_change (substatus text) _ (λ one. absurd (omega (arith, one, d.kind)))) in
     rw (a, b, c, e, f, g)
@@ -67,7 +64,7 @@ cartridge_clean text d =
     let b : unknown_format text ≡ None = row_none _ _ (format_good (substatus text) (format text) 9 d.form_is (inr refl)) in
     let c : wrong_count text ≡ None = row_none _ _ (count_good_cartridge (substatus text) (length text) (format text) (get_or text 4 0) (get_or text 5 0) d.form_is d.high_is d.low_is) in
     let e : wrong_length text ≡ None =
-      row_none _ _ (dump_length (substatus text) (length text) (wanted_length text) (group text) d.kind (d.size_is ∙ sym (wanted_cartridge (substatus text) (format text) d.kind d.form_is))) in
+    row_none _ _ (dump_length (substatus text) (length text) (wanted_length text) (group text) d.kind (d.size_is ∙ sym (wanted_cartridge (substatus text) (format text) d.kind d.form_is))) in
     let f : wrong_checksum text ≡ None = row_none _ _ (check_good (substatus text) (check text) (checksum_of (payload text)) d.checked) in
     let g : high_value text ≡ None = row_none _ _ (not_a_change (substatus text) _ (λ one. absurd (omega (arith, one, d.kind)))) in
     rw (a, b, c, e, f, g)
@@ -92,22 +89,21 @@ dump_frame text form high low count d =
 
 -- a text that is spelled so has these places
 pub spelled_dump :
-  (d form high low c : ℕ) (p : List ℕ) → d < 16 → form < 128 → high < 128 → low < 128 → IsData p → IsChecksum p c →
-  let text : List ℕ = 0xF0 ∷ 0x43 ∷ d ∷ form ∷ high ∷ low ∷ (p ++ c ∷ 0xF7 ∷ []) in
-  IsDumpText text form high low (length p + 8) × (payload text ≡ p) × (device text ≡ d)
+    (d form high low c : ℕ) (p : List ℕ) → d < 16 → form < 128 → high < 128 → low < 128 → IsData p → IsChecksum p c →
+    let text : List ℕ = 0xF0 ∷ 0x43 ∷ d ∷ form ∷ high ∷ low ∷ (p ++ c ∷ 0xF7 ∷ []) in
+    IsDumpText text form high low (length p + 8) × (payload text ≡ p) × (device text ≡ d)
 spelled_dump d form high low c p ld lf lh ll seven checks =
     let text : List ℕ = 0xF0 ∷ 0x43 ∷ d ∷ form ∷ high ∷ low ∷ (p ++ c ∷ 0xF7 ∷ []) in
     let mid : List ℕ = d ∷ form ∷ high ∷ low ∷ (p ++ c ∷ []) in
     let inner : IsData (p ++ c ∷ []) = data_append p (c ∷ []) seven (data_cons c [] checks.below data_none) in
     let clean : IsData mid =
-      data_cons d (form ∷ high ∷ low ∷ (p ++ c ∷ [])) (omega arith)
-        (data_cons form (high ∷ low ∷ (p ++ c ∷ [])) lf (data_cons high (low ∷ (p ++ c ∷ [])) lh (data_cons low (p ++ c ∷ []) ll inner))) in
+    data_cons d (form ∷ high ∷ low ∷ (p ++ c ∷ [])) (omega arith)
+    (data_cons form (high ∷ low ∷ (p ++ c ∷ [])) lf (data_cons high (low ∷ (p ++ c ∷ [])) lh (data_cons low (p ++ c ∷ []) ll inner))) in
     let same : 0xF0 ∷ 0x43 ∷ (mid ++ 0xF7 ∷ []) ≡ text = ap (λ rest. 0xF0 ∷ 0x43 ∷ d ∷ form ∷ high ∷ low ∷ rest) (append_assoc p (c ∷ []) (0xF7 ∷ [])) in
     let size : length (p ++ c ∷ 0xF7 ∷ []) ≡ length p + 2 = length-append p (c ∷ 0xF7 ∷ []) in
     let own : payload text ≡ p = ap (λ n. take n (p ++ c ∷ 0xF7 ∷ [])) (let e : length text - 2 - 6 ≡ length p = omega arith in e) ∙ take_at p (c ∷ 0xF7 ∷ []) (length p) refl in
     let last : check text ≡ c =
-      ap (λ n. get_or text n 0) (let e : length text - 2 ≡ suc (suc (suc (suc (suc (suc (length p)))))) = omega arith in e) ∙ get_or_at p c (0xF7 ∷ []) 0 (length p) refl in
-    (
+    ap (λ n. get_or text n 0) (let e : length text - 2 ≡ suc (suc (suc (suc (suc (suc (length p)))))) = omega arith in e) ∙ get_or_at p c (0xF7 ∷ []) 0 (length p) refl in (
       record {
         plain = subst IsPlain same (plain_text mid (omega arith) clean);
         kind = omega arith;
@@ -122,9 +118,9 @@ spelled_dump d form high low c p ld lf lh ll seven checks =
     )
 
 pub dump_places :
-  (text : List ℕ) (d form high low count : ℕ) (p : List ℕ) → form < 128 → high < 128 → low < 128 → IsDump text d form high low count p →
-  IsDumpText text form high low (count + 8) × (payload text ≡ p) × (device text ≡ d)
+    (text : List ℕ) (d form high low count : ℕ) (p : List ℕ) → form < 128 → high < 128 → low < 128 → IsDump text d form high low count p →
+    IsDumpText text form high low (count + 8) × (payload text ≡ p) × (device text ≡ d)
 dump_places text d form high low count p lf lh ll h =
     subst (λ t. IsDumpText t form high low (count + 8) × (payload t ≡ p) × (device t ≡ d)) (sym h.spelled)
-      (subst (λ n. let t : List ℕ = 0xF0 ∷ 0x43 ∷ d ∷ form ∷ high ∷ low ∷ (p ++ h.check ∷ 0xF7 ∷ []) in IsDumpText t form high low (n + 8) × (payload t ≡ p) × (device t ≡ d)) h.size
-        (spelled_dump d form high low h.check p h.sixteen lf lh ll h.bytes h.checked))
+    (subst (λ n. let t : List ℕ = 0xF0 ∷ 0x43 ∷ d ∷ form ∷ high ∷ low ∷ (p ++ h.check ∷ 0xF7 ∷ []) in IsDumpText t form high low (n + 8) × (payload t ≡ p) × (device t ≡ d)) h.size
+    (spelled_dump d form high low h.check p h.sixteen lf lh ll h.bytes h.checked))

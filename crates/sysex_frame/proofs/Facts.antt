@@ -1,17 +1,12 @@
 -- What a text without a fault is like, place by place, and the other way round.
-use Rattle.std.proofs.Common.{◌≡◌, ◌≢◌, ℕ, suc, ◌+◌, ◌-◌, ◌*◌, ◌/◌, ◌%◌, ◌<◌, ◌≤◌, Bool, true, false, not, ◌&&◌, ◌||◌, nat_le, nat_lt, ◌==◌, if◌then◌else◌, List, [], ◌∷◌, ◌++◌, length, get_or, take, drop, ap, sym, ◌∙◌, arith, refl, subst, inl, inr, ◌⊎◌, Some, None}
+use Rattle.std.proofs.Common.{◌≡◌, ℕ, ◌+◌, ◌-◌, ◌<◌, ◌≤◌, Bool, true, false, nat_le, List, length, get_or, arith, refl, subst, inl, inr, Some, None}
 use Rattle.std.specs.declared.option.Option.{Option}
 use Rattle.std.specs.Option.{option_or, option_map}
-use Rattle.std.specs.List.{sum, slice_range, position, position_or_len}
-use Rattle.std.proofs.lemmas.Bool.{leb-true, leb-false, ltb-true, ltb-false, eqb-true, eqb-false, eq-eqb, ne_eqb, le-leb, lt-leb, lt-ltb, le-ltb, cases_eq, cases_lt, and_parts, or_parts, and_cases, cases_Bool, not-true, not-false}
-use Rattle.std.proofs.lemmas.Bool.Decides.{nat_tests}
-use Rattle.std.proofs.lemmas.List.{take_more, take_all, length-take, length-drop, get_or-drop, get_or-take}
+use Rattle.std.specs.List.{slice_range, position, position_or_len}
+use Rattle.std.proofs.lemmas.Bool.{leb-false, ltb-false, eqb-true, eq-eqb, lt-leb, lt-ltb, le-ltb, cases_lt, or_parts, not-false}
 use Rattle.std.proofs.lemmas.List.Edits.{length-between, get_or-between}
 use Rattle.std.proofs.lemmas.List.Sums.{fails_before_first, position_or_len_is}
-use Rattle.voice_record.specs.Voice.{greatest_value}
-use Rattle.sysex_frame.specs.Checksum.{IsChecksum, checksum_of}
-use Rattle.sysex_frame.specs.Frame.{IsData}
-use Rattle.sysex_frame.specs.FrameFault.{last, substatus, device, format, group, number, payload, check, where_true, not_framed, not_yamaha, data_byte, too_short, unknown_substatus, unknown_format, has_count, wrong_count, wanted_length, has_length, wrong_length, wrong_checksum, high_value, first_fault, early_fault, later_fault}
+use Rattle.sysex_frame.specs.FrameFault.{where_true, not_framed, not_yamaha, data_byte, too_short, first_fault, early_fault, later_fault}
 use Rattle.sysex_frame.specs.declared.frame.FrameFault.{FrameFault}
 use Rattle.sysex_frame.specs.declared.frame.FrameFault.TheVariants.{DataByte}
 
@@ -36,15 +31,15 @@ pub by_parts : (text : List ℕ) → first_fault text ≡ option_or (early_fault
 unfolding first_fault
 by_parts text =
     elim (not_framed text) as (λ a. option_or a (option_or (not_yamaha text) (option_or (data_byte text) (option_or (too_short text) (later_fault text))))
-        ≡ option_or (option_or a (option_or (not_yamaha text) (option_or (data_byte text) (option_or (too_short text) None)))) (later_fault text)) [
+    ≡ option_or (option_or a (option_or (not_yamaha text) (option_or (data_byte text) (option_or (too_short text) None)))) (later_fault text)) [
       | None ↦ elim (not_yamaha text) as (λ a. option_or a (option_or (data_byte text) (option_or (too_short text) (later_fault text)))
-            ≡ option_or (option_or a (option_or (data_byte text) (option_or (too_short text) None))) (later_fault text)) [
-          | None ↦ elim (data_byte text) as (λ a. option_or a (option_or (too_short text) (later_fault text)) ≡ option_or (option_or a (option_or (too_short text) None)) (later_fault text)) [
+          ≡ option_or (option_or a (option_or (data_byte text) (option_or (too_short text) None))) (later_fault text)) [
+            | None ↦ elim (data_byte text) as (λ a. option_or a (option_or (too_short text) (later_fault text)) ≡ option_or (option_or a (option_or (too_short text) None)) (later_fault text)) [
               | None ↦ elim (too_short text) as (λ a. option_or a (later_fault text) ≡ option_or (option_or a None) (later_fault text)) [ None ↦ refl | Some x ↦ refl ]
               | Some x ↦ refl
             ]
-          | Some x ↦ refl
-        ]
+            | Some x ↦ refl
+          ]
       | Some x ↦ refl
     ]
 
@@ -66,7 +61,7 @@ no_position xs h k l =
 position_none : (xs : List ℕ) → ((k : ℕ) → k < length xs → get_or xs k 0 < 128) → option_map (λ k. DataByte (k + 2)) (position (λ b. nat_le 128 b) xs) ≡ None
 position_none xs h =
     let e : position_or_len (λ b. nat_le 128 b) xs ≡ length xs =
-      position_or_len_is (λ b. nat_le 128 b) xs (length xs) 0 (omega arith) (λ k l. lt-leb _ _ (h k l)) (λ l. absurd (omega (arith, l))) in
+    position_or_len_is (λ b. nat_le 128 b) xs (length xs) 0 (omega arith) (λ k l. lt-leb _ _ (h k l)) (λ l. absurd (omega (arith, l))) in
     rw e (rw (le-ltb (length xs) (length xs) (omega arith)))
 
 pub plain_from_none : (text : List ℕ) → early_fault text ≡ None → IsPlain text
@@ -94,10 +89,10 @@ plain_from_none text h =
 pub none_from_plain : (text : List ℕ) → IsPlain text → early_fault text ≡ None
 none_from_plain text p =
     let framed : not_framed text ≡ None =
-      row_none _ _ (rw (le-ltb _ _ (let l = p.long in let m : 2 ≤ length text = omega arith in m), eq-eqb _ _ p.first, eq-eqb _ _ p.ended)) in
+    row_none _ _ (rw (le-ltb _ _ (let l = p.long in let m : 2 ≤ length text = omega arith in m), eq-eqb _ _ p.first, eq-eqb _ _ p.ended)) in
     let made : not_yamaha text ≡ None = row_none _ _ (rw (eq-eqb _ _ p.maker)) in
     let size : length (slice_range text 2 (length text - 1)) ≡ length text - 1 - 2 = length-between text 2 (length text - 1) (omega arith) in
     let clean : data_byte text ≡ None =
-      position_none (slice_range text 2 (length text - 1)) (λ k l. rw (get_or-between text 2 (length text - 1) k 0 (omega arith)) (p.bytes (2 + k) (omega arith) (omega arith))) in
+    position_none (slice_range text 2 (length text - 1)) (λ k l. rw (get_or-between text 2 (length text - 1) k 0 (omega arith)) (p.bytes (2 + k) (omega arith) (omega arith))) in
     let long : too_short text ≡ None = row_none _ _ (le-ltb _ _ p.long) in
     rw (framed, made, clean, long)

@@ -1,12 +1,12 @@
 -- A text is a message exactly where it has no fault, and of one content.
-use Rattle.std.proofs.Common.{◌≡◌, ◌≢◌, ℕ, ◌+◌, ◌/◌, ◌%◌, ◌<◌, ◌≤◌, ◌&&◌, List, get_or, ap, sym, ◌∙◌, arith, refl, subst, inl, inr, ◌⊎◌, None, Some, Ok, Err, ◌==◌, nat_le, lit<, ◌↔◌}
+use Rattle.std.proofs.Common.{◌≡◌, ℕ, ◌<◌, ◌≤◌, List, get_or, ap, sym, ◌∙◌, arith, refl, subst, inl, inr, None, Some, Ok, Err, lit<, ◌↔◌}
 use Rattle.std.specs.declared.result.Result.{Result}
 use Rattle.std.specs.Option.{option_or}
 use Rattle.std.specs.Result.{IsOk, IfOk, IfErr, IsOkAnd}
 use Rattle.std.proofs.lemmas.Bool.{cases_lt, cases_eq, eq-eqb, ne_eqb, le-leb, lt-leb, leb-false}
 use Rattle.sysex_frame.specs.Frame.{IsFrame, Content, VoiceDump, CartridgeDump, ParamChange, OtherChange, DumpRequest, content_of}
 use Rattle.sysex_frame.specs.FrameFault.{substatus, device, format, group, number, payload, unknown_substatus, first_fault, early_fault, later_fault}
-use Rattle.sysex_frame.specs.Reading.{dump, change, reading, Answers}
+use Rattle.sysex_frame.specs.Reading.{reading, Answers}
 use Rattle.sysex_frame.specs.declared.frame.Frame.{Frame}
 use Rattle.sysex_frame.specs.declared.frame.FrameFault.{FrameFault}
 use Rattle.sysex_frame.proofs.Facts.{none_parts, row_free, by_parts, IsPlain, plain_from_none, none_from_plain}
@@ -38,9 +38,9 @@ sound_change : (text : List ℕ) → IsChangeText text → IsFrame text (reading
 sound_change text d =
     elim (cases_eq (group text) 0) [
       | inl g ↦ elim (cases_lt 155 (number text)) [
-          | inl l ↦ subst (IsFrame text) (sym (reads_other text d.kind (λ _. l))) (other_frame text d (λ _. l))
-          | inr r ↦ subst (IsFrame text) (sym (reads_param text d.kind g r)) (param_frame text d g r)
-        ]
+        | inl l ↦ subst (IsFrame text) (sym (reads_other text d.kind (λ _. l))) (other_frame text d (λ _. l))
+        | inr r ↦ subst (IsFrame text) (sym (reads_param text d.kind g r)) (param_frame text d g r)
+      ]
       | inr ne ↦ subst (IsFrame text) (sym (reads_other text d.kind (λ g. absurd (ne g)))) (other_frame text d (λ g. absurd (ne g)))
     ]
 
@@ -52,13 +52,13 @@ sound text h =
     let kind : substatus text < 3 = leb-false _ _ (row_free _ _ kinds.0) in
     elim (cases_eq (substatus text) 0) [
       | inl zero_kind ↦ elim (dump_from_none text plain zero_kind parts.1) [
-          | inl d ↦ subst (IsFrame text) (sym (reads_voice text d.kind d.form_is)) (dump_frame text 0 0x01 0x1B 155 d)
-          | inr d ↦ subst (IsFrame text) (sym (reads_cartridge text d.kind d.form_is)) (dump_frame text 9 0x20 0x00 4096 d)
-        ]
+        | inl d ↦ subst (IsFrame text) (sym (reads_voice text d.kind d.form_is)) (dump_frame text 0 0x01 0x1B 155 d)
+        | inr d ↦ subst (IsFrame text) (sym (reads_cartridge text d.kind d.form_is)) (dump_frame text 9 0x20 0x00 4096 d)
+      ]
       | inr not_zero ↦ elim (cases_eq (substatus text) 1) [
-          | inl one_kind ↦ sound_change text (change_from_none text plain one_kind parts.1)
-          | inr not_one ↦ (let two : substatus text ≡ 2 = omega arith in subst (IsFrame text) (sym (reads_request text two)) (request_frame text plain two))
-        ]
+        | inl one_kind ↦ sound_change text (change_from_none text plain one_kind parts.1)
+        | inr not_one ↦ (let two : substatus text ≡ 2 = omega arith in subst (IsFrame text) (sym (reads_request text two)) (request_frame text plain two))
+      ]
     ]
 
 -- ---- a message has no fault, and reads as its content
@@ -114,6 +114,6 @@ answer_frame text (Ok f) a = subst (IsFrame text) (sym (a.1)) (sound text a.0)
 answer_frame text (Err e) a = tt
 
 pub answer_only :
-  (text : List ℕ) (r : Result Frame FrameFault) → Answers r (first_fault text) (reading text) → (content : Content) → IsFrame text content → IsOkAnd r (λ frame. content_of frame ≡ content)
+    (text : List ℕ) (r : Result Frame FrameFault) → Answers r (first_fault text) (reading text) → (content : Content) → IsFrame text content → IsOkAnd r (λ frame. content_of frame ≡ content)
 answer_only text (Ok f) a content h = a.1 ∙ (complete text content h).1
 answer_only text (Err e) a content h = let free = (complete text content h).0 in absurd (cc (a, free))

@@ -1,6 +1,6 @@
 pub mod Payloads
 pub mod Facts
-pub mod Tests
+pub mod Conditions
 pub mod Shapes
 pub mod Dumps
 pub mod Changes

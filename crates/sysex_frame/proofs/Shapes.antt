@@ -1,8 +1,8 @@
 -- A list by its first places and its last, and texts that are spelled out.
-use Rattle.std.proofs.Common.{◌≡◌, ◌≢◌, ℕ, zero, suc, ◌+◌, ◌-◌, ◌<◌, ◌≤◌, List, [], ◌∷◌, ◌++◌, length, get_or, take, drop, ap, sym, ◌∙◌, arith, refl, subst, length-append, append_assoc, inl, inr}
+use Rattle.std.proofs.Common.{◌≡◌, ℕ, zero, suc, ◌+◌, ◌-◌, ◌<◌, ◌≤◌, List, [], ◌∷◌, ◌++◌, length, get_or, take, drop, ap, sym, ◌∙◌, arith, refl, length-append, append_assoc, inl, inr}
 use Rattle.std.specs.List.{slice_range}
 use Rattle.std.proofs.lemmas.Bool.{cases_lt}
-use Rattle.std.proofs.lemmas.List.{take_more, take_all, length-drop, get_or-drop, get_or_append_left, get_or_at, get_or-append_right, take_at}
+use Rattle.std.proofs.lemmas.List.{take_more, take_all, length-drop, get_or-drop, get_or_append_left, get_or_at, get_or-append_right}
 use Rattle.std.proofs.lemmas.List.Edits.{length-between, get_or-between}
 use Rattle.sysex_frame.specs.Frame.{IsData}
 use Rattle.sysex_frame.proofs.Facts.{IsPlain}
@@ -14,7 +14,7 @@ heads_3 (a ∷ []) h = absurd (omega (arith, h))
 heads_3 (a ∷ b ∷ []) h = absurd (omega (arith, h))
 
 pub heads_6 :
-  (xs : List ℕ) → 6 ≤ length xs → xs ≡ get_or xs 0 0 ∷ get_or xs 1 0 ∷ get_or xs 2 0 ∷ get_or xs 3 0 ∷ get_or xs 4 0 ∷ get_or xs 5 0 ∷ drop 6 xs
+    (xs : List ℕ) → 6 ≤ length xs → xs ≡ get_or xs 0 0 ∷ get_or xs 1 0 ∷ get_or xs 2 0 ∷ get_or xs 3 0 ∷ get_or xs 4 0 ∷ get_or xs 5 0 ∷ drop 6 xs
 heads_6 (a ∷ b ∷ c ∷ d ∷ e ∷ f ∷ rest) h = refl
 heads_6 [] h = absurd (omega (arith, h))
 heads_6 (a ∷ []) h = absurd (omega (arith, h))
@@ -51,7 +51,7 @@ tail_two xs n h =
     let more : take (k + 1) rest ≡ take k rest ++ get_or rest k 0 ∷ [] = take_more rest k 0 (omega arith) in
     let at : get_or rest k 0 ≡ get_or xs (length xs - 2) 0 = get_or-drop n xs k 0 ∙ ap (λ j. get_or xs j 0) (omega arith) in
     let front : slice_range xs n (length xs - 1) ≡ take k rest ++ get_or xs (length xs - 2) 0 ∷ [] =
-      ap (λ m. take m rest) (let e : length xs - 1 - n ≡ k + 1 = omega arith in e) ∙ (more ∙ ap (λ x. take k rest ++ x ∷ []) at) in
+    ap (λ m. take m rest) (let e : length xs - 1 - n ≡ k + 1 = omega arith in e) ∙ (more ∙ ap (λ x. take k rest ++ x ∷ []) at) in
     tail_end xs n (omega arith) ∙ (ap (λ ys. ys ++ get_or xs (length xs - 1) 0 ∷ []) front ∙ append_assoc (take k rest) (get_or xs (length xs - 2) 0 ∷ []) (get_or xs (length xs - 1) 0 ∷ []))
 
 -- a part of the data bytes

@@ -1,5 +1,5 @@
 -- What a text without a fault holds, by its places.
-use Rattle.std.specs.Prelude.{ℕ, ◌≡◌, Bool, ◌&&◌, nat_le, ◌==◌, if◌then◌else◌, List, slice_index, MatchResult}
+use Rattle.std.specs.Prelude.{ℕ, ◌≡◌, ◌&&◌, nat_le, ◌==◌, if◌then◌else◌, List, slice_index, MatchResult}
 use Rattle.std.specs.declared.option.Option.{Option}
 use Rattle.std.specs.declared.option.Option.TheVariants.{None, Some}
 use Rattle.std.specs.declared.result.Result.{Result}

@@ -11,3 +11,6 @@ pub use frame::{Frame, FrameFault};
 pub use read::read_frame;
 pub use sums::checksum;
 pub use write::{write_param, write_voice};
+
+#[cfg(test)]
+mod tests;

@@ -188,9 +188,7 @@ pub fn read_frame(bytes: &[u8]) -> Result<Frame<'_>, FrameFault>
     ensures frame { IfOk result (λ frame. IsFrame bytes.now (content_of frame)) }
 
     // A message of this content is read as it.
-    ensures only {
-        (content : Content) → IsFrame bytes.now content → IsOkAnd result (λ frame. content_of frame ≡ content)
-    }
+    ensures only { (content : Content) → IsFrame bytes.now content → IsOkAnd result (λ frame. content_of frame ≡ content) }
 {
     let total = read_envelope(bytes)?;
     read_kind(bytes, total)

@@ -1,8 +1,6 @@
 -- Both answers are those of the whole table, and the laws do the rest.
 use Rattle.std.proofs.Common.{Err}
 use Rattle.std.proofs.lemmas.Result.{err_from_is_err_and}
-use Rattle.sysex_frame.specs.FrameFault.{first_fault}
-use Rattle.sysex_frame.specs.Reading.{Answers, reading}
 use Rattle.sysex_frame.proofs.Laws.{early_first, late_answers, answer_fault, answer_faultless, answer_frame, answer_only}
 use Rattle.sysex_frame.proofs.read.read_frame.Goals as goal
 

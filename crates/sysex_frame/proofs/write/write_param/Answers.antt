@@ -1,5 +1,5 @@
 -- The array is the message, written out.
-use Rattle.std.proofs.Common.{◌≤◌, arith, refl}
+use Rattle.std.proofs.Common.{arith, refl}
 use Rattle.sysex_frame.proofs.Laws.{frame_unique}
 use Rattle.sysex_frame.proofs.write.write_param.Goals as goal
 

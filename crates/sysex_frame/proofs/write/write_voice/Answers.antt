@@ -1,8 +1,6 @@
 -- The array is the message, written out.
-use Rattle.std.proofs.Common.{◌≡◌, ℕ, ◌<◌, ◌≤◌, length, get_or, arith, refl}
-use Rattle.voice_record.specs.Voice.{IsVoice}
+use Rattle.std.proofs.Common.{◌<◌, arith}
 use Rattle.voice_record.proofs.Voices.{greatest_small}
-use Rattle.sysex_frame.specs.Frame.{IsData}
 use Rattle.sysex_frame.proofs.Laws.{frame_unique}
 use Rattle.sysex_frame.proofs.write.write_voice.Goals as goal
 
