@@ -29,4 +29,6 @@ pub use wav::{wav_block, wav_header};
 pub use words::Request;
 
 #[cfg(test)]
+mod one_byte;
+#[cfg(test)]
 mod tests;

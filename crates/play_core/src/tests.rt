@@ -1,4 +1,5 @@
 use super::*;
+use crate::one_byte::OneByteShelf;
 use outside::{MemOut, MemShelf, SureShelf};
 use std::alloc::{AllocError, Global};
 use std::test::Fail;
@@ -159,5 +160,31 @@ fn many_notes_are_played(rt: HostRuntime) -> Result<(), Fail> {
     let mut out = MemOut::new(alloc, &[])?;
     assert_eq!(rt; play_surely(alloc, &words, &mut shelf, &mut out), 0);
     assert_eq!(rt; out.bytes(), b"ok blocks 20196 commands 4000\n".as_slice());
+    Ok(())
+}
+
+#[test]
+fn each_append_may_fail_or_take_one_byte(rt: HostRuntime) -> Result<(), Fail> {
+    let alloc = rt.alloc();
+    let script = b"midi 1\n0 on 0 69 100\n5 off 0 69\n";
+    let words = words_of(alloc, &["o.wav", "o.txt", "8", "-", "a.txt"])?;
+    let cases: [(&[u64], u8, usize); 3] = [(&[], 0, 1068), (&[4], 3, 0), (&[5], 3, 1068)];
+    for (fails, status, written) in cases {
+        let mut shelf = MemShelf::new(alloc, fails)?;
+        shelf.put_file(alloc, "a.txt", script)?;
+        let mut out = MemOut::new(alloc, &[])?;
+        assert_eq!(rt; play_main(alloc, &words, &mut shelf, &mut out), status);
+        assert_eq!(rt; shelf.file("o.wav").map_or(1, |file| file.len()), written);
+    }
+    let mut whole = MemShelf::new(alloc, &[])?;
+    whole.put_file(alloc, "a.txt", script)?;
+    let mut out = MemOut::new(alloc, &[])?;
+    assert_eq!(rt; play_main(alloc, &words, &mut whole, &mut out), 0);
+    let mut inner = MemShelf::new(alloc, &[])?;
+    inner.put_file(alloc, "a.txt", script)?;
+    let mut slow = OneByteShelf { inner };
+    assert_eq!(rt; play_main(alloc, &words, &mut slow, &mut out), 0);
+    assert!(rt; slow.inner.file("o.wav") == whole.file("o.wav"));
+    assert!(rt; slow.inner.file("o.txt") == whole.file("o.txt"));
     Ok(())
 }

@@ -77,7 +77,7 @@ wrong_count text =
     where_true
     (substatus text == 0
     && (nat_le 7 (length text)
-    && (format text == 0 && not (has_count text 0x01 0x1B) || format text == 9 && not (has_count text 0x20 0x00))))
+    && ((format text == 0 && not (has_count text 0x01 0x1B)) || (format text == 9 && not (has_count text 0x20 0x00)))))
     (CountBytes (slice_index text 4) (slice_index text 5))
 
 -- the length that a text has to have, or at least

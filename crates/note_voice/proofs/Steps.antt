@@ -1,0 +1,100 @@
+-- An operator of a note, from block to block and at its release.
+use Rattle.std.proofs.Common.{ℕ, ℤ, pos, negsuc, ◌+ℤ◌, ◌*ℤ◌, ◌+◌, ◌*◌, ◌%◌, ◌^◌, ◌<◌, ◌≡◌, ◌∙◌, ap, refl, sym, subst, add-one, List, [], ◌∷◌, ◌++◌, length, None, SFits, to_z, of_z, w32, unsigned_abs, length-append, ◌-◌, arith}
+use Rattle.std.specs.Int.{int_wrap}
+use Rattle.std.proofs.lemmas.Int.{ints, to_z-of_z, wrapping_add-bits, wrapping_mul_is, int_wrap-add_left, int_wrap-add_right, int_wrap_fits}
+use Rattle.std.proofs.Math.Seq.{get_or-append_seam}
+use Rattle.dx_tables.specs.Numbers.{wrap}
+use Rattle.block_rates.specs.declared.envelope.Envelope.{Envelope}
+use Rattle.block_rates.specs.Levels.{EnvelopeSettings, envelope_level}
+use Rattle.block_rates.specs.Stages.{released_after}
+use Rattle.block_rates.specs.Envelopes.{IsEnvelope}
+use Rattle.key_scale.specs.Levels.{output_level, rate_scale_of}
+use Rattle.operator_kernel.specs.declared.OpBlock.{OpBlock}
+use Rattle.note_voice.specs.Modulation.{Modulation, gain_of}
+use Rattle.note_voice.specs.Note.{NoteData, begun, let_go, heard, moved_in, played_note, four_from, settings_at, envelope_settings, step_in, steps_before, drop_in, gain_after, gain_before, operator_in}
+use Rattle.note_voice.specs.Running.{IsRunning}
+use Rattle.note_voice.proofs.Prefix.{agrees_let_go, agrees_heard, steps_same, gain_before_same}
+
+-- the past grows by one
+pub length_more : (n : NoteData) (m : Modulation) → length (n.past ++ m ∷ []) ≡ length n.past + 1
+length_more n m = length-append n.past (m ∷ [])
+
+-- what moved the last block
+pub moved_last : (n : NoteData) (m : Modulation) → moved_in (n.past ++ m ∷ []) (length n.past) ≡ m
+moved_last n m = get_or-append_seam n.past m [] _
+
+steps_more : (n : NoteData) (operator i : ℕ) → steps_before n operator (i + 1) ≡ steps_before n operator i +ℤ step_in n operator i
+unfolding steps_before
+steps_more n operator i = rw add-one
+
+gain_more : (n : NoteData) (operator i : ℕ) → gain_before n operator (i + 1) ≡ gain_after n operator i
+unfolding gain_before
+gain_more n operator i = rw add-one
+
+-- the envelope of an operator that begins
+pub envelope_begun : (voice : List ℕ) (switch key velocity operator : ℕ) (note : ℤ) (rates levels : List ℕ) (out scale : ℤ) (e : Envelope) → note ≡ played_note voice key → rates ≡ four_from voice (21 * (6 - operator)) → levels ≡ four_from voice (21 * (6 - operator) + 4) → out ≡ output_level voice operator note velocity → scale ≡ pos (rate_scale_of voice operator note) → IsEnvelope e (record { rates = rates; levels = levels; out = unsigned_abs out; rate_scale = unsigned_abs scale }) 0 None → IsEnvelope e (envelope_settings (begun voice switch key velocity) operator) 0 None
+unfolding envelope_settings
+envelope_begun voice switch key velocity operator note rates levels out scale e en er el eo es h =
+    let P : EnvelopeSettings → Type 0 = λ s. IsEnvelope e s 0 None in
+    let same : ◌≡◌ {A = EnvelopeSettings} (record { rates = rates; levels = levels; out = unsigned_abs out; rate_scale = unsigned_abs scale }) (settings_at voice operator note velocity) = rw (er, el, eo, es) refl in
+    subst P (same ∙ ap (λ z. settings_at voice operator z velocity) en) h
+
+-- the first block begins at phase 0 and gain 0
+pub running_at_start : (voice : List ℕ) (switch key velocity operator : ℕ) (e : Envelope) → IsEnvelope e (envelope_settings (begun voice switch key velocity) operator) 0 None → IsRunning (pos 0) (pos 0) e operator (begun voice switch key velocity)
+unfolding steps_before gain_before
+running_at_start voice switch key velocity operator e h = record {
+  phase_is = sym (int_wrap_fits w32 (pos 0) (record { sfits = omega arith }));
+  gain_is = refl;
+  envelope_is = h;
+}
+
+pub running_let_go : (phase gain : ℤ) (e e' : Envelope) (operator : ℕ) (n : NoteData) → IsRunning phase gain e operator n → IsEnvelope e' (envelope_settings n operator) (length n.past) (released_after (length n.past) n.off) → IsRunning phase gain e' operator (let_go n)
+unfolding envelope_settings
+running_let_go phase gain e e' operator n r h = record {
+  phase_is = r.phase_is ∙ ap (λ z. wrap (pos 64 *ℤ z)) (sym (steps_same _ n _ _ operator (length n.past) (agrees_let_go n) (omega arith)));
+  gain_is = r.gain_is ∙ sym (gain_before_same _ n _ _ operator (length n.past) (agrees_let_go n) (omega arith));
+  envelope_is = h;
+}
+
+-- 64 more steps of the phase
+phase_moved : (s f : ℤ) → int_wrap w32 (int_wrap w32 (pos 64 *ℤ s) +ℤ int_wrap w32 (f *ℤ pos 64)) ≡ wrap (pos 64 *ℤ (s +ℤ f))
+phase_moved s f =
+    let e : pos 64 *ℤ s +ℤ f *ℤ pos 64 ≡ pos 64 *ℤ (s +ℤ f) = omega (arith, ints) in
+    int_wrap-add_left w32 (pos 64 *ℤ s) _ ∙ int_wrap-add_right w32 (pos 64 *ℤ s) (f *ℤ pos 64) ∙ ap (int_wrap w32) e
+
+of_z_small : (z : ℤ) → SFits w32 z → of_z w32 z < 2 ^ 32
+of_z_small (pos n) h = omega arith
+of_z_small (negsuc n) h = omega arith
+
+-- the phase as the code's wrapping calls compute it
+pub phase_bits : (p f : ℤ) → SFits w32 p → SFits w32 f → to_z w32 ((of_z w32 p + of_z w32 f * 64 % 4294967296) % 4294967296) ≡ int_wrap w32 (p +ℤ int_wrap w32 (f *ℤ pos 64))
+phase_bits p f hp hf =
+    let m : to_z w32 (of_z w32 f * 64 % 4294967296) ≡ int_wrap w32 (f *ℤ pos 64) = wrapping_mul_is w32 f (pos 64) hf (record { sfits = omega arith }) in
+    let x = of_z w32 f * 64 % 4294967296 in
+    wrapping_add-bits w32 (of_z w32 p) x (of_z_small p hp) (omega arith) ∙ ap (λ z. int_wrap w32 (z +ℤ to_z w32 x)) (to_z-of_z w32 p hp) ∙ ap (λ z. int_wrap w32 (p +ℤ z)) m
+
+-- the gain that the code computes from the envelope's level and the drop
+pub gain_is : (n : NoteData) (m : Modulation) (operator : ℕ) (level drop r : ℤ) → r ≡ gain_of level drop → level ≡ pos (envelope_level (envelope_settings n operator) (length n.past + 1) n.off) → drop ≡ drop_in (heard n m) operator (length n.past) → r ≡ gain_after (heard n m) operator (length n.past)
+unfolding gain_after envelope_settings
+gain_is n m operator level drop r e l d = e ∙ ap (λ z. gain_of z drop) l ∙ ap (gain_of _) d
+
+pub running_heard : (phase phase' step gain gain' : ℤ) (e e' : Envelope) (operator : ℕ) (n : NoteData) (m : Modulation) → IsRunning phase gain e operator n → step ≡ step_in (heard n m) operator (length n.past) → phase' ≡ int_wrap w32 (phase +ℤ int_wrap w32 (step *ℤ pos 64)) → gain' ≡ gain_after (heard n m) operator (length n.past) → IsEnvelope e' (envelope_settings n operator) (length n.past + 1) n.off → IsRunning phase' gain' e' operator (heard n m)
+unfolding envelope_settings
+running_heard phase phase' step gain gain' e e' operator n m r s p g h =
+    let k = length n.past in
+    let P : ℕ → Type 0 = λ i. IsEnvelope e' (envelope_settings n operator) i n.off in
+    let before : steps_before n operator k ≡ steps_before (heard n m) operator k = sym (steps_same k n _ _ operator k (agrees_heard n m) (omega arith)) in
+    record {
+      phase_is = p ∙ rw (r.phase_is, s) (phase_moved (steps_before n operator k) (step_in (heard n m) operator k)) ∙ ap (λ z. wrap (pos 64 *ℤ z)) (ap (λ z. z +ℤ step_in (heard n m) operator k) before ∙ sym (steps_more (heard n m) operator k) ∙ ap (steps_before (heard n m) operator) (sym (length_more n m)));
+      gain_is = g ∙ sym (gain_more (heard n m) operator k) ∙ ap (gain_before (heard n m) operator) (sym (length_more n m));
+      envelope_is = subst P (sym (length_more n m)) h;
+    }
+
+-- the operator of the next block, from what is kept
+pub operator_is : (phase step gain gain' : ℤ) (e : Envelope) (operator : ℕ) (n : NoteData) (m : Modulation) → IsRunning phase gain e operator n → step ≡ step_in (heard n m) operator (length n.past) → gain' ≡ gain_after (heard n m) operator (length n.past) →
+    ◌≡◌ {A = OpBlock} (record { phase = phase; freq = step; g1 = gain; g2 = gain' }) (operator_in (heard n m) operator (length n.past))
+operator_is phase step gain gain' e operator n m r s g =
+    let k = length n.past in
+    let ep : phase ≡ wrap (pos 64 *ℤ steps_before (heard n m) operator k) = r.phase_is ∙ ap (λ z. wrap (pos 64 *ℤ z)) (sym (steps_same k n _ _ operator k (agrees_heard n m) (omega arith))) in
+    let eg : gain ≡ gain_before (heard n m) operator k = r.gain_is ∙ sym (gain_before_same k n _ _ operator k (agrees_heard n m) (omega arith)) in
+    rw (ep, s, eg, g)

@@ -1,0 +1,37 @@
+-- A sum of notes grows sample by sample, and stays far from the ends of 64 bits.
+use Rattle.std.proofs.Common.{ℕ, ℤ, pos, ◌+ℤ◌, refl, List, length, get_or, set, ◌+◌, ◌^◌, ◌<◌, ◌≤◌, ◌≢◌, ◌≡◌, ◌∙◌, ap, arith, below_more, get_or-set_other, get_or-set_same, length-set, SFits, w32, w64, unsigned_abs}
+use Rattle.dx_tables.proofs.Ranges.{abs_Within, Within_abs, Within-add, Within_from_fits32, fits_from_Within}
+use Rattle.note_voice.specs.Mix.{IsAdded, IsSmall}
+
+-- the first n samples are added, and the others are as before
+pub record IsAddedUpTo (n : ℕ) (y : ℕ → ℤ) (old new : List ℤ) : Type 0 where
+  pub len : length new ≡ 64
+  pub done : (j : ℕ) → j < n → get_or new j (pos 0) ≡ get_or old j (pos 0) +ℤ y j
+  pub rest : (j : ℕ) → n ≤ j → get_or new j (pos 0) ≡ get_or old j (pos 0)
+
+pub IsAddedUpTo-none : (y : ℕ → ℤ) (xs : List ℤ) → length xs ≡ 64 → IsAddedUpTo 0 y xs xs
+IsAddedUpTo-none y xs e = record { len = e; done = λ j lt. absurd (omega (arith, lt)); rest = λ j le. refl }
+
+pub IsAddedUpTo-next : (n : ℕ) (y : ℕ → ℤ) (old new : List ℤ) (v : ℤ) → n < 64 → IsAddedUpTo n y old new → v ≡ get_or old n (pos 0) +ℤ y n → IsAddedUpTo (n + 1) y old (set new n v)
+IsAddedUpTo-next n y old new v lt m e = record {
+  len = simp length-set m.len;
+  done = below_more _ _
+      (λ j h. let ne : j ≢ n = omega arith in rw get_or-set_other (m.done j h))
+      (let l : n < length new = rw m.len lt in rw get_or-set_same e);
+  rest = λ j le. let ne : j ≢ n = omega arith in rw get_or-set_other (m.rest j (omega arith));
+}
+
+pub IsAddedUpTo-all : (n : ℕ) (y : ℕ → ℤ) (old new : List ℤ) → 64 ≤ n → IsAddedUpTo n y old new → IsAdded y old new
+IsAddedUpTo-all n y old new le m = record { len = m.len; sample = λ j lt. m.done j (omega arith) }
+
+-- a small sum and a note's sample fit 64 bits together
+pub sum_fits : (x y : ℤ) → unsigned_abs x ≤ 2 ^ 40 → SFits w32 y → SFits w64 (x +ℤ y)
+sum_fits x y h f = fits_from_Within w64 _ _ (Within-add (2 ^ 40) (2 ^ 31) x y (abs_Within _ _ h) (Within_from_fits32 y f)) (omega arith)
+
+-- a sum that grew by samples of 32 bits
+pub IsAdded-small : (y : ℕ → ℤ) (old new : List ℤ) (b : ℕ) → IsAdded y old new → ((j : ℕ) → j < 64 → SFits w32 (y j)) → IsSmall b old → IsSmall (b + 2 ^ 31) new
+IsAdded-small y old new b m f s = λ j lt. rw (m.sample j lt) (Within_abs _ _ (Within-add b (2 ^ 31) _ _ (abs_Within _ _ (s j lt)) (Within_from_fits32 (y j) (f j lt))))
+
+-- the same samples under another name
+pub IsAdded-same : (y y' : ℕ → ℤ) (old new : List ℤ) → IsAdded y old new → ((j : ℕ) → j < 64 → y j ≡ y' j) → IsAdded y' old new
+IsAdded-same y y' old new m e = record { len = m.len; sample = λ j lt. m.sample j lt ∙ ap (λ z. get_or old j (pos 0) +ℤ z) (e j lt) }

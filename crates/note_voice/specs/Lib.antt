@@ -1,0 +1,5 @@
+pub mod Mix
+pub mod Modulation
+pub mod Note
+pub mod Running
+pub mod Opening

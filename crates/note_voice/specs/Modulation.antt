@@ -1,0 +1,50 @@
+-- What moves the pitch and the gain of a note in a block: the oscillator of all notes, the pitch bend and the modulation wheel.
+use Rattle.std.specs.Prelude.{ℕ, ◌*◌, ◌/◌, ◌^◌, max, List, slice_index, ℤ, pos, ◌+ℤ◌, ◌-ℤ◌, ◌*ℤ◌}
+use Rattle.std.specs.Int.{int_shr, int_max}
+use Rattle.dx_tables.specs.Constants.{pitch_sensitivity, amplitude_sensitivity}
+use Rattle.dx_tables.specs.Powers.{exponential}
+use Rattle.key_scale.specs.Operator.{operator_field}
+
+-- the oscillator's value and how far its delay has gone, 2 ^ 24 for the whole, the pitch bend, 8192 for none, and the wheel
+pub record Modulation : Type 0 where
+  pub lfo : ℤ
+  pub delay : ℕ
+  pub bend : ℕ
+  pub wheel : ℕ
+
+-- a depth setting of a voice, 0 to 99, as a part of 256
+abbrev pub depth_part : ℕ → ℕ
+depth_part setting = 165 * setting / 2 ^ 6
+
+-- how deep the oscillator moves the pitch: as the voice has it once the delay is over, or as the wheel has it, whichever is deeper
+unfoldable pub vibrato_depth : ℕ → ℕ → ℕ → ℕ
+vibrato_depth setting delay wheel = max (depth_part setting * delay) (wheel * 2 ^ 25)
+
+-- what the oscillator adds to the pitch
+unfoldable pub vibrato : ℕ → ℕ → ℤ → ℤ
+vibrato depth sensitivity lfo = int_shr (pos depth *ℤ pos (pitch_sensitivity sensitivity) *ℤ (lfo -ℤ pos (2 ^ 23))) 39
+
+-- what the bend adds to the pitch: up to a quarter of an octave either way
+unfoldable pub bend_pitch : ℕ → ℤ
+bend_pitch bend = (pos bend -ℤ pos 8192) *ℤ pos 512
+
+-- what is added to the pitch of all operators of a voice, where the pitch envelope is at this level
+abbrev pub pitch_modulation : List ℕ → Modulation → ℤ → ℤ
+pitch_modulation voice m level =
+    level +ℤ vibrato (vibrato_depth (slice_index voice 139) m.delay m.wheel) (slice_index voice 143) m.lfo +ℤ bend_pitch m.bend
+
+-- how deep the oscillator moves the gain, in parts of 2 ^ 16
+unfoldable pub tremolo_depth : ℕ → ℕ → ℕ → ℕ
+tremolo_depth setting sensitivity delay = depth_part setting * amplitude_sensitivity sensitivity * delay / 2 ^ 24
+
+-- how far the oscillator takes a level down
+unfoldable pub tremolo : ℕ → ℤ → ℤ
+tremolo depth lfo = int_shr (pos depth *ℤ (pos (2 ^ 24) -ℤ lfo)) 13
+
+-- how far the level of an operator of a voice is taken down
+abbrev pub level_drop : List ℕ → ℕ → Modulation → ℤ
+level_drop voice operator m = tremolo (tremolo_depth (slice_index voice 140) (operator_field voice operator 14) m.delay) m.lfo
+
+-- the gain at a level of the envelope that is taken down by a drop; 14 octaves of level are a gain of 1.0
+unfoldable pub gain_of : ℤ → ℤ → ℤ
+gain_of level drop = exponential (int_max (pos 0) (level -ℤ drop) -ℤ pos (14 * 2 ^ 24))

@@ -1,0 +1,19 @@
+//! A note: six operators with their envelopes under an algorithm, block by block.
+#![tactic(auto)]
+
+mod mix;
+mod modulation;
+mod note;
+mod opening;
+mod operator;
+mod operators;
+mod settings;
+mod sounding;
+
+pub use note::Note;
+pub use opening::opening_is_plain;
+
+#[cfg(test)]
+mod plain;
+#[cfg(test)]
+mod tests;

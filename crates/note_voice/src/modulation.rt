@@ -1,0 +1,217 @@
+//! What the oscillator, the bend and the wheel do to pitch and gain.
+
+ghost use Rattle.std.specs.Prelude.{◌≡◌, ◌≤◌, ◌+◌, ◌*◌, ◌/◌, ◌^◌, pos, neg_ℤ, ◌≤ℤ◌, ◌*ℤ◌, ◌-ℤ◌, ◌+ℤ◌, slice_index};
+ghost use Rattle.std.specs.Int.{int_shr};
+ghost use Rattle.dx_tables.specs.Constants.{pitch_sensitivity, amplitude_sensitivity};
+ghost use Rattle.note_voice.specs.Modulation.{Modulation, depth_part, vibrato_depth, vibrato, bend_pitch, pitch_modulation, tremolo_depth, tremolo, level_drop};
+
+use crate::settings;
+use dx_tables::constants;
+use voice_record::Voice;
+
+/// A depth setting as a part of 256.
+fn depth_part(setting: u8) -> u32
+    requires { setting ≤ 99 }
+    ensures value { result ≡ depth_part setting }
+    ensures high { result ≤ 255 }
+{
+    (165 * u32::from(setting)) >> 6
+}
+
+/// A part of 256 of a delay.
+fn part_of_delay(part: u32, delay: u32) -> u64
+    requires part { part ≤ 255 }
+    requires delay { delay ≤ 2 ^ 24 }
+    ensures value { result ≡ part * delay }
+    ensures high { result ≤ 255 * 2 ^ 24 }
+{
+    u64::from(part) * u64::from(delay)
+}
+
+/// How deep the oscillator moves the pitch.
+#[tactic(auto, unfolding(crate::specs::Modulation::vibrato_depth))]
+fn vibrato_depth(setting: u8, delay: u32, wheel: u8) -> u64
+    requires setting { setting ≤ 99 }
+    requires delay { delay ≤ 2 ^ 24 }
+    requires wheel { wheel ≤ 127 }
+    ensures value { result ≡ vibrato_depth setting delay wheel }
+    ensures high { result ≤ 255 * 2 ^ 24 }
+{
+    part_of_delay(depth_part(setting), delay).max(u64::from(wheel) << 25)
+}
+
+/// A depth with a sensitivity.
+fn weighted(depth: u64, sensitivity: u8) -> i64
+    requires depth { depth ≤ 255 * 2 ^ 24 }
+    requires sensitivity { sensitivity ≤ 255 }
+    ensures value { result ≡ pos depth *ℤ pos sensitivity }
+    ensures low { pos 0 ≤ℤ result }
+    ensures high { result ≤ℤ pos (65025 * 2 ^ 24) }
+{
+    (depth * u64::from(sensitivity)) as i64
+}
+
+/// How far the oscillator is from its middle.
+fn from_middle(lfo: i32) -> i64
+    requires low { neg_ℤ (pos 64) ≤ℤ lfo }
+    requires high { lfo ≤ℤ pos (2 ^ 24 + 64) }
+    ensures value { result ≡ lfo -ℤ pos (2 ^ 23) }
+    ensures low { neg_ℤ (pos (2 ^ 23 + 64)) ≤ℤ result }
+    ensures high { result ≤ℤ pos (2 ^ 23 + 64) }
+{
+    i64::from(lfo) - 0x80_0000
+}
+
+/// A depth times a distance, in units of pitch.
+fn swing(depth: i64, distance: i64) -> i32
+    requires depth_low { pos 0 ≤ℤ depth }
+    requires depth_high { depth ≤ℤ pos (65025 * 2 ^ 24) }
+    requires low { neg_ℤ (pos (2 ^ 23 + 64)) ≤ℤ distance }
+    requires high { distance ≤ℤ pos (2 ^ 23 + 64) }
+    ensures value { result ≡ int_shr (depth *ℤ distance) 39 }
+    ensures low { neg_ℤ (pos (2 ^ 24)) ≤ℤ result }
+    ensures high { result ≤ℤ pos (2 ^ 24) }
+{
+    ((depth * distance) >> 39) as i32
+}
+
+/// What the oscillator adds to the pitch.
+#[tactic(auto, unfolding(crate::specs::Modulation::vibrato))]
+fn vibrato(depth: u64, sensitivity: u8, lfo: i32) -> i32
+    requires depth { depth ≤ 255 * 2 ^ 24 }
+    requires sensitivity { sensitivity ≤ 7 }
+    requires lfo_low { neg_ℤ (pos 64) ≤ℤ lfo }
+    requires lfo_high { lfo ≤ℤ pos (2 ^ 24 + 64) }
+    ensures value { result ≡ vibrato depth sensitivity lfo }
+    ensures low { neg_ℤ (pos (2 ^ 24)) ≤ℤ result }
+    ensures high { result ≤ℤ pos (2 ^ 24) }
+{
+    swing(
+        weighted(depth, constants::pitch_sensitivity(sensitivity)),
+        from_middle(lfo),
+    )
+}
+
+/// What the bend adds to the pitch.
+#[tactic(auto, unfolding(crate::specs::Modulation::bend_pitch))]
+fn bend_pitch(bend: u16) -> i32
+    requires { bend ≤ 16383 }
+    ensures value { result ≡ bend_pitch bend }
+    ensures low { neg_ℤ (pos (2 ^ 22)) ≤ℤ result }
+    ensures high { result ≤ℤ pos (2 ^ 22) }
+{
+    (i32::from(bend) - 8192) * 512
+}
+
+/// What is added to the pitch of all operators, where the pitch envelope is at a level. 2^24 is one octave.
+pub(crate) fn pitch_modulation(
+    voice: &Voice,
+    level: i32,
+    lfo: i32,
+    delay: u32,
+    bend: u16,
+    wheel: u8,
+) -> i32
+    requires level_low { neg_ℤ (pos 67108864) ≤ℤ level }
+    requires level_high { level ≤ℤ pos 67108864 }
+    requires lfo_low { neg_ℤ (pos 64) ≤ℤ lfo }
+    requires lfo_high { lfo ≤ℤ pos (2 ^ 24 + 64) }
+    requires delay { delay ≤ 2 ^ 24 }
+    requires bend { bend ≤ 16383 }
+    requires wheel { wheel ≤ 127 }
+    ensures value { result ≡ pitch_modulation voice.now (record { lfo = lfo; delay = delay; bend = bend; wheel = wheel }) level }
+    ensures low { neg_ℤ (pos (2 ^ 27)) ≤ℤ result }
+    ensures high { result ≤ℤ pos (2 ^ 27) }
+{
+    let depth = vibrato_depth(settings::pitch_depth(voice), delay, wheel);
+    let swing = vibrato(depth, settings::pitch_sensitivity(voice), lfo);
+    level + swing + bend_pitch(bend)
+}
+
+/// How deep the oscillator moves the gain, in parts of 2^16.
+#[tactic(auto, unfolding(crate::specs::Modulation::tremolo_depth))]
+fn tremolo_depth(setting: u8, sensitivity: u8, delay: u32) -> u32
+    requires setting { setting ≤ 99 }
+    requires sensitivity { sensitivity ≤ 3 }
+    requires delay { delay ≤ 2 ^ 24 }
+    ensures value { result ≡ tremolo_depth setting sensitivity delay }
+    ensures high { result ≤ 65025 }
+{
+    let weight = weighted_part(
+        depth_part(setting),
+        constants::amplitude_sensitivity(sensitivity),
+    );
+    delayed(weight, delay)
+}
+
+/// A part of 256 with a sensitivity.
+fn weighted_part(part: u32, sensitivity: u8) -> u32
+    requires { part ≤ 255 }
+    ensures value { result ≡ part * sensitivity }
+    ensures high { result ≤ 65025 }
+{
+    part * u32::from(sensitivity)
+}
+
+/// A weight by how far a delay has gone.
+fn delayed(weight: u32, delay: u32) -> u32
+    requires weight { weight ≤ 65025 }
+    requires delay { delay ≤ 2 ^ 24 }
+    ensures value { result ≡ weight * delay / 2 ^ 24 }
+    ensures high { result ≤ 65025 }
+{
+    ((u64::from(weight) * u64::from(delay)) >> 24) as u32
+}
+
+/// How far the oscillator is from its top.
+fn from_top(lfo: i32) -> i64
+    requires low { neg_ℤ (pos 64) ≤ℤ lfo }
+    requires high { lfo ≤ℤ pos (2 ^ 24 + 64) }
+    ensures value { result ≡ pos (2 ^ 24) -ℤ lfo }
+    ensures low { neg_ℤ (pos 64) ≤ℤ result }
+    ensures high { result ≤ℤ pos (2 ^ 24 + 64) }
+{
+    0x100_0000 - i64::from(lfo)
+}
+
+/// A depth times a distance, in units of level.
+fn fall(depth: u32, distance: i64) -> i32
+    requires depth { depth ≤ 65025 }
+    requires low { neg_ℤ (pos 64) ≤ℤ distance }
+    requires high { distance ≤ℤ pos (2 ^ 24 + 64) }
+    ensures value { result ≡ int_shr (pos depth *ℤ distance) 13 }
+    ensures low { neg_ℤ (pos 509) ≤ℤ result }
+    ensures high { result ≤ℤ pos (2 ^ 27) }
+{
+    ((i64::from(depth) * distance) >> 13) as i32
+}
+
+/// How far the oscillator takes a level down.
+#[tactic(auto, unfolding(crate::specs::Modulation::tremolo))]
+fn tremolo(depth: u32, lfo: i32) -> i32
+    requires depth { depth ≤ 65025 }
+    requires lfo_low { neg_ℤ (pos 64) ≤ℤ lfo }
+    requires lfo_high { lfo ≤ℤ pos (2 ^ 24 + 64) }
+    ensures value { result ≡ tremolo depth lfo }
+    ensures low { neg_ℤ (pos 509) ≤ℤ result }
+    ensures high { result ≤ℤ pos (2 ^ 27) }
+{
+    fall(depth, from_top(lfo))
+}
+
+/// How far the level of an operator, 1 to 6, is taken down. 2^24 is one octave of gain.
+pub(crate) fn level_drop(voice: &Voice, operator: u8, lfo: i32, delay: u32) -> i32
+    requires operator { (1 ≤ operator) × (operator ≤ 6) }
+    requires lfo_low { neg_ℤ (pos 64) ≤ℤ lfo }
+    requires lfo_high { lfo ≤ℤ pos (2 ^ 24 + 64) }
+    requires delay { delay ≤ 2 ^ 24 }
+    ensures value { (m : Modulation) → m.lfo ≡ lfo → m.delay ≡ delay → result ≡ level_drop voice.now operator m }
+    ensures low { neg_ℤ (pos 509) ≤ℤ result }
+    ensures high { result ≤ℤ pos (2 ^ 27) }
+{
+    let sensitivity = settings::amplitude_sensitivity(voice, operator);
+    tremolo(
+        tremolo_depth(settings::amplitude_depth(voice), sensitivity, delay),
+        lfo,
+    )
+}

@@ -1,0 +1,78 @@
+ghost use Rattle.std.specs.Prelude.{◌≡◌, ◌≤◌, ◌^◌, ◌+◌, ℕ, length, pos, neg_ℤ, ◌≤ℤ◌, unsigned_abs};
+ghost use Rattle.note_voice.specs.Mix.{IsAdded, IsSmall};
+ghost use Rattle.note_voice.specs.Note.{NoteData, begun, let_go, heard, note_sample};
+
+use crate::mix::add;
+use crate::sounding::Sounding;
+use dx_tables::Tables;
+use voice_record::Voice;
+
+/// A note of six operators, or none. It sounds block by block, 64 samples at 44100 Hz each.
+#[derive(Clone, Copy)]
+pub struct Note {
+    sounding: Option<Sounding>,
+}
+
+impl Note {
+    ghost use Rattle.note_voice.specs.Running.{IsNote};
+
+    /// A note that is silent until it is started.
+    pub fn idle() -> Note
+        ensures { IsNote result None }
+    {
+        Note { sounding: None }
+    }
+
+    /// Begins a fresh note, with phases, gains, envelopes and feedback from the start: nothing of an earlier note stays.
+    /// Of the switch, 0 to 63, bit 5 is operator 1 and bit 0 operator 6. Keys are 0 to 127, velocities 1 to 127.
+    pub fn start(&mut self, tables: &Tables, voice: &Voice, switch: u8, key: u8, velocity: u8)
+        requires switch { switch ≤ 63 }
+        requires key { key ≤ 127 }
+        requires velocity { (1 ≤ velocity) × (velocity ≤ 127) }
+        ensures { IsNote self.new (Some (begun voice.now switch key velocity)) }
+    {
+        let _ = tables;
+        self.sounding = Some(Sounding::start(voice, switch, key, velocity));
+    }
+
+    /// Lets the key go. A second release does nothing, nor does one of an idle note.
+    pub fn release(&mut self)
+        ensures idle { IsNote self.old None → IsNote self.new None }
+        ensures released { (n : NoteData) → IsNote self.old (Some n) → IsNote self.new (Some (let_go n)) }
+    {
+        if let Some(sounding) = &mut self.sounding {
+            sounding.release();
+        }
+    }
+
+    /// Adds the 64 samples of the next block, 2^24 for full scale of an operator, to a sum of notes whose values are at
+    /// most 2^40 in size. The oscillator's value is -64 to 2^24 + 64 and its delay 0 to 2^24, the bend is 0 to 16383 with 8192 for
+    /// none, and the wheel is 0 to 127.
+    pub fn block(
+        &mut self,
+        tables: &Tables,
+        lfo: i32,
+        delay: i32,
+        bend: u16,
+        wheel: u8,
+        mix: &mut [i64; 64],
+    )
+        requires lfo_low { neg_ℤ (pos 64) ≤ℤ lfo }
+        requires lfo_high { lfo ≤ℤ pos (2 ^ 24 + 64) }
+        requires delay_low { pos 0 ≤ℤ delay }
+        requires delay_high { delay ≤ℤ pos (2 ^ 24) }
+        requires bend { bend ≤ 16383 }
+        requires wheel { wheel ≤ 127 }
+        requires mix { IsSmall (2 ^ 40) mix.old }
+        ensures samples { (n : NoteData) → IsNote self.old (Some n) → IsAdded (note_sample (heard n (record { lfo = lfo; delay = unsigned_abs delay; bend = bend; wheel = wheel })) (length n.past)) mix.old mix.new }
+        ensures passed { (n : NoteData) → IsNote self.old (Some n) → IsNote self.new (Some (heard n (record { lfo = lfo; delay = unsigned_abs delay; bend = bend; wheel = wheel }))) }
+        ensures idle { IsNote self.old None → mix.new ≡ mix.old }
+        ensures stays_idle { IsNote self.old None → IsNote self.new None }
+        ensures small { (bound : ℕ) → IsSmall bound mix.old → IsSmall (bound + 2 ^ 31) mix.new }
+    {
+        if let Some(sounding) = &mut self.sounding {
+            let bus = sounding.block(tables, lfo, delay as u32, bend, wheel);
+            add(&bus, mix);
+        }
+    }
+}

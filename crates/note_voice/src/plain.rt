@@ -1,0 +1,284 @@
+//! A note's definition as a plain program: each block is computed anew from the list of what moved the note.
+
+ghost use Rattle.std.specs.Prelude.{◌≤◌, ◌*◌, ◌+◌, ◌^◌, pos, neg_ℤ, ◌≤ℤ◌};
+
+use algorithm_bus::{feedback_operator, is_carrier, modulates};
+use dx_tables::Tables;
+use dx_tables::constants::{
+    AMPLITUDE_SENSITIVITY, LEVEL, PITCH_LEVEL, PITCH_RATE, PITCH_SENSITIVITY,
+};
+use key_scale::{operator_pitch, out_level, rate_scale};
+use voice_record::Voice;
+
+/// What moves a block.
+#[derive(Clone, Copy)]
+pub struct Moved {
+    pub lfo: i32,
+    pub delay: u32,
+    pub bend: u16,
+    pub wheel: u8,
+}
+
+/// What moves block `i`: the oscillator in jumps over its whole range, the delay in growth, bend and wheel at their ends
+/// and between.
+pub fn movement(i: u32) -> Moved
+    ensures lfo_low { neg_ℤ (pos 64) ≤ℤ result.lfo }
+    ensures lfo_high { result.lfo ≤ℤ pos (2 ^ 24 + 64) }
+    ensures delay { result.delay ≤ 2 ^ 24 }
+    ensures bend { result.bend ≤ 16383 }
+    ensures wheel { result.wheel ≤ 127 }
+{
+    let hash = i.wrapping_mul(2_654_435_761) >> 4;
+    Moved {
+        lfo: (hash % 16_777_345) as i32 - 64,
+        delay: i.min(16) * 1_048_576,
+        bend: (hash % 16_384) as u16,
+        wheel: if i % 3 == 0 { 0 } else { (hash % 128) as u8 },
+    }
+}
+
+/// A note as plain data, without the list of what moved it.
+#[derive(Clone, Copy)]
+pub struct PlainNote {
+    pub voice: Voice,
+    pub switch: u8,
+    pub key: u8,
+    pub velocity: u8,
+    pub off: u32,
+}
+
+/// An operator in a block.
+#[derive(Clone, Copy)]
+struct PlainOperator {
+    phase: i32,
+    step: i32,
+    before: i64,
+    after: i64,
+}
+
+fn number(voice: &Voice, place: usize) -> i64 {
+    let numbers = voice.bytes();
+    i64::from(numbers[place % 155])
+}
+
+/// The level of an operator's envelope at step `k`: one step after the other.
+fn level(voice: &Voice, place: usize, out: i64, scale: i64, k: u32, off: u32) -> i64 {
+    let mut level = 0i64;
+    let mut stage = 0usize;
+    for step in 0..k {
+        if step == off {
+            stage = 3;
+        }
+        let to = number(voice, place.wrapping_add(4).wrapping_add(stage));
+        let entry = i64::from(LEVEL[(to % 100).unsigned_abs() as usize % 100]);
+        let units = (entry >> 1).wrapping_mul(64).wrapping_add(out);
+        let target = units.wrapping_sub(4256).max(16).wrapping_mul(65_536);
+        let rate = number(voice, place.wrapping_add(stage)).wrapping_mul(41) >> 6;
+        let speed = rate.wrapping_add(scale).clamp(0, 63) as u32;
+        let moves = i64::from(4 + speed % 4).wrapping_mul(i64::from(256u32 << (speed / 4)));
+        if target > level {
+            let lifted = level.max(112_459_776);
+            let rest = 285_212_672i64.wrapping_sub(lifted) >> 24;
+            level = lifted.wrapping_add(rest.wrapping_mul(moves)).min(target);
+        } else {
+            level = level.wrapping_sub(moves).max(target);
+        }
+        if level == target && stage < 2 {
+            stage += 1;
+        }
+    }
+    level
+}
+
+/// The level of the pitch envelope at step `k`.
+fn pitch_level(voice: &Voice, k: u32, off: u32) -> i64 {
+    let mut level = pitch_target(voice, 3);
+    let mut stage = 0usize;
+    for step in 0..k {
+        if step == off {
+            stage = 3;
+        }
+        let target = pitch_target(voice, stage);
+        let rate = number(voice, stage.wrapping_add(126));
+        let moves = i64::from(PITCH_RATE[rate.unsigned_abs() as usize % 100]).wrapping_mul(1143);
+        level = if target > level {
+            level.wrapping_add(moves).min(target)
+        } else {
+            level.wrapping_sub(moves).max(target)
+        };
+        if level == target && stage < 2 {
+            stage += 1;
+        }
+    }
+    level
+}
+
+fn pitch_target(voice: &Voice, stage: usize) -> i64 {
+    let parameter = number(voice, stage.wrapping_add(130)).unsigned_abs() as usize % 100;
+    i64::from(PITCH_LEVEL[parameter]).wrapping_mul(524_288)
+}
+
+/// What is added to the pitch in block `i`.
+fn shift(note: &PlainNote, i: u32) -> i64 {
+    let m = movement(i);
+    let depth = number(&note.voice, 139).wrapping_mul(165) >> 6;
+    let by_delay = depth.wrapping_mul(i64::from(m.delay));
+    let deepest = by_delay.max(i64::from(m.wheel).wrapping_mul(33_554_432));
+    let sensitivity = number(&note.voice, 143).unsigned_abs() as usize % 8;
+    let weight = deepest.wrapping_mul(i64::from(PITCH_SENSITIVITY[sensitivity]));
+    let distance = i64::from(m.lfo).wrapping_sub(8_388_608);
+    let bend = i64::from(m.bend).wrapping_sub(8192).wrapping_mul(512);
+    pitch_level(&note.voice, i.wrapping_add(1), note.off)
+        .wrapping_add(weight.wrapping_mul(distance) >> 39)
+        .wrapping_add(bend)
+}
+
+/// How far the level of an operator is taken down in block `i`.
+fn drop(note: &PlainNote, operator: u8, i: u32) -> i64 {
+    let m = movement(i);
+    let depth = number(&note.voice, 140).wrapping_mul(165) >> 6;
+    let place = first_place(operator).wrapping_add(14);
+    let sensitivity = number(&note.voice, place).unsigned_abs() as usize % 4;
+    let weight = depth.wrapping_mul(i64::from(AMPLITUDE_SENSITIVITY[sensitivity]));
+    let delayed = weight.wrapping_mul(i64::from(m.delay)) >> 24;
+    let distance = 16_777_216i64.wrapping_sub(i64::from(m.lfo));
+    delayed.wrapping_mul(distance) >> 13
+}
+
+fn first_place(operator: u8) -> usize {
+    21 * (6 - operator.clamp(1, 6) as usize)
+}
+
+fn played(note: &PlainNote) -> i32
+    ensures low { neg_ℤ (pos 24) ≤ℤ result }
+    ensures high { result ≤ℤ pos 151 }
+{
+    let sum = i64::from(note.key)
+        .wrapping_add(number(&note.voice, 144))
+        .wrapping_sub(24);
+    sum.clamp(-24, 151) as i32
+}
+
+/// The gain of an operator at the end of block `k - 1`, and 0 before the first block.
+fn gain(tables: &Tables, note: &PlainNote, operator: u8, k: u32) -> i64 {
+    if k == 0 {
+        return 0;
+    }
+    let o = operator.clamp(1, 6);
+    let out = out_level(&note.voice, o, played(note), note.velocity.clamp(1, 127));
+    let scale = rate_scale(&note.voice, o, played(note));
+    let place = first_place(operator);
+    let level = level(
+        &note.voice,
+        place,
+        i64::from(out),
+        i64::from(scale),
+        k,
+        note.off,
+    );
+    let fallen = level.wrapping_sub(drop(note, operator, k - 1));
+    i64::from(tables.exp(fallen.clamp(0, 300_000_000) as i32 - 0xE00_0000))
+}
+
+fn step(tables: &Tables, note: &PlainNote, operator: u8, i: u32) -> i32 {
+    let pitch = operator_pitch(tables, &note.voice, operator.clamp(1, 6), played(note));
+    let sum = i64::from(pitch).wrapping_add(shift(note, i));
+    tables.freq(sum.clamp(-2_000_000_000, 2_000_000_000) as i32)
+}
+
+fn operator(tables: &Tables, note: &PlainNote, operator: u8, i: u32) -> PlainOperator {
+    let mut phase = 0i32;
+    for b in 0..i {
+        phase = phase.wrapping_add(step(tables, note, operator, b).wrapping_mul(64));
+    }
+    let is_on = (note.switch >> (6 - operator.clamp(1, 6))) % 2 == 1;
+    PlainOperator {
+        phase,
+        step: step(tables, note, operator, i),
+        before: if is_on {
+            gain(tables, note, operator, i)
+        } else {
+            0
+        },
+        after: if is_on {
+            gain(tables, note, operator, i.wrapping_add(1))
+        } else {
+            0
+        },
+    }
+}
+
+fn sample(tables: &Tables, op: &PlainOperator, j: i32, input: i32) -> i32 {
+    if op.before < 1120 && op.after < 1120 {
+        return 0;
+    }
+    let phase = op
+        .phase
+        .wrapping_add(op.step.wrapping_mul(j))
+        .wrapping_add(input);
+    let growth = op.after.wrapping_sub(op.before).wrapping_add(32) >> 6;
+    let now = op
+        .before
+        .wrapping_add(growth.wrapping_mul(i64::from(j).wrapping_add(1)));
+    let product = i64::from(tables.sin(phase)).wrapping_mul(now) >> 24;
+    i32::try_from(product).unwrap_or(0)
+}
+
+/// The 64 samples of block `i`, where the operator with feedback left two samples.
+pub fn block(tables: &Tables, note: &PlainNote, i: u32, memory: &mut [i32; 2]) -> [i32; 64] {
+    let mut ops = [PlainOperator {
+        phase: 0,
+        step: 0,
+        before: 0,
+        after: 0,
+    }; 7];
+    for o in 1..7u8 {
+        ops[o as usize] = operator(tables, note, o, i);
+    }
+    let algorithm = number(&note.voice, 134).clamp(0, 31) as u8;
+    let feedback = number(&note.voice, 135).clamp(0, 7) as u8;
+    let mut out = [0i32; 64];
+    for j in 0..64usize {
+        out[j] = sum(tables, &ops, algorithm, feedback, j as i32, memory);
+    }
+    out
+}
+
+/// One sample of a note by the set of edges.
+fn sum(
+    tables: &Tables,
+    ops: &[PlainOperator; 7],
+    algorithm: u8,
+    feedback: u8,
+    j: i32,
+    memory: &mut [i32; 2],
+) -> i32
+    requires algorithm { algorithm ≤ 31 }
+    requires feedback { feedback ≤ 7 }
+{
+    let mut samples = [0i32; 7];
+    let mut heard = 0i32;
+    for k in 0..6u8 {
+        let o = 6 - k;
+        let mut input = 0i32;
+        for m in 1..7u8 {
+            if modulates(algorithm, m, o) {
+                input = input.wrapping_add(samples[m as usize]);
+            }
+        }
+        let is_fed_back = feedback_operator(algorithm) == Some(o);
+        if is_fed_back && 0 < feedback {
+            let both = i64::from(memory[0]).wrapping_add(i64::from(memory[1]));
+            input = i32::try_from(both >> (9 - feedback)).unwrap_or(0);
+        }
+        let y = sample(tables, &ops[o as usize], j, input);
+        samples[o as usize] = y;
+        if is_fed_back {
+            *memory = [memory[1], y];
+        }
+        if is_carrier(algorithm, o) {
+            heard = heard.wrapping_add(y);
+        }
+    }
+    heard
+}
