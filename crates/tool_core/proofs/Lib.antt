@@ -1,0 +1,11 @@
+pub mod Streams
+pub mod Surveying
+pub mod Numbers
+pub mod Pieces
+pub mod Paging
+pub mod Tests
+pub mod Writings
+pub mod Judging
+pub mod Reports
+pub mod Endings
+pub mod Packs

@@ -1,0 +1,53 @@
+-- One more byte of a file.
+use Rattle.std.proofs.Common.{◌≡◌, ℕ, suc, ◌+◌, ◌<◌, ◌≤◌, List, [], ◌∷◌, ◌++◌, length, take, get_or, refl, sym, ◌∙◌, ap, subst, arith, add-one, length-append, if◌then◌else◌}
+use Rattle.std.specs.Prelude.{◌==◌, Option, Some, None, IfSome, slice_get, Bool, true, false, option_to_list}
+use Rattle.std.proofs.lemmas.Bool.{ltb-false}
+use Rattle.std.proofs.lemmas.Grind.{take_at_read}
+use Rattle.std.proofs.lemmas.Option.{slice_get_past, slice_get-get_or}
+use Rattle.std.proofs.Math.Seq.{get_or-append_seam}
+use Rattle.midi_stream.specs.declared.message.MidiMessage.{MidiMessage}
+use Rattle.midi_stream.specs.Messages.{messages, last_exclusive}
+use Rattle.midi_stream.specs.Standing.{Answers}
+use Rattle.tool_core.specs.Exclusives.{Exclusive, message_at, start_before, placed, is_exclusive, is_too_long, exclusive_at, exclusives_before}
+
+pub take_next : (file : List ℕ) (place byte : ℕ) → place < length file → get_or file place 0 ≡ byte → take (place + 1) file ≡ take place file ++ byte ∷ []
+take_next file place byte below is = (take_at_read file place 0 below).1 ∙ ap (λ (b : ℕ). take place file ++ b ∷ []) is
+
+answered : (r : Option MidiMessage) (before now : List MidiMessage) → Answers r before now → slice_get now (length before) ≡ r
+answered None before now e = slice_get_past now (length before) (let same : length now ≡ length before = ap length e in omega arith)
+answered (Some m) before now e =
+    rw e (slice_get-get_or (before ++ m ∷ []) (length before) m (let more : length (before ++ m ∷ []) ≡ length before + 1 = length-append before (m ∷ []) in omega arith)
+    ∙ ap (λ (x : MidiMessage). Some x) (get_or-append_seam before m [] m))
+
+pub message_told : (r : Option MidiMessage) (file : List ℕ) (place : ℕ) → Answers r (messages (take place file)) (messages (take (place + 1) file)) → message_at file place ≡ r
+unfolding message_at
+message_told r file place e = answered r (messages (take place file)) (messages (take (place + 1) file)) e
+
+pub start_next : (file : List ℕ) (place : ℕ) → start_before file (place + 1) ≡ (if get_or file place 0 == 240 then place else start_before file place)
+unfolding start_before
+start_next file place = rw add-one refl
+
+pub exclusives_next : (file : List ℕ) (place : ℕ) → exclusives_before file (place + 1) ≡ exclusives_before file place ++ option_to_list (exclusive_at file place)
+unfolding exclusives_before
+exclusives_next file place = rw add-one refl
+
+chosen_text : (t : Bool) (place : ℕ) (text : Option (List ℕ)) (e : Exclusive)
+    → (if t then Rattle.std.specs.Prelude.option_map (λ bytes. record { place = place; text = bytes }) text else None) ≡ Some e → text ≡ Some e.text
+chosen_text true place None e h = absurd (cc)
+chosen_text true place (Some bytes) e h = let is : record { place = place; text = bytes } ≡ e = cc in ap (λ (x : Exclusive). Some x.text) is
+chosen_text false place text e h = absurd (cc)
+
+pub placed_text : (m : Option MidiMessage) (place : ℕ) (text : Option (List ℕ)) (e : Exclusive) → placed m place text ≡ Some e → text ≡ Some e.text
+placed_text None place text e h = absurd (cc)
+placed_text (Some m) place text e h = chosen_text (is_exclusive m) place text e h
+
+pub exclusive_text : (file : List ℕ) (place : ℕ) (e : Exclusive) → exclusive_at file place ≡ Some e → last_exclusive (take (place + 1) file) ≡ Some e.text
+unfolding exclusive_at
+exclusive_text file place e h = placed_text (message_at file place) (start_before file place) (last_exclusive (take (place + 1) file)) e h
+
+pub kept_text : (text : Option (List ℕ)) (e : Exclusive) (kept : List ℕ) → text ≡ Some e.text → is_too_long e ≡ false
+    → IfSome text (λ bytes. length bytes ≤ 5000 → kept ≡ bytes) → kept ≡ e.text
+kept_text text e kept is short h =
+    let at : length e.text ≤ 5000 → kept ≡ e.text = rw is at h in
+    let fits : length e.text ≤ 5000 = ltb-false 5000 (length e.text) short in
+    at fits

@@ -1,0 +1,55 @@
+-- The one file that is written.
+use Rattle.std.proofs.Common.{◌≡◌, ◌≢◌, inl, inr, ℕ, List, [], ◌++◌, length, take, refl, sym, ◌∙◌, ap}
+use Rattle.std.specs.Prelude.{Option, Some, None, option_map, is_some, IfSome, true, false}
+use Rattle.std.specs.FinMap.{get, insert}
+use Rattle.std.proofs.Math.Seq.{take-length}
+use Rattle.outside.specs.Files.{Files, created, appended, Lacks, AppendedSome}
+use Rattle.outside.proofs.Shelves.{get-insert_same, get-insert_other, appended_created, then_mapped, mapped_alike}
+use Rattle.tool_core.specs.Outcomes.{BeginsOut}
+
+-- the files with the bytes under the name
+abbrev pub with_out : List ℕ → List ℕ → Files → Files
+with_out out text files = insert files out text
+
+begun_none : (m : Files) (out text : List ℕ) → BeginsOut m (Some m) out text
+begun_none m out text = record { begun = inl refl; others = λ name ne. refl }
+
+begun_front : (m : Files) (out text : List ℕ) (count : ℕ) → BeginsOut m (Some (insert m out (take count text))) out text
+begun_front m out text count = record {
+  begun = inr (count, get-insert_same m out (take count text));
+  others = λ name ne. get-insert_other m out (take count text) name ne;
+}
+
+pub begun_at_create : (o now : Option Files) (out text : List ℕ) → now ≡ o → IfSome o (λ m. BeginsOut m now out text)
+begun_at_create None now out text is = tt
+begun_at_create (Some m) now out text is = rw is (begun_none m out text)
+
+some_appended : (o first now : Option Files) (out piece : List ℕ) → first ≡ option_map (created out) o → now ≡ option_map (appended out piece) first
+    → now ≡ option_map (with_out out piece) o
+some_appended o first now out piece made is =
+    is ∙ ap (option_map (appended out piece)) made ∙ then_mapped (created out) (appended out piece) o
+    ∙ mapped_alike _ _ (λ m. appended_created m out piece) o
+
+front_begun : (o now : Option Files) (out text : List ℕ) (count : ℕ) → now ≡ option_map (with_out out (take count text)) o
+    → IfSome o (λ m. BeginsOut m now out text)
+front_begun None now out text count is = tt
+front_begun (Some m) now out text count is = rw is (begun_front m out text count)
+
+none_appended : (o first : Option Files) (out : List ℕ) → first ≡ option_map (created out) o → first ≡ option_map (with_out out []) o
+none_appended o first out made = made
+
+pub begun_at_append : (o first now : Option Files) (out text : List ℕ) → first ≡ option_map (created out) o → AppendedSome out text first now
+    → IfSome o (λ m. BeginsOut m now out text)
+begun_at_append o first now out text made (inl same) = front_begun o now out text 0 (same ∙ made)
+begun_at_append o first now out text made (inr (count, fits, is)) = front_begun o now out text count (some_appended o first now out (take count text) made is)
+
+pub written_whole : (o first now : Option Files) (out text : List ℕ) → first ≡ option_map (created out) o → now ≡ option_map (appended out text) first
+    → now ≡ option_map (with_out out text) o
+written_whole o first now out text made is = some_appended o first now out text made is
+
+pub has_created : (o first : Option Files) (out : List ℕ) → first ≡ option_map (created out) o → Lacks first out → ⊥
+has_created None first out is lacks = rw is at lacks
+has_created (Some m) first out is lacks =
+    let none : is_some (get (insert m out []) out) ≡ false = rw is at lacks in
+    let some : is_some (get (insert m out []) out) ≡ true = ap is_some (get-insert_same m out []) in
+    cc

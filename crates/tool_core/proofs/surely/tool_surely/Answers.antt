@@ -1,0 +1,8 @@
+use Rattle.tool_core.proofs.Endings.{never_unread, only_put}
+use Rattle.tool_core.proofs.surely.tool_surely.Goals as goal
+
+pub returns-clause-read : goal.returns-clause-read
+returns-clause-read g c = never_unread _ _ _ _ _ _ _ _ _ c.tool_main.ensures.words c.tool_main.ensures.unread
+
+pub returns-clause-write : goal.returns-clause-write
+returns-clause-write g c = only_put _ _ _ _ _ _ _ _ c.tool_main.ensures.words c.tool_main.ensures.unwritten

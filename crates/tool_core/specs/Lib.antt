@@ -1,0 +1,11 @@
+pub mod Exclusives
+pub mod Passes
+pub mod Refusals
+pub mod Surveys
+pub mod Number
+pub mod Words
+pub mod Verdicts
+pub mod Lines
+pub mod Outcomes
+pub mod Pages
+pub mod Troubles

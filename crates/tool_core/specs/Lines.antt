@@ -1,0 +1,95 @@
+-- The lines that are printed.
+use Rattle.std.specs.Prelude.{ℕ, zero, suc, ◌+◌, ◌&&◌, nat_le, List, [], ◌∷◌, ◌++◌, length, map, slice_range, codes, decimal, Option, Some, None, unwrap_or, if◌then◌else◌}
+use Rattle.std.specs.List.{flat_map}
+use Rattle.cartridge.specs.Cartridge.{voice_at}
+use Rattle.sysex_frame.specs.Frame.{Content, VoiceDump, CartridgeDump, ParamChange, OtherChange, DumpRequest}
+use Rattle.sysex_frame.specs.declared.frame.FrameFault.{FrameFault}
+use Rattle.sysex_frame.specs.declared.frame.FrameFault.TheVariants.{NotFramed, NotYamaha, DataByte, Short, UnknownSubstatus, UnknownFormat, CountBytes, Length, Checksum, ParamValue}
+use Rattle.tool_core.specs.declared.refusal.Refusal.{Refusal}
+use Rattle.tool_core.specs.declared.refusal.Refusal.TheVariants.{TooLong, Fault, Cut, NoVoice, NoCartridge}
+use Rattle.tool_core.specs.Exclusives.{Exclusive, exclusives, exclusives_before}
+use Rattle.tool_core.specs.Refusals.{clamped_voice, message_content}
+
+unfoldable pub usage : List ℕ
+usage = codes "usage: tool COMMAND WORDS..." ++ 10 ∷ []
+
+unfoldable pub cannot_read : List ℕ → List ℕ
+cannot_read name = codes "cannot read " ++ name ++ 10 ∷ []
+
+unfoldable pub cannot_write : List ℕ → List ℕ
+cannot_write name = codes "cannot write " ++ name ++ 10 ∷ []
+
+unfoldable pub limit_file : List ℕ
+limit_file = codes "limit file" ++ 10 ∷ []
+
+unfoldable pub out_of_memory : List ℕ
+out_of_memory = codes "out of memory" ++ 10 ∷ []
+
+unfoldable pub ok_line : List ℕ
+ok_line = codes "ok" ++ 10 ∷ []
+
+-- the text of a fault
+unfoldable pub fault_text : FrameFault → List ℕ
+fault_text NotFramed = codes "not framed"
+fault_text NotYamaha = codes "not yamaha"
+fault_text (DataByte place) = codes "byte " ++ decimal place
+fault_text (Short length) = codes "short " ++ decimal length
+fault_text (UnknownSubstatus found) = codes "substatus " ++ decimal found
+fault_text (UnknownFormat found) = codes "format " ++ decimal found
+fault_text (CountBytes high low) = codes "count " ++ (decimal high ++ (32 ∷ decimal low))
+fault_text (Length found wanted) = codes "length " ++ (decimal found ++ (codes " wanted " ++ decimal wanted))
+fault_text (Checksum found wanted) = codes "checksum " ++ (decimal found ++ (codes " wanted " ++ decimal wanted))
+fault_text (ParamValue number value) = codes "value " ++ (decimal value ++ (codes " of " ++ decimal number))
+
+-- the line of a refusal; a place is where the message begins
+unfoldable pub refusal_line : Refusal → List ℕ
+refusal_line (TooLong place) = codes "fault " ++ (decimal place ++ (codes " long" ++ 10 ∷ []))
+refusal_line (Fault place fault) = codes "fault " ++ (decimal place ++ (32 ∷ (fault_text fault ++ 10 ∷ [])))
+refusal_line Cut = codes "cut" ++ 10 ∷ []
+refusal_line NoVoice = codes "no voice" ++ 10 ∷ []
+refusal_line NoCartridge = codes "no cartridge" ++ 10 ∷ []
+
+-- a byte of a name; one that can't be printed is shown as a point
+abbrev pub shown : ℕ → ℕ
+shown byte = if nat_le 32 byte && nat_le byte 126 then byte else 46
+
+-- the ten bytes of a voice's name
+abbrev pub shown_name : List ℕ → List ℕ
+shown_name voice = map shown (slice_range voice 145 155)
+
+-- the line of a message
+unfoldable pub content_line : Option Content → List ℕ
+content_line None = codes "other" ++ 10 ∷ []
+content_line (Some (VoiceDump device payload)) = codes "voice " ++ (shown_name (clamped_voice payload) ++ 10 ∷ [])
+content_line (Some (CartridgeDump device payload)) = codes "cartridge" ++ 10 ∷ []
+content_line (Some (ParamChange device number value)) = codes "param " ++ (decimal number ++ (32 ∷ (decimal value ++ 10 ∷ [])))
+content_line (Some (OtherChange device group number)) = codes "other" ++ 10 ∷ []
+content_line (Some (DumpRequest device)) = codes "request" ++ 10 ∷ []
+
+abbrev pub message_line : Exclusive → List ℕ
+message_line exclusive = content_line (message_content exclusive)
+
+-- the last line of a check
+unfoldable pub count_line : ℕ → List ℕ
+count_line count = codes "messages " ++ (decimal count ++ 10 ∷ [])
+
+-- the lines of the messages that end before a place
+unfoldable pub lines_before : List ℕ → ℕ → List ℕ
+lines_before file place = flat_map message_line (exclusives_before file place)
+
+-- a line for each message of a file, and their number
+unfoldable pub check_report : List ℕ → List ℕ
+check_report file = lines_before file (length file) ++ count_line (length (exclusives file))
+
+-- SLOT NAME
+unfoldable pub name_line : ℕ → List ℕ → List ℕ
+name_line slot voice = decimal slot ++ (32 ∷ (shown_name voice ++ 10 ∷ []))
+
+-- the lines of the slots below some slot
+unfoldable pub name_lines : List (List ℕ) → ℕ → List ℕ
+name_lines voices zero = []
+name_lines voices (suc slot) = name_lines voices slot ++ name_line slot (voice_at voices slot)
+
+-- the names of 32 voices
+unfoldable pub list_report : List (List ℕ) → List ℕ
+list_report voices = name_lines voices 32

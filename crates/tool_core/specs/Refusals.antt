@@ -1,0 +1,109 @@
+-- Why a file is refused.
+use Rattle.std.specs.Prelude.{ℕ, ◌%◌, min, Bool, true, false, nat_lt, List, [], ◌∷◌, length, map, slice_index, Option, Some, None, is_none, option_map, option_and_then, if◌then◌else◌}
+use Rattle.std.specs.List.{range_with_len}
+use Rattle.std.specs.Option.{option_or}
+use Rattle.midi_stream.specs.Messages.{is_unfinished}
+use Rattle.voice_record.specs.Voice.{greatest_value}
+use Rattle.cartridge.specs.Cartridge.{voices_of}
+use Rattle.sysex_frame.specs.Frame.{Content, VoiceDump, CartridgeDump, ParamChange, OtherChange, DumpRequest}
+use Rattle.sysex_frame.specs.FrameFault.{first_fault}
+use Rattle.sysex_frame.specs.Reading.{reading}
+use Rattle.sysex_frame.specs.declared.frame.FrameFault.{FrameFault}
+use Rattle.sysex_frame.specs.declared.frame.FrameFault.TheVariants.{NotFramed, NotYamaha, DataByte, Short, UnknownSubstatus, UnknownFormat, CountBytes, Length, Checksum, ParamValue}
+use Rattle.tool_core.specs.declared.refusal.Refusal.{Refusal}
+use Rattle.tool_core.specs.declared.refusal.Refusal.TheVariants.{TooLong, Fault, Cut, NoVoice, NoCartridge}
+use Rattle.tool_core.specs.Exclusives.{Exclusive, exclusives, is_too_long}
+
+-- what a message holds, where it has no fault
+unfoldable pub content : List ℕ → Option Content
+content text = if is_none (first_fault text) then Some (reading text) else None
+
+-- the first answer that some messages give
+abbrev pub first_some : {X : Type 0} → (Exclusive → Option X) → List Exclusive → Option X
+first_some f [] = None
+first_some f (exclusive ∷ later) = option_or (f exclusive) (first_some f later)
+
+-- a message of another maker, or of a kind that the DX7 doesn't know: it is passed over
+abbrev pub is_foreign : FrameFault → Bool
+is_foreign NotFramed = false
+is_foreign NotYamaha = true
+is_foreign (DataByte place) = false
+is_foreign (Short length) = false
+is_foreign (UnknownSubstatus found) = true
+is_foreign (UnknownFormat found) = true
+is_foreign (CountBytes high low) = false
+is_foreign (Length found wanted) = false
+is_foreign (Checksum found wanted) = false
+is_foreign (ParamValue number value) = false
+
+abbrev pub fault_at : ℕ → Option FrameFault → Option Refusal
+fault_at place None = None
+fault_at place (Some fault) = if is_foreign fault then None else Some (Fault place fault)
+
+-- a message that is too long is refused everywhere
+abbrev pub long_refusal : Exclusive → Option Refusal
+long_refusal exclusive = if is_too_long exclusive then Some (TooLong exclusive.place) else None
+
+-- one with another fault where all messages are looked at
+abbrev pub message_refusal : Exclusive → Option Refusal
+message_refusal exclusive =
+    if is_too_long exclusive then Some (TooLong exclusive.place) else fault_at exclusive.place (first_fault exclusive.text)
+
+-- the bytes of a voice that a message holds
+abbrev pub voice_bytes : Content → Option (List ℕ)
+voice_bytes (VoiceDump device payload) = Some payload
+voice_bytes (CartridgeDump device payload) = None
+voice_bytes (ParamChange device number value) = None
+voice_bytes (OtherChange device group number) = None
+voice_bytes (DumpRequest device) = None
+
+-- the bytes of 32 voices that it holds
+abbrev pub cartridge_bytes : Content → Option (List ℕ)
+cartridge_bytes (VoiceDump device payload) = None
+cartridge_bytes (CartridgeDump device payload) = Some payload
+cartridge_bytes (ParamChange device number value) = None
+cartridge_bytes (OtherChange device group number) = None
+cartridge_bytes (DumpRequest device) = None
+
+-- each number of a voice is the lesser of its byte modulo 128 and its greatest value
+unfoldable pub clamped_voice : List ℕ → List ℕ
+clamped_voice bytes = map (λ number. min (slice_index bytes number % 128) (greatest_value number)) (range_with_len 0 155)
+
+abbrev pub message_content : Exclusive → Option Content
+message_content exclusive = if is_too_long exclusive then None else content exclusive.text
+
+abbrev pub message_voice : Exclusive → Option (List ℕ)
+message_voice exclusive = option_map clamped_voice (option_and_then voice_bytes (message_content exclusive))
+
+abbrev pub message_cartridge : Exclusive → Option (List (List ℕ))
+message_cartridge exclusive = option_map voices_of (option_and_then cartridge_bytes (message_content exclusive))
+
+-- the first voice of a file, and its first cartridge
+unfoldable pub voice_in : List ℕ → Option (List ℕ)
+voice_in file = first_some message_voice (exclusives file)
+
+unfoldable pub cartridge_in : List ℕ → Option (List (List ℕ))
+cartridge_in file = first_some message_cartridge (exclusives file)
+
+-- what a command wants of a file: all its messages, a voice or a cartridge
+pub data Wanted : Type 0 where
+  AllMessages : Wanted
+  OneVoice : Wanted
+  OneCartridge : Wanted
+
+abbrev pub refusal_in : Wanted → List Exclusive → Option Refusal
+refusal_in AllMessages messages = first_some message_refusal messages
+refusal_in OneVoice messages = first_some long_refusal messages
+refusal_in OneCartridge messages = first_some long_refusal messages
+
+abbrev pub cut_refusal : List ℕ → Option Refusal
+cut_refusal file = if is_unfinished file then Some Cut else None
+
+abbrev pub missing_refusal : Wanted → List ℕ → Option Refusal
+missing_refusal AllMessages file = None
+missing_refusal OneVoice file = if is_none (voice_in file) then Some NoVoice else None
+missing_refusal OneCartridge file = if is_none (cartridge_in file) then Some NoCartridge else None
+
+-- why a file is refused: its first bad message; or it ends within a message; or it lacks what is wanted
+unfoldable pub refusal : Wanted → List ℕ → Option Refusal
+refusal wanted file = option_or (refusal_in wanted (exclusives file)) (option_or (cut_refusal file) (missing_refusal wanted file))

@@ -1,0 +1,83 @@
+-- The words that the program takes.
+use Rattle.std.specs.Prelude.{ℕ, ◌<◌, ◌≤◌, List, [], ◌∷◌, map, string_bytes, Option, None, Some, option_map, Bool, not, ◌&&◌, nat_lt, nat_le, length, bytes_eq, codes, if◌then◌else◌}
+use Rattle.std.specs.List.{list_all}
+use Rattle.tool_core.specs.declared.words.Request.{Request}
+use Rattle.tool_core.specs.declared.words.Request.TheVariants as request
+use Rattle.tool_core.specs.Number.{number}
+
+-- what is asked for: `check FILE`, `list FILE`, `pick FILE SLOT OUT` or `pack OUT FILE...`
+pub data Asked : Type 0 where
+  Check : List ℕ → Asked
+  Names : List ℕ → Asked
+  Pick : List ℕ → ℕ → List ℕ → Asked
+  Pack : List ℕ → List (List ℕ) → Asked
+
+-- the same of a value of the program
+abbrev pub asked : Request → Asked
+asked (request.Check file) = Check file.now
+asked (request.Names file) = Names file.now
+asked (request.Pick file slot out) = Pick file.now slot out.now
+asked (request.Pack out files) = Pack out.now (map string_bytes files.now)
+
+-- the commands
+unfoldable pub is_check : List ℕ → Bool
+is_check word = bytes_eq word (codes "check")
+
+unfoldable pub is_list : List ℕ → Bool
+is_list word = bytes_eq word (codes "list")
+
+unfoldable pub is_pick : List ℕ → Bool
+is_pick word = bytes_eq word (codes "pick")
+
+unfoldable pub is_pack : List ℕ → Bool
+is_pack word = bytes_eq word (codes "pack")
+
+-- no name is empty
+abbrev pub is_name : List ℕ → Bool
+is_name name = nat_lt 0 (length name)
+
+-- a name that is read differs from the one that is written
+abbrev pub is_read : List ℕ → List ℕ → Bool
+is_read out name = is_name name && not (bytes_eq name out)
+
+abbrev pub are_read : List ℕ → List (List ℕ) → Bool
+are_read out names = list_all (λ name. is_read out name) names
+
+-- FILE
+abbrev pub file_of_words : List (List ℕ) → Option (List ℕ)
+file_of_words [] = None
+file_of_words (file ∷ []) = if is_name file then Some file else None
+file_of_words (file ∷ next ∷ later) = None
+
+-- FILE SLOT OUT
+abbrev pub pick_of : List ℕ → List ℕ → List ℕ → Option Asked
+pick_of file slot out =
+    if is_name out && is_read out file then option_map (λ n. Pick file n out) (number 0 31 slot) else None
+
+abbrev pub pick_of_words : List (List ℕ) → Option Asked
+pick_of_words (file ∷ slot ∷ out ∷ []) = pick_of file slot out
+pick_of_words words = None
+
+-- OUT FILE...
+abbrev pub pack_of_words : List (List ℕ) → Option Asked
+pack_of_words [] = None
+pack_of_words (out ∷ files) =
+    if is_name out && (nat_lt 0 (length files) && (nat_le (length files) 32 && are_read out files)) then Some (Pack out files) else None
+
+-- a command and its words
+abbrev pub asked_of : List ℕ → List (List ℕ) → Option Asked
+asked_of command words =
+    if is_check command then option_map (λ file. Check file) (file_of_words words)
+    else (if is_list command then option_map (λ file. Names file) (file_of_words words)
+    else (if is_pick command then pick_of_words words else (if is_pack command then pack_of_words words else None)))
+
+abbrev pub asked_by : List (List ℕ) → Option Asked
+asked_by [] = None
+asked_by (command ∷ words) = asked_of command words
+
+-- a slot is at most 31, and 1 to 32 files are packed
+abbrev pub IsInRange : Request → Type 0
+IsInRange (request.Check file) = Unit {0}
+IsInRange (request.Names file) = Unit {0}
+IsInRange (request.Pick file slot out) = slot ≤ 31
+IsInRange (request.Pack out files) = (0 < length files.now) × (length files.now ≤ 32)

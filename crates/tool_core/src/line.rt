@@ -1,0 +1,182 @@
+//! Lines of text.
+
+ghost use Rattle.std.specs.Prelude.{◌≡◌, ◌+◌, ◌≤◌, ◌^◌, ◌<◌, ◌&&◌, [], ◌∷◌, ◌++◌, length, map, decimal, nat_le, slice_range, if◌then◌else◌};
+ghost use Rattle.sysex_frame.specs.declared.frame.FrameFault.{FrameFault};
+ghost use Rattle.tool_core.specs.Lines as lines;
+ghost use Rattle.tool_core.specs.Lines.{shown, shown_name};
+
+use crate::refusal::Refusal;
+use arrayvec::ArrayVec;
+use itoa::Buffer;
+use sysex_frame::FrameFault;
+use voice_record::Voice;
+
+/// A line of text. The longest is that of a fault.
+pub type Line = ArrayVec<u8, 128>;
+
+/// Puts a text behind a line.
+pub fn push_text(line: &mut Line, text: &[u8])
+    requires { length line.old.items + length text.now ≤ 128 }
+    ensures { line.new.items ≡ line.old.items ++ text.now }
+{
+    let _ = line.try_extend_from_slice(text);
+}
+
+/// Puts the decimal digits of a number behind a line.
+pub fn push_number(line: &mut Line, number: u32)
+    requires { length line.old.items ≤ 88 }
+    ensures text { line.new.items ≡ line.old.items ++ decimal number }
+    ensures room { length line.new.items ≤ length line.old.items + 10 }
+{
+    let mut buffer = Buffer::new();
+    push_text(line, buffer.format(number).as_bytes());
+}
+
+/// A line of fixed text.
+pub fn line_of(text: &[u8]) -> Line
+    requires { length text.now ≤ 128 }
+    ensures { result.items ≡ text.now }
+{
+    let mut line = Line::new();
+    push_text(&mut line, text);
+    line
+}
+
+/// Puts one number with a word before it behind a line.
+fn push_one(line: &mut Line, before: &[u8], number: u32)
+    requires { length line.old.items + length before.now ≤ 88 }
+    ensures text { line.new.items ≡ line.old.items ++ (before.now ++ decimal number) }
+    ensures room { length line.new.items ≤ length line.old.items + length before.now + 10 }
+{
+    push_text(line, before);
+    push_number(line, number);
+}
+
+/// Puts two numbers with words before and between them behind a line.
+fn push_two(line: &mut Line, before: &[u8], first: u32, between: &[u8], second: u32)
+    requires { length line.old.items + length before.now + length between.now ≤ 78 }
+    ensures text { line.new.items ≡ line.old.items ++ (before.now ++ (decimal first ++ (between.now ++ decimal second))) }
+    ensures room { length line.new.items ≤ length line.old.items + length before.now + length between.now + 20 }
+{
+    push_one(line, before, first);
+    push_one(line, between, second);
+}
+
+#[tactic(auto, unfolding(crate::specs::Lines::fault_text))]
+fn push_fault(line: &mut Line, fault: FrameFault)
+    requires { length line.old.items ≤ 40 }
+    ensures text { line.new.items ≡ line.old.items ++ lines.fault_text fault }
+    ensures room { length line.new.items ≤ length line.old.items + 60 }
+{
+    match fault {
+        FrameFault::NotFramed => push_text(line, b"not framed"),
+        FrameFault::NotYamaha => push_text(line, b"not yamaha"),
+        FrameFault::DataByte { place } => push_one(line, b"byte ", place),
+        FrameFault::Short { length } => push_one(line, b"short ", length),
+        FrameFault::UnknownSubstatus { found } => push_one(line, b"substatus ", u32::from(found)),
+        FrameFault::UnknownFormat { found } => push_one(line, b"format ", u32::from(found)),
+        FrameFault::CountBytes { high, low } => {
+            push_two(line, b"count ", u32::from(high), b" ", u32::from(low));
+        }
+        FrameFault::Length { found, wanted } => {
+            push_two(line, b"length ", found, b" wanted ", wanted);
+        }
+        FrameFault::Checksum { found, wanted } => {
+            push_two(
+                line,
+                b"checksum ",
+                u32::from(found),
+                b" wanted ",
+                u32::from(wanted),
+            );
+        }
+        FrameFault::ParamValue { number, value } => {
+            push_two(
+                line,
+                b"value ",
+                u32::from(value),
+                b" of ",
+                u32::from(number),
+            );
+        }
+    }
+}
+
+/// The line of a refusal.
+#[tactic(auto, unfolding(crate::specs::Lines::refusal_line))]
+pub fn refusal_line(why: Refusal) -> Line
+    ensures { result.items ≡ lines.refusal_line why }
+{
+    match why {
+        Refusal::TooLong { place } => long_line(place),
+        Refusal::Fault { place, fault } => fault_line(place, fault),
+        Refusal::Cut => line_of(b"cut\n"),
+        Refusal::NoVoice => line_of(b"no voice\n"),
+        Refusal::NoCartridge => line_of(b"no cartridge\n"),
+    }
+}
+
+#[tactic(auto, unfolding(crate::specs::Lines::refusal_line))]
+fn long_line(place: u32) -> Line
+    ensures { result.items ≡ lines.refusal_line (Refusal.TooLong place) }
+{
+    let mut line = Line::new();
+    push_one(&mut line, b"fault ", place);
+    push_text(&mut line, b" long\n");
+    line
+}
+
+#[tactic(auto, unfolding(crate::specs::Lines::refusal_line))]
+fn fault_line(place: u32, fault: FrameFault) -> Line
+    ensures { result.items ≡ lines.refusal_line (Refusal.Fault place fault) }
+{
+    let mut line = Line::new();
+    push_one(&mut line, b"fault ", place);
+    push_text(&mut line, b" ");
+    push_fault(&mut line, fault);
+    push_text(&mut line, b"\n");
+    line
+}
+
+/// A byte of a name as it is printed: a point where it can't be.
+fn shown_byte(byte: u8) -> u8
+    ensures { result ≡ shown byte }
+{
+    if (32..=126).contains(&byte) {
+        byte
+    } else {
+        b'.'
+    }
+}
+
+/// Puts the name of a voice behind a line.
+pub fn push_name(line: &mut Line, voice: &Voice)
+    requires { length line.old.items ≤ 100 }
+    ensures text { line.new.items ≡ line.old.items ++ shown_name voice.now }
+    ensures room { length line.new.items ≡ length line.old.items + 10 }
+{
+    let fields = voice.bytes();
+    push_shown(line, &fields[145..155]);
+}
+
+fn push_shown(line: &mut Line, name: &[u8])
+    requires { length line.old.items + length name.now ≤ 128 }
+    ensures { line.new.items ≡ line.old.items ++ map shown name.now }
+{
+    for byte in name {
+        line.push(shown_byte(*byte));
+    }
+}
+
+/// The line of a voice.
+#[tactic(auto, unfolding(crate::specs::Lines::name_line))]
+pub fn name_line(slot: u8, voice: &Voice) -> Line
+    ensures { result.items ≡ lines.name_line slot voice.now }
+{
+    let mut line = Line::new();
+    push_number(&mut line, u32::from(slot));
+    push_text(&mut line, b" ");
+    push_name(&mut line, voice);
+    push_text(&mut line, b"\n");
+    line
+}

@@ -1,0 +1,169 @@
+//! Files that are read and judged.
+
+ghost use Rattle.std.specs.Prelude.{ℕ, ◌≡◌, ◌≤◌, Some, None, List, IfOk, IfErr, IfSome, OnOk, length};
+ghost use Rattle.std.specs.FinMap.{get};
+ghost use Rattle.std.specs.Option.{option_or};
+ghost use Rattle.midi_stream.specs.Messages.{is_unfinished};
+ghost use Rattle.tool_core.specs.Exclusives.{exclusives};
+ghost use Rattle.tool_core.specs.Outcomes.{cartridge_of, voice_of};
+ghost use Rattle.tool_core.specs.Passes.{Follows};
+ghost use Rattle.tool_core.specs.Refusals as refusals;
+ghost use Rattle.tool_core.specs.Refusals.{cartridge_in, cut_refusal, refusal, refusal_in, voice_in};
+ghost use Rattle.tool_core.specs.Surveys.{Surveys};
+ghost use Rattle.tool_core.specs.Troubles.{HasReason, IsContentTrouble, IsJudged, IsReadTrouble};
+ghost use Rattle.tool_core.specs.Verdicts as verdicts;
+
+use crate::looking::look_over;
+use crate::pass::Pass;
+use crate::refusal::Refusal;
+use crate::survey::Survey;
+use crate::trouble::Trouble;
+use cartridge::Cartridge;
+use outside::{ReadFault, Shelf, read_all};
+use std::alloc::Global;
+use voice_record::Voice;
+
+/// The most bytes of a file.
+const FILE_LIMIT: u64 = 16_777_216;
+
+/// A file whose messages are all good, and a pass that is to begin.
+#[derive(Drop)]
+pub struct Checked {
+    pub file: Vec<u8>,
+    pub pass: Pass,
+}
+
+/// The bytes of a file.
+fn read_file<S: Shelf>(alloc: Global, shelf: &mut S, name: &str) -> Result<Vec<u8>, Trouble>
+    ensures found { IfOk result (λ file. IfSome (S.files shelf.old) (λ told. get told name.now ≡ Some file.items)) }
+    ensures within { IfOk result (λ file. length file.items ≤ 16777216) }
+    ensures kept { OnOk result (S.reading shelf.new ≡ S.reading shelf.old) }
+    ensures refused { IfErr result (λ why. IsReadTrouble why (S.files shelf.old) name.now (S.reading shelf.old) (S.reading shelf.new)) }
+    ensures files { S.files shelf.new ≡ S.files shelf.old }
+    ensures writing { S.writing shelf.new ≡ S.writing shelf.old }
+{
+    match read_all(alloc, shelf, name, FILE_LIMIT) {
+        Ok(file) => Ok(file),
+        Err(ReadFault::Failed) => Err(Trouble::Unread),
+        Err(ReadFault::TooLong) => Err(Trouble::TooLarge),
+        Err(ReadFault::Memory) => Err(Trouble::Memory),
+    }
+}
+
+/// The refusal of a file that ends within a message.
+fn refusal_of_cut(is_cut: bool) -> Option<Refusal>
+    ensures { (file : List ℕ) → is_cut ≡ is_unfinished file → result ≡ cut_refusal file }
+{
+    if is_cut { Some(Refusal::Cut) } else { None }
+}
+
+/// A pass over a file whose messages are all good.
+fn judge_messages(alloc: Global, file: &[u8]) -> Result<Pass, Trouble>
+    requires { length file.now ≤ 16777216 }
+    ensures good { OnOk result (refusal refusals.AllMessages file.now ≡ None) }
+    ensures begins { IfOk result (λ pass. Follows pass file.now 0) }
+    ensures refused { IfErr result (λ why. IsContentTrouble why refusals.AllMessages file.now) }
+{
+    let survey = look_over(alloc, file)?;
+    match survey.bad.or(refusal_of_cut(survey.is_cut)) {
+        Some(why) => Err(Trouble::Refused(why)),
+        None => match Pass::new(alloc) {
+            Ok(pass) => Ok(pass),
+            Err(_) => Err(Trouble::Memory),
+        },
+    }
+}
+
+/// The first cartridge of a file.
+fn find_cartridge(alloc: Global, file: &[u8]) -> Result<Cartridge, Trouble>
+    requires { length file.now ≤ 16777216 }
+    ensures good { OnOk result (refusal refusals.OneCartridge file.now ≡ None) }
+    ensures value { IfOk result (λ cartridge. cartridge_in file.now ≡ Some cartridge) }
+    ensures refused { IfErr result (λ why. IsContentTrouble why refusals.OneCartridge file.now) }
+{
+    let survey = look_over(alloc, file)?;
+    match survey.long.or(refusal_of_cut(survey.is_cut)) {
+        Some(why) => Err(Trouble::Refused(why)),
+        None => survey
+            .cartridge
+            .ok_or(Trouble::Refused(Refusal::NoCartridge)),
+    }
+}
+
+/// The first voice of a file.
+fn find_voice(alloc: Global, file: &[u8]) -> Result<Voice, Trouble>
+    requires { length file.now ≤ 16777216 }
+    ensures good { OnOk result (refusal refusals.OneVoice file.now ≡ None) }
+    ensures value { IfOk result (λ voice. voice_in file.now ≡ Some voice) }
+    ensures refused { IfErr result (λ why. IsContentTrouble why refusals.OneVoice file.now) }
+{
+    let survey = look_over(alloc, file)?;
+    match survey.long.or(refusal_of_cut(survey.is_cut)) {
+        Some(why) => Err(Trouble::Refused(why)),
+        None => survey.voice.ok_or(Trouble::Refused(Refusal::NoVoice)),
+    }
+}
+
+/// A file whose messages are all good.
+pub fn read_messages<S: Shelf>(alloc: Global, shelf: &mut S, name: &str) -> Result<Checked, Trouble>
+    ensures good { OnOk result (IsJudged refusals.AllMessages (S.files shelf.old) name.now verdicts.Good) }
+    ensures found { IfOk result (λ checked. IfSome (S.files shelf.old) (λ told. get told name.now ≡ Some checked.file.items)) }
+    ensures within { IfOk result (λ checked. length checked.file.items ≤ 16777216) }
+    ensures begins { IfOk result (λ checked. Follows checked.pass checked.file.items 0) }
+    ensures kept { OnOk result (S.reading shelf.new ≡ S.reading shelf.old) }
+    ensures refused { IfErr result (λ why. HasReason why refusals.AllMessages (S.files shelf.old) name.now (S.reading shelf.old) (S.reading shelf.new)) }
+    ensures files { S.files shelf.new ≡ S.files shelf.old }
+    ensures writing { S.writing shelf.new ≡ S.writing shelf.old }
+{
+    match read_file(alloc, shelf, name) {
+        Ok(file) => check_file(alloc, file),
+        Err(why) => Err(why),
+    }
+}
+
+fn check_file(alloc: Global, file: Vec<u8>) -> Result<Checked, Trouble>
+    requires { length file.items ≤ 16777216 }
+    ensures good { OnOk result (refusal refusals.AllMessages file.items ≡ None) }
+    ensures same { IfOk result (λ checked. checked.file.items ≡ file.items) }
+    ensures begins { IfOk result (λ checked. Follows checked.pass file.items 0) }
+    ensures refused { IfErr result (λ why. IsContentTrouble why refusals.AllMessages file.items) }
+{
+    match judge_messages(alloc, file.as_slice()) {
+        Ok(pass) => Ok(Checked { file, pass }),
+        Err(why) => Err(why),
+    }
+}
+
+/// The first cartridge of a file.
+pub fn read_cartridge<S: Shelf>(
+    alloc: Global,
+    shelf: &mut S,
+    name: &str,
+) -> Result<Cartridge, Trouble>
+    ensures good { OnOk result (IsJudged refusals.OneCartridge (S.files shelf.old) name.now verdicts.Good) }
+    ensures value { IfOk result (λ cartridge. IfSome (S.files shelf.old) (λ told. cartridge_of told name.now ≡ cartridge)) }
+    ensures kept { OnOk result (S.reading shelf.new ≡ S.reading shelf.old) }
+    ensures refused { IfErr result (λ why. HasReason why refusals.OneCartridge (S.files shelf.old) name.now (S.reading shelf.old) (S.reading shelf.new)) }
+    ensures files { S.files shelf.new ≡ S.files shelf.old }
+    ensures writing { S.writing shelf.new ≡ S.writing shelf.old }
+{
+    match read_file(alloc, shelf, name) {
+        Ok(file) => find_cartridge(alloc, file.as_slice()),
+        Err(why) => Err(why),
+    }
+}
+
+/// The first voice of a file.
+pub fn read_voice<S: Shelf>(alloc: Global, shelf: &mut S, name: &str) -> Result<Voice, Trouble>
+    ensures good { OnOk result (IsJudged refusals.OneVoice (S.files shelf.old) name.now verdicts.Good) }
+    ensures value { IfOk result (λ voice. IfSome (S.files shelf.old) (λ told. voice_of told name.now ≡ voice)) }
+    ensures kept { OnOk result (S.reading shelf.new ≡ S.reading shelf.old) }
+    ensures refused { IfErr result (λ why. HasReason why refusals.OneVoice (S.files shelf.old) name.now (S.reading shelf.old) (S.reading shelf.new)) }
+    ensures files { S.files shelf.new ≡ S.files shelf.old }
+    ensures writing { S.writing shelf.new ≡ S.writing shelf.old }
+{
+    match read_file(alloc, shelf, name) {
+        Ok(file) => find_voice(alloc, file.as_slice()),
+        Err(why) => Err(why),
+    }
+}

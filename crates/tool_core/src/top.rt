@@ -1,0 +1,80 @@
+ghost use Rattle.std.specs.Prelude.{◌≡◌, ◌↔◌, [], ◌∷◌, IfSome, None, map, string_bytes};
+ghost use Rattle.tool_core.specs.Lines.{usage};
+ghost use Rattle.tool_core.specs.Outcomes.{moment, Ends, IsDone, IsOneOf, IsOutOfMemory, IsPastLimit, IsRefused, IsUnread, IsUnwritten, OnSuccess, Says};
+ghost use Rattle.tool_core.specs.Words.{asked, asked_by, IsInRange};
+
+use crate::commands::{check, list, pack, pick};
+use crate::saying::say_usage;
+use crate::words::{Request, read_words};
+use outside::{Out, Shelf};
+use std::alloc::Global;
+
+/// Does what the words ask for, and answers the status.
+///
+/// The words are `check FILE`, `list FILE`, `pick FILE SLOT OUT` or `pack OUT FILE...`.
+pub fn tool_main<S: Shelf, O: Out>(
+    alloc: Global,
+    words: &[String],
+    shelf: &mut S,
+    out: &mut O,
+) -> u8
+    ensures status { IsOneOf result (0 ∷ 1 ∷ 2 ∷ 3 ∷ 4 ∷ 6 ∷ 8 ∷ []) }
+
+    // 1 exactly where the words are not of the grammar; then no file has changed, and the line was put.
+    ensures words { result ≡ 1 ↔ asked_by (map string_bytes words.now) ≡ None }
+    ensures usage_files { result ≡ 1 → S.files shelf.new ≡ S.files shelf.old }
+    ensures usage { result ≡ 1 → Says usage (O.written out.old) (O.written out.new) (O.faults out.old) (O.faults out.new) }
+
+    // What each other status says, and what it leaves.
+    ensures done { result ≡ 0 → IfSome (asked_by (map string_bytes words.now)) (λ asked. IsDone asked
+        (moment (S.files shelf.old) (S.reading shelf.old) (S.writing shelf.old) (O.written out.old) (O.faults out.old))
+        (moment (S.files shelf.new) (S.reading shelf.new) (S.writing shelf.new) (O.written out.new) (O.faults out.new))) }
+    ensures unread { result ≡ 2 → IfSome (asked_by (map string_bytes words.now)) (λ asked. IsUnread asked
+        (moment (S.files shelf.old) (S.reading shelf.old) (S.writing shelf.old) (O.written out.old) (O.faults out.old))
+        (moment (S.files shelf.new) (S.reading shelf.new) (S.writing shelf.new) (O.written out.new) (O.faults out.new))) }
+    ensures unwritten { result ≡ 3 → IfSome (asked_by (map string_bytes words.now)) (λ asked. IsUnwritten asked
+        (moment (S.files shelf.old) (S.reading shelf.old) (S.writing shelf.old) (O.written out.old) (O.faults out.old))
+        (moment (S.files shelf.new) (S.reading shelf.new) (S.writing shelf.new) (O.written out.new) (O.faults out.new))) }
+    ensures refused { result ≡ 4 → IfSome (asked_by (map string_bytes words.now)) (λ asked. IsRefused asked
+        (moment (S.files shelf.old) (S.reading shelf.old) (S.writing shelf.old) (O.written out.old) (O.faults out.old))
+        (moment (S.files shelf.new) (S.reading shelf.new) (S.writing shelf.new) (O.written out.new) (O.faults out.new))) }
+    ensures past_limit { result ≡ 6 → IfSome (asked_by (map string_bytes words.now)) (λ asked. IsPastLimit asked
+        (moment (S.files shelf.old) (S.reading shelf.old) (S.writing shelf.old) (O.written out.old) (O.faults out.old))
+        (moment (S.files shelf.new) (S.reading shelf.new) (S.writing shelf.new) (O.written out.new) (O.faults out.new))) }
+    ensures memory { result ≡ 8 → IfSome (asked_by (map string_bytes words.now)) (λ asked. IsOutOfMemory asked
+        (moment (S.files shelf.old) (S.reading shelf.old) (S.writing shelf.old) (O.written out.old) (O.faults out.old))
+        (moment (S.files shelf.new) (S.reading shelf.new) (S.writing shelf.new) (O.written out.new) (O.faults out.new))) }
+
+    // Where all is right and nothing fails, it is done, unless memory runs out.
+    ensures complete { IfSome (asked_by (map string_bytes words.now)) (λ asked. OnSuccess asked
+        (moment (S.files shelf.old) (S.reading shelf.old) (S.writing shelf.old) (O.written out.old) (O.faults out.old))
+        (moment (S.files shelf.new) (S.reading shelf.new) (S.writing shelf.new) (O.written out.new) (O.faults out.new))
+        (IsOneOf result (0 ∷ 8 ∷ []))) }
+{
+    match read_words(words) {
+        Some(request) => run(alloc, request, shelf, out),
+        None => {
+            say_usage(out);
+            1
+        }
+    }
+}
+
+/// Runs a command.
+fn run<S: Shelf, O: Out>(alloc: Global, request: Request<'_>, shelf: &mut S, out: &mut O) -> u8
+    requires { IsInRange request }
+    ensures { Ends (asked request.entry) result
+        (moment (S.files shelf.old) (S.reading shelf.old) (S.writing shelf.old) (O.written out.old) (O.faults out.old))
+        (moment (S.files shelf.new) (S.reading shelf.new) (S.writing shelf.new) (O.written out.new) (O.faults out.new)) }
+{
+    match request {
+        Request::Check { file } => check(alloc, file, shelf, out),
+        Request::Names { file } => list(alloc, file, shelf, out),
+        Request::Pick {
+            file,
+            slot,
+            out: name,
+        } => pick(alloc, file, slot, name, shelf, out),
+        Request::Pack { out: name, files } => pack(alloc, name, files, shelf, out),
+    }
+}
