@@ -1,5 +1,5 @@
 -- What a command leaves, by its status.
-use Rattle.std.specs.Prelude.{◌≡◌, ◌≢◌, ◌⊎◌, ℕ, ◌-◌, ◌≤◌, List, [], ◌∷◌, ◌++◌, length, take, map, replicate, Option, Some, None, IfSome, option_map, unwrap_or}
+use Rattle.std.specs.Prelude.{◌≡◌, ◌≢◌, ◌⊎◌, ℕ, ◌-◌, ◌≤◌, List, [], ◌∷◌, ◌++◌, length, take, map, replicate, Option, Some, IfSome, option_map, unwrap_or}
 use Rattle.std.specs.FinMap.{get, insert}
 use Rattle.outside.specs.Files.{Files, Lacks, content, file_of, said, SaidSome}
 use Rattle.outside.specs.Faults.{Rose}
@@ -8,9 +8,9 @@ use Rattle.cartridge.specs.Cartridge.{voice_at, IsMessageOf}
 use Rattle.sysex_frame.specs.Frame.{IsFrame, VoiceDump}
 use Rattle.tool_core.specs.declared.refusal.Refusal.{Refusal}
 use Rattle.tool_core.specs.Refusals.{Wanted, AllMessages, OneVoice, OneCartridge, voice_in, cartridge_in}
-use Rattle.tool_core.specs.Verdicts.{Verdict, Lacking, TooLarge, Refused, Good, AreJudged}
+use Rattle.tool_core.specs.Verdicts.{Lacking, TooLarge, Refused, Good, AreJudged}
 use Rattle.tool_core.specs.Words.{Asked, Check, Names, Pick, Pack}
-use Rattle.tool_core.specs.Lines.{usage, cannot_read, cannot_write, limit_file, out_of_memory, ok_line, refusal_line, check_report, list_report}
+use Rattle.tool_core.specs.Lines.{cannot_read, cannot_write, limit_file, out_of_memory, ok_line, refusal_line, check_report, list_report}
 
 -- what a shelf and an output show at a moment
 pub record Moment : Type 0 where
@@ -114,11 +114,11 @@ pub record IsDone (asked : Asked) (before now : Moment) : Type 0 where
   pub files : IfSome before.files (λ files. AreWritten asked files now.files)
   pub report : IfSome before.files (λ files. now.written ≡ option_map (said (report asked files)) before.written)
 
--- 2: a read failed, or the told files lack a name
+-- 2: a read failed, or the first file that isn't good is not there
 pub record IsUnread (asked : Asked) (before now : Moment) : Type 0 where
   pub name : List ℕ
   pub named : IsAmong name (read_by asked)
-  pub cause : Rose before.reading now.reading ⊎ Lacks before.files name
+  pub cause : Rose before.reading now.reading ⊎ (Lacks before.files name × AreJudged (wanted_by asked) before.files (read_by asked) Lacking)
   pub files : now.files ≡ before.files
   pub line : Tells (cannot_read name) before now
 

@@ -6,7 +6,7 @@ use Rattle.outside.specs.Faults.{Rose}
 use Rattle.tool_core.specs.declared.trouble.Trouble.{Trouble}
 use Rattle.tool_core.specs.declared.trouble.Trouble.TheVariants as trouble
 use Rattle.tool_core.specs.Refusals.{Wanted, refusal}
-use Rattle.tool_core.specs.Verdicts.{Verdict, TooLarge, Refused, verdict_on, AreJudged, file_limit}
+use Rattle.tool_core.specs.Verdicts.{Verdict, Lacking, TooLarge, Refused, verdict_on, AreJudged, file_limit}
 use Rattle.tool_core.specs.Lines.{cannot_read, limit_file, out_of_memory, refusal_line}
 use Rattle.tool_core.specs.Outcomes.{IsAmong}
 
@@ -38,7 +38,7 @@ HasReason trouble.Memory wanted files name before now = now ≡ before
 
 -- why some files don't all serve, where the last one that was read is this
 abbrev pub HasReasonAmong : Trouble → Wanted → Option Files → List (List ℕ) → List ℕ → ℕ → ℕ → Type 0
-HasReasonAmong trouble.Unread wanted files names name before now = IsAmong name names × (Rose before now ⊎ Lacks files name)
+HasReasonAmong trouble.Unread wanted files names name before now = IsAmong name names × (Rose before now ⊎ (Lacks files name × AreJudged wanted files names Lacking))
 HasReasonAmong trouble.TooLarge wanted files names name before now = (now ≡ before) × AreJudged wanted files names TooLarge
 HasReasonAmong (trouble.Refused why) wanted files names name before now = (now ≡ before) × AreJudged wanted files names (Refused why)
 HasReasonAmong trouble.Memory wanted files names name before now = now ≡ before

@@ -44,7 +44,17 @@ fn files_are_judged(rt: HostRuntime) -> Result<(), Fail> {
     let long = foreign(alloc, 5001)?;
     let short = foreign(alloc, 5000)?;
     let voice = write_voice(0, &Voice::init());
-    let rows: [(&[&str], &[u8], u8, &[u8]); 21] = [
+    let mut two = Vec::new(alloc);
+    two.extend_from_slice(b"\xF0\x43\x10\x01\x06\x10\xF7\xF0\x43\x00\x00\x01\x1B")?;
+    two.extend_from_slice(&[0; 156])?;
+    two.push(0xF7)?;
+    let rows: [(&[&str], &[u8], u8, &[u8]); 22] = [
+        (
+            &["check", "f"],
+            &two,
+            0,
+            b"param 134 16\nvoice ..........\nmessages 2\n",
+        ),
         (&["check", "f"], b"", 0, b"messages 0\n"),
         (&["check", "f"], b"\xF0\xF7", 0, b"other\nmessages 1\n"),
         (&["check", "f"], b"\xF0\x43\xF7", 4, b"fault 0 short 3\n"),
@@ -115,26 +125,83 @@ fn files_are_judged(rt: HostRuntime) -> Result<(), Fail> {
     Ok(())
 }
 
+/// A letter and a number below 100.
+fn numbered(alloc: Global, letter: &str, k: u8) -> Result<String, AllocError> {
+    let mut name = String::from_str(alloc, letter)?;
+    if k >= 10 {
+        name.push((b'0' + k / 10) as char)?;
+    }
+    name.push((b'0' + k % 10) as char)?;
+    Ok(name)
+}
+
+/// The message of a voice with an algorithm and a name of its own.
+fn voice_message(k: u8) -> [u8; 163] {
+    let mut voice = Voice::init();
+    let _ = voice.set(134, k);
+    let _ = voice.set(145, b'A' + k);
+    write_voice(0, &voice)
+}
+
 #[test]
 fn a_librarian_keeps_voices(rt: HostRuntime) -> Result<(), Fail> {
     let alloc = rt.alloc();
     let mut shelf = MemShelf::new(alloc, &[])?;
-    let mut voice = Voice::init();
-    let _ = voice.set(134, 5);
-    let message = write_voice(0, &voice);
-    shelf.put_file(alloc, "v", &message)?;
     let mut out = MemOut::new(alloc, &[])?;
-    let pack = words_of(alloc, &["pack", "c", "v", "v"])?;
+    let mut pack = words_of(alloc, &["pack", "c"])?;
+    for k in 0..32u8 {
+        let name = numbered(alloc, "v", k)?;
+        shelf.put_file(alloc, name.as_str(), &voice_message(k))?;
+        pack.push(name)?;
+    }
     assert_eq!(rt; tool_main(alloc, &pack, &mut shelf, &mut out), 0);
-    let pick = words_of(alloc, &["pick", "c", "1", "p"])?;
-    assert_eq!(rt; tool_main(alloc, &pick, &mut shelf, &mut out), 0);
-    assert_eq!(rt; shelf.file("p"), Some(message.as_slice()));
-    let pick = words_of(alloc, &["pick", "c", "2", "q"])?;
-    assert_eq!(rt; tool_main(alloc, &pick, &mut shelf, &mut out), 0);
-    assert_eq!(rt;
-        shelf.file("q"),
-        Some(write_voice(0, &Voice::init()).as_slice())
-    );
-    assert_eq!(rt; out.bytes(), b"ok\nok\nok\n".as_slice());
+    let check = words_of(alloc, &["check", "c"])?;
+    assert_eq!(rt; tool_main(alloc, &check, &mut shelf, &mut out), 0);
+    assert_eq!(rt; out.bytes(), b"ok\ncartridge\nmessages 1\n".as_slice());
+    let mut names = MemOut::new(alloc, &[])?;
+    let list = words_of(alloc, &["list", "c"])?;
+    assert_eq!(rt; tool_main(alloc, &list, &mut shelf, &mut names), 0);
+    assert_eq!(rt; names.bytes().len(), 32 * 13 + 22);
+    assert_eq!(rt; &names.bytes()[..26], b"0 ANIT VOICE\n1 BNIT VOICE\n".as_slice());
+    for k in 0..32u8 {
+        let name = numbered(alloc, "p", k)?;
+        let slot = numbered(alloc, "", k)?;
+        let pick = words_of(alloc, &["pick", "c", slot.as_str(), name.as_str()])?;
+        assert_eq!(rt; tool_main(alloc, &pick, &mut shelf, &mut out), 0);
+        assert_eq!(rt; shelf.file(name.as_str()), Some(voice_message(k).as_slice()));
+    }
+    Ok(())
+}
+
+#[test]
+fn failures_are_told(rt: HostRuntime) -> Result<(), Fail> {
+    let alloc = rt.alloc();
+    let pick = words_of(alloc, &["pick", "f", "3", "o"])?;
+    let cases: [(&[u64], u8, &[u8], Option<&[u8]>); 4] = [
+        (&[], 0, b"ok\n", Some(&voice_message(3))),
+        (&[0], 2, b"cannot read f\n", None),
+        (&[3], 3, b"cannot write o\n", None),
+        (&[4], 3, b"cannot write o\n", Some(b"")),
+    ];
+    let mut cartridge = Cartridge::blank(alloc)?;
+    let mut voice = Voice::init();
+    let _ = voice.set(134, 3);
+    let _ = voice.set(145, b'D');
+    cartridge.store(3, &voice);
+    let file = cartridge.write(alloc, 5)?;
+    for (fails, status, printed, written) in cases {
+        let mut shelf = MemShelf::new(alloc, fails)?;
+        shelf.put_file(alloc, "f", &file)?;
+        let mut out = MemOut::new(alloc, &[])?;
+        assert_eq!(rt; tool_main(alloc, &pick, &mut shelf, &mut out), status);
+        assert_eq!(rt; out.bytes(), printed);
+        assert_eq!(rt; shelf.file("o"), written);
+    }
+    let mut shelf = MemShelf::new(alloc, &[])?;
+    shelf.put_file(alloc, "f", &file)?;
+    let mut out = MemOut::new(alloc, &[0])?;
+    assert_eq!(rt; tool_main(alloc, &pick, &mut shelf, &mut out), 3);
+    assert_eq!(rt; out.bytes(), b"".as_slice());
+    assert_eq!(rt; shelf.file("o"), Some(voice_message(3).as_slice()));
     Ok(())
 }
