@@ -1,6 +1,6 @@
 -- How commands end.
-use Rattle.std.proofs.Common.{◌≡◌, ◌⊎◌, inl, inr, ℕ, List, [], ◌∷◌, ◌++◌, length, refl, sym, ◌∙◌, ap, subst, arith, ◌≢◌, ◌↔◌}
-use Rattle.std.specs.Prelude.{Option, Some, None, IfSome, option_map, is_some, true, false, unwrap_or}
+use Rattle.std.proofs.Common.{◌≡◌, ◌⊎◌, inl, inr, ℕ, List, [], ◌∷◌, refl, sym, ◌∙◌, ap, subst, arith, ◌≢◌, ◌↔◌}
+use Rattle.std.specs.Prelude.{Option, Some, None, IfSome, option_map, is_some, false, unwrap_or}
 use Rattle.std.specs.FinMap.{insert, get, contains_key}
 use Rattle.outside.specs.Files.{Files, Lacks, said, SaidSome}
 use Rattle.outside.specs.Faults.{Rose}
@@ -13,7 +13,7 @@ use Rattle.tool_core.specs.Refusals.{Wanted}
 use Rattle.tool_core.specs.Words.{Asked, Check, Names, Pick, Pack}
 use Rattle.tool_core.specs.Lines.{ok_line, cannot_write, check_report, list_report}
 use Rattle.tool_core.specs.Pages.{FailsIn}
-use Rattle.tool_core.specs.Outcomes.{Reports, Finishes, FailsFile, Moment, Tells, Ends, IsDone, IsUnread, IsUnwritten, IsRefused, IsPastLimit, IsOutOfMemory, FailsOut, FailsReport, AreWritten, AreBegun, TellsOfWrite, BeginsOut, read_by, wanted_by, report, OnSuccess, IsOneOf, IsAmong, cartridge_of, picked, packed}
+use Rattle.tool_core.specs.Outcomes.{Reports, Finishes, Moment, Tells, Ends, IsDone, IsUnread, IsUnwritten, IsRefused, IsPastLimit, IsOutOfMemory, FailsOut, FailsReport, AreWritten, AreBegun, TellsOfWrite, BeginsOut, read_by, wanted_by, report, OnSuccess, IsOneOf, IsAmong, cartridge_of, picked, packed}
 use Rattle.tool_core.specs.Troubles.{HasReasonAmong, status_of, line_of}
 
 pub refused_ends : (asked : Asked) (why : Trouble) (name : List ℕ) (before now : Moment) (status : ℕ)

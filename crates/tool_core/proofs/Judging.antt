@@ -1,11 +1,10 @@
 -- Verdicts on files that were read.
-use Rattle.std.proofs.Common.{◌≡◌, inl, inr, ℕ, ◌<◌, ◌≤◌, List, [], ◌∷◌, ◌++◌, length, refl, sym, ◌∙◌, ap, subst, arith, ltb-false, lt-ltb, if◌then◌else◌}
-use Rattle.std.specs.Prelude.{Option, Some, None, IfSome, IsSomeAnd, Bool, true, false, unwrap_or, nat_lt, is_none, Result, Ok, Err, OnOk, IfOk, IfErr, ok_or}
+use Rattle.std.proofs.Common.{◌≡◌, inl, ℕ, ◌<◌, ◌≤◌, List, [], ◌∷◌, length, refl, sym, ◌∙◌, ap, subst, lt-ltb, if◌then◌else◌}
+use Rattle.std.specs.Prelude.{Option, Some, None, IfSome, IsSomeAnd, unwrap_or, is_none, Result, Ok, Err, OnOk, IfOk, IfErr, ok_or}
 use Rattle.std.specs.FinMap.{get}
 use Rattle.std.specs.Option.{option_or}
 use Rattle.std.proofs.lemmas.Bool.{le-ltb}
-use Rattle.outside.specs.Files.{Files, Lacks, content}
-use Rattle.outside.specs.Faults.{Rose}
+use Rattle.outside.specs.Files.{Files}
 use Rattle.tool_core.specs.declared.refusal.Refusal.{Refusal}
 use Rattle.tool_core.specs.declared.trouble.Trouble.{Trouble}
 use Rattle.tool_core.specs.declared.trouble.Trouble.TheVariants as trouble
@@ -16,7 +15,7 @@ use Rattle.tool_core.specs.Refusals.{Wanted, AllMessages, OneVoice, OneCartridge
 use Rattle.tool_core.specs.Surveys.{Surveys}
 use Rattle.tool_core.proofs.Surveying.{or_none, or_assoc}
 use Rattle.tool_core.specs.Verdicts.{Verdict, Lacking, TooLarge, Refused, Good, verdict, verdict_on, next_verdict, judged, AreJudged, file_limit}
-use Rattle.tool_core.specs.Outcomes.{IsAmong, cartridge_of, voice_of}
+use Rattle.tool_core.specs.Outcomes.{cartridge_of, voice_of}
 use Rattle.tool_core.specs.Troubles.{IsReadTrouble, IsContentTrouble, IsJudged, HasReason, HasReasonAmong}
 
 on_file : (wanted : Wanted) (file : List ℕ) → length file ≤ 16777216 → verdict_on wanted (Some file) ≡ judged (refusal wanted file)

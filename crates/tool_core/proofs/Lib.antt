@@ -3,7 +3,7 @@ pub mod Surveying
 pub mod Numbers
 pub mod Pieces
 pub mod Paging
-pub mod Tests
+pub mod EachName
 pub mod Writings
 pub mod Judging
 pub mod Reports

@@ -1,5 +1,5 @@
 -- Several files, one after the other.
-use Rattle.std.proofs.Common.{◌≡◌, inl, inr, ℕ, zero, suc, ◌+◌, ◌-◌, ◌<◌, ◌≤◌, List, [], ◌∷◌, ◌++◌, length, map, take, set, replicate, get_or, refl, sym, ◌∙◌, ap, subst, arith, add-one, append_assoc, length-take}
+use Rattle.std.proofs.Common.{◌≡◌, inl, inr, ℕ, zero, suc, ◌+◌, ◌-◌, ◌<◌, ◌≤◌, List, [], ◌∷◌, ◌++◌, length, map, take, set, replicate, get_or, refl, sym, ◌∙◌, ap, subst, arith}
 use Rattle.std.specs.Prelude.{Option, Some, None, IfSome, String, string_bytes}
 use Rattle.std.specs.FinMap.{get}
 use Rattle.std.specs.declared.alloc.Global.{Global}
@@ -7,10 +7,8 @@ use Rattle.std.proofs.lemmas.Grind.{take_at_read}
 use Rattle.std.proofs.lemmas.List.{length-take-le, length-map}
 use Rattle.std.proofs.Math.Seq.{take-length}
 use Rattle.cartridge.specs.Cartridge.{IsMessageOf}
-use Rattle.outside.specs.Files.{Files, Lacks}
-use Rattle.outside.specs.Faults.{Rose}
+use Rattle.outside.specs.Files.{Files}
 use Rattle.voice_record.specs.Voice.{opening_voice}
-use Rattle.tool_core.specs.declared.refusal.Refusal.{Refusal}
 use Rattle.tool_core.specs.declared.trouble.Trouble.{Trouble}
 use Rattle.tool_core.specs.declared.trouble.Trouble.TheVariants as trouble
 use Rattle.tool_core.specs.declared.packing.Stop.{Stop}

@@ -1,5 +1,5 @@
 -- Pages that are put.
-use Rattle.std.proofs.Common.{◌≡◌, ◌⊎◌, inl, inr, ℕ, List, [], ◌++◌, sym, ◌∙◌, ap, subst, append_assoc, append-nil}
+use Rattle.std.proofs.Common.{◌≡◌, ◌⊎◌, ℕ, List, [], ◌++◌, sym, ◌∙◌, ap, subst, append_assoc, append-nil}
 use Rattle.std.specs.Prelude.{Option, option_map}
 use Rattle.outside.specs.Files.{said, SaidSome}
 use Rattle.outside.proofs.Shelves.{then_said}

@@ -1,11 +1,9 @@
 -- One more message of a survey.
-use Rattle.std.proofs.Common.{◌≡◌, ℕ, ◌+◌, ◌<◌, ◌%◌, append-nil, List, [], ◌∷◌, ◌++◌, length, get_or, map, min, refl, sym, ◌∙◌, ap, subst, arith}
-use Rattle.std.specs.Prelude.{Option, Some, None, Bool, true, false, option_map, option_to_list, Result, Ok, Err, OnOk}
-use Rattle.std.specs.List.{range_with_len}
+use Rattle.std.proofs.Common.{◌≡◌, ℕ, ◌+◌, ◌<◌, ◌%◌, append-nil, List, [], ◌∷◌, ◌++◌, length, get_or, min, refl, sym, ◌∙◌, ap, subst, arith}
+use Rattle.std.specs.Prelude.{Option, Some, None, true, false, option_map, option_to_list, Result, Ok, Err, OnOk}
 use Rattle.std.specs.Option.{option_or}
 use Rattle.std.proofs.lemmas.List.{ext_get_or}
 use Rattle.std.proofs.lemmas.List.FromFn.{length-map-range_with_len, get_or-map-range_with_len}
-use Rattle.std.proofs.lemmas.Grind.{same_number_lists}
 use Rattle.voice_record.specs.Voice.{greatest_value, IsClamped}
 use Rattle.cartridge.specs.Cartridge.{voice_at, voices_of, unpacked, slot_bytes, UnpacksAll}
 use Rattle.voice_record.proofs.Packed.{unpacks_unique}
@@ -20,7 +18,7 @@ use Rattle.tool_core.specs.declared.refusal.Refusal.TheVariants.{TooLong}
 use Rattle.tool_core.specs.declared.ending.Ended.{Ended}
 use Rattle.tool_core.specs.Passes.{TellsOf}
 use Rattle.tool_core.specs.Exclusives.{Exclusive, is_too_long, exclusive_at, exclusives_before}
-use Rattle.tool_core.specs.Refusals.{first_some, message_refusal, long_refusal, message_voice, message_cartridge, message_content, clamped_voice, content, fault_at, voice_bytes, cartridge_bytes}
+use Rattle.tool_core.specs.Refusals.{first_some, message_refusal, long_refusal, message_voice, message_cartridge, clamped_voice, content, fault_at, voice_bytes, cartridge_bytes}
 use Rattle.tool_core.specs.Surveys.{HasSizes, Surveys}
 use Rattle.tool_core.proofs.Streams.{exclusives_next}
 

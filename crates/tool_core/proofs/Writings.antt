@@ -1,8 +1,7 @@
 -- The one file that is written.
-use Rattle.std.proofs.Common.{◌≡◌, ◌≢◌, inl, inr, ℕ, List, [], ◌++◌, length, take, refl, sym, ◌∙◌, ap}
+use Rattle.std.proofs.Common.{◌≡◌, inl, inr, ℕ, List, [], take, refl, ◌∙◌, ap}
 use Rattle.std.specs.Prelude.{Option, Some, None, option_map, is_some, IfSome, true, false}
 use Rattle.std.specs.FinMap.{get, insert}
-use Rattle.std.proofs.Math.Seq.{take-length}
 use Rattle.outside.specs.Files.{Files, created, appended, Lacks, AppendedSome}
 use Rattle.outside.proofs.Shelves.{get-insert_same, get-insert_other, appended_created, then_mapped, mapped_alike}
 use Rattle.tool_core.specs.Outcomes.{BeginsOut}

@@ -1,5 +1,5 @@
 -- What a command leaves, by its status.
-use Rattle.std.specs.Prelude.{◌≡◌, ◌≢◌, ◌⊎◌, ℕ, ◌-◌, ◌≤◌, List, [], ◌∷◌, ◌++◌, length, take, map, replicate, Option, Some, None, IfSome, option_map, unwrap_or}
+use Rattle.std.specs.Prelude.{◌≡◌, ◌≢◌, ◌⊎◌, ℕ, ◌-◌, ◌≤◌, List, [], ◌∷◌, ◌++◌, length, take, map, replicate, Option, Some, IfSome, option_map, unwrap_or}
 use Rattle.std.specs.FinMap.{get, insert}
 use Rattle.outside.specs.Files.{Files, Lacks, content, file_of, said, SaidSome}
 use Rattle.outside.specs.Faults.{Rose}
@@ -8,9 +8,9 @@ use Rattle.cartridge.specs.Cartridge.{voice_at, IsMessageOf}
 use Rattle.sysex_frame.specs.Frame.{IsFrame, VoiceDump}
 use Rattle.tool_core.specs.declared.refusal.Refusal.{Refusal}
 use Rattle.tool_core.specs.Refusals.{Wanted, AllMessages, OneVoice, OneCartridge, voice_in, cartridge_in}
-use Rattle.tool_core.specs.Verdicts.{Verdict, Lacking, TooLarge, Refused, Good, AreJudged}
+use Rattle.tool_core.specs.Verdicts.{TooLarge, Refused, Good, AreJudged}
 use Rattle.tool_core.specs.Words.{Asked, Check, Names, Pick, Pack}
-use Rattle.tool_core.specs.Lines.{usage, cannot_read, cannot_write, limit_file, out_of_memory, ok_line, refusal_line, check_report, list_report}
+use Rattle.tool_core.specs.Lines.{cannot_read, cannot_write, limit_file, out_of_memory, ok_line, refusal_line, check_report, list_report}
 
 -- what a shelf and an output show at a moment
 pub record Moment : Type 0 where

@@ -1,5 +1,5 @@
 -- How a pass over a file stands for the bytes that it was fed.
-use Rattle.std.specs.Prelude.{ℕ, ◌≡◌, List, take, Bool, Option, Some, None}
+use Rattle.std.specs.Prelude.{ℕ, ◌≡◌, List, take, Option, Some, None}
 use Rattle.midi_stream.specs.Reading.{Reads}
 use Rattle.tool_core.specs.declared.pass.Pass.{Pass}
 use Rattle.tool_core.specs.declared.ending.Ended.{Ended}

@@ -1,5 +1,5 @@
 -- Why a file is refused.
-use Rattle.std.specs.Prelude.{ℕ, ◌%◌, min, Bool, true, false, nat_lt, List, [], ◌∷◌, length, map, slice_index, Option, Some, None, is_none, option_map, option_and_then, if◌then◌else◌}
+use Rattle.std.specs.Prelude.{ℕ, ◌%◌, min, Bool, true, false, List, [], ◌∷◌, length, map, slice_index, Option, Some, None, is_none, option_map, option_and_then, if◌then◌else◌}
 use Rattle.std.specs.List.{range_with_len}
 use Rattle.std.specs.Option.{option_or}
 use Rattle.midi_stream.specs.Messages.{is_unfinished}

@@ -1,5 +1,5 @@
 -- What is known of a file after one pass over it.
-use Rattle.std.specs.Prelude.{ℕ, ◌≡◌, List, length}
+use Rattle.std.specs.Prelude.{◌≡◌, List, length}
 use Rattle.sysex_frame.specs.Frame.{Content, VoiceDump, CartridgeDump, ParamChange, OtherChange, DumpRequest}
 use Rattle.tool_core.specs.declared.survey.Survey.{Survey}
 use Rattle.tool_core.specs.Exclusives.{Exclusive}

@@ -1,4 +1,3 @@
-use Rattle.std.proofs.Common.{◌∙◌}
 use Rattle.tool_core.specs.Refusals.{OneCartridge}
 use Rattle.tool_core.specs.Verdicts.{Good}
 use Rattle.tool_core.specs.Words.{Pick}

@@ -1,4 +1,4 @@
-use Rattle.std.proofs.Common.{◌≡◌, ◌≤◌, ◌*◌, ◌+◌, ℕ, List, ◌++◌, length, sym, ◌∙◌, ap, arith, length-append}
+use Rattle.std.proofs.Common.{◌≡◌, ◌+◌, ℕ, List, ◌++◌, length, sym, ◌∙◌, ap, arith, length-append}
 use Rattle.tool_core.specs.Lines.{name_lines}
 use Rattle.tool_core.proofs.Reports.{names_none, names_next, names_all}
 use Rattle.tool_core.proofs.listing.list_page.Goals as goal

@@ -1,4 +1,4 @@
-use Rattle.std.proofs.Common.{◌≡◌, ◌≤◌, ◌<◌, length, refl, ◌∙◌, ap, arith}
+use Rattle.std.proofs.Common.{◌≡◌, ◌<◌, length, refl, ◌∙◌, arith}
 use Rattle.outside.proofs.Shelves.{handed_on}
 use Rattle.tool_core.specs.Lines.{lines_before}
 use Rattle.tool_core.proofs.Reports.{count_next, count_none, nothing_yet, lines_fail, ok_put, err_put, cause_from, report_put}

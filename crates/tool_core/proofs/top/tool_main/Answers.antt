@@ -1,4 +1,3 @@
-use Rattle.std.proofs.Common.{sym, refl}
 use Rattle.tool_core.specs.Words.{asked}
 use Rattle.tool_core.proofs.Endings.{ends_0, ends_1, ends_2, ends_3, ends_4, ends_6, ends_8, one_of, completes, known, not_none, if_none}
 use Rattle.tool_core.proofs.top.tool_main.Goals as goal

@@ -1,6 +1,6 @@
 use Rattle.std.proofs.Common.{◌∙◌, sym, ap, List, ℕ}
 use Rattle.tool_core.specs.Words.{is_read}
-use Rattle.tool_core.proofs.Tests.{all_more, all_false}
+use Rattle.tool_core.proofs.EachName.{all_more, all_false}
 use Rattle.tool_core.proofs.words.are_read.Goals as goal
 
 pub loop-file-preserved : goal.loop-file-preserved

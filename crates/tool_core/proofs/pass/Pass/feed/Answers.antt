@@ -1,10 +1,9 @@
-use Rattle.std.proofs.Common.{◌≡◌, ℕ, List, ◌+◌, ◌∷◌, [], ◌++◌, take, get_or, sym, ◌∙◌, ap, subst, if◌then◌else◌}
+use Rattle.std.proofs.Common.{◌≡◌, ℕ, ◌+◌, ◌∷◌, [], ◌++◌, take, get_or, sym, ◌∙◌, ap, subst, if◌then◌else◌}
 use Rattle.std.specs.Prelude.{◌==◌, Option, IfSome}
 use Rattle.midi_stream.specs.declared.message.MidiMessage.{MidiMessage}
 use Rattle.midi_stream.specs.Messages.{messages, last_exclusive}
-use Rattle.midi_stream.specs.Reading.{Reads}
 use Rattle.midi_stream.specs.Standing.{Answers, HasBytes}
-use Rattle.tool_core.specs.Exclusives.{placed, message_at, start_before, exclusive_at}
+use Rattle.tool_core.specs.Exclusives.{placed, start_before, exclusive_at}
 use Rattle.tool_core.specs.Passes.{TellsOf}
 use Rattle.tool_core.proofs.Streams.{take_next, message_told, start_next}
 use Rattle.tool_core.proofs.pass.Pass.feed.Goals as goal
