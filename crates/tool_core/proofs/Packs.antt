@@ -7,8 +7,7 @@ use Rattle.std.proofs.lemmas.Grind.{take_at_read}
 use Rattle.std.proofs.lemmas.List.{length-take-le, length-map}
 use Rattle.std.proofs.Math.Seq.{take-length}
 use Rattle.cartridge.specs.Cartridge.{IsMessageOf}
-use Rattle.outside.specs.Files.{Files, Lacks}
-use Rattle.outside.specs.Faults.{Rose}
+use Rattle.outside.specs.Files.{Files}
 use Rattle.voice_record.specs.Voice.{opening_voice}
 use Rattle.tool_core.specs.declared.trouble.Trouble.{Trouble}
 use Rattle.tool_core.specs.declared.trouble.Trouble.TheVariants as trouble
