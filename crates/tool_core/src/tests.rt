@@ -162,13 +162,19 @@ fn a_librarian_keeps_voices(rt: HostRuntime) -> Result<(), Fail> {
     let list = words_of(alloc, &["list", "c"])?;
     assert_eq!(rt; tool_main(alloc, &list, &mut shelf, &mut names), 0);
     assert_eq!(rt; names.bytes().len(), 32 * 13 + 22);
-    assert_eq!(rt; &names.bytes()[..26], b"0 ANIT VOICE\n1 BNIT VOICE\n".as_slice());
+    assert_eq!(rt;
+        &names.bytes()[..26],
+        b"0 ANIT VOICE\n1 BNIT VOICE\n".as_slice()
+    );
     for k in 0..32u8 {
         let name = numbered(alloc, "p", k)?;
         let slot = numbered(alloc, "", k)?;
         let pick = words_of(alloc, &["pick", "c", slot.as_str(), name.as_str()])?;
         assert_eq!(rt; tool_main(alloc, &pick, &mut shelf, &mut out), 0);
-        assert_eq!(rt; shelf.file(name.as_str()), Some(voice_message(k).as_slice()));
+        assert_eq!(rt;
+            shelf.file(name.as_str()),
+            Some(voice_message(k).as_slice())
+        );
     }
     Ok(())
 }
