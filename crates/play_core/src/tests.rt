@@ -57,7 +57,7 @@ fn an_empty_script_becomes_silence(rt: HostRuntime) -> Result<(), Fail> {
     assert_eq!(rt; sound.len(), 172);
     let header =
         b"RIFF\xa4\0\0\0WAVEfmt \x10\0\0\0\x01\0\x01\0\x44\xac\0\0\x88\x58\x01\0\x02\0\x10\0data\x80\0\0\0";
-    assert_eq!(rt; &sound[..44], header.as_slice());
+    assert!(rt; sound.starts_with(header));
     Ok(())
 }
 

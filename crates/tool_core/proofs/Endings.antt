@@ -1,19 +1,19 @@
 -- How commands end.
 use Rattle.std.proofs.Common.{◌≡◌, ◌⊎◌, inl, inr, ℕ, List, [], ◌∷◌, refl, sym, ◌∙◌, ap, subst, arith, ◌≢◌, ◌↔◌}
-use Rattle.std.specs.Prelude.{Option, Some, None, IfSome, option_map, unwrap_or}
-use Rattle.std.specs.FinMap.{insert, get}
-use Rattle.outside.specs.Files.{Files, said, SaidSome}
+use Rattle.std.specs.Prelude.{Option, Some, None, IfSome, option_map, is_some, false, unwrap_or}
+use Rattle.std.specs.FinMap.{insert, get, contains_key}
+use Rattle.outside.specs.Files.{Files, Lacks, said, SaidSome}
 use Rattle.outside.specs.Faults.{Rose}
 use Rattle.cartridge.specs.Cartridge.{voice_at, IsMessageOf}
 use Rattle.sysex_frame.specs.Frame.{IsFrame, VoiceDump}
 use Rattle.tool_core.specs.declared.trouble.Trouble.{Trouble}
 use Rattle.tool_core.specs.declared.trouble.Trouble.TheVariants as trouble
-use Rattle.tool_core.specs.Verdicts.{Lacking, Good, Refused, TooLarge, AreJudged, verdict}
+use Rattle.tool_core.specs.Verdicts.{Verdict, Lacking, Good, Refused, TooLarge, AreJudged, verdict, verdict_on, next_verdict}
 use Rattle.tool_core.specs.Refusals.{Wanted}
 use Rattle.tool_core.specs.Words.{Asked, Check, Names, Pick, Pack}
 use Rattle.tool_core.specs.Lines.{ok_line, cannot_write, check_report, list_report}
 use Rattle.tool_core.specs.Pages.{FailsIn}
-use Rattle.tool_core.specs.Outcomes.{Reports, Finishes, Moment, Tells, Ends, IsDone, IsUnread, IsUnwritten, IsRefused, IsPastLimit, IsOutOfMemory, FailsOut, FailsReport, AreWritten, AreBegun, TellsOfWrite, BeginsOut, read_by, wanted_by, report, OnSuccess, IsOneOf, cartridge_of, picked, packed}
+use Rattle.tool_core.specs.Outcomes.{Reports, Finishes, Moment, Tells, Ends, IsDone, IsUnread, IsUnwritten, IsRefused, IsPastLimit, IsOutOfMemory, FailsOut, FailsReport, AreWritten, AreBegun, TellsOfWrite, BeginsOut, read_by, wanted_by, report, OnSuccess, IsOneOf, IsAmong, cartridge_of, picked, packed}
 use Rattle.tool_core.specs.Troubles.{HasReasonAmong, status_of, line_of}
 
 pub refused_ends : (asked : Asked) (why : Trouble) (name : List ℕ) (before now : Moment) (status : ℕ)
@@ -21,7 +21,7 @@ pub refused_ends : (asked : Asked) (why : Trouble) (name : List ℕ) (before now
     → status ≡ status_of why → Tells (line_of why name) before now → now.files ≡ before.files
     → Ends asked status before now
 refused_ends asked trouble.Unread name before now status reason is line files =
-    inr (inl (is, record { name = name; named = reason.0; cause = reason.1; files = files; line = line }))
+    inr (inl (is, record { name = name; named = reason.0; cause = reason.1; first = reason.2; files = files; line = line }))
 refused_ends asked trouble.TooLarge name before now status reason is line files =
     inr (inr (inr (inr (inl (is, record { large = reason.1; files = files; line = line })))))
 refused_ends asked (trouble.Refused why) name before now status reason is line files =
@@ -175,8 +175,29 @@ one_of asked s b n (inr (inr (inr (inr (inl (p, x)))))) = inr (inr (inr (inr (in
 one_of asked s b n (inr (inr (inr (inr (inr (p, x)))))) = inr (inr (inr (inr (inr (inr (inl p))))))
 
 -- ---- where all is right
-not_good : (wanted : Wanted) (told : Files) (names : List (List ℕ)) → verdict wanted told names ≡ Lacking → verdict wanted told names ≡ Good → ⊥
-not_good wanted told names lacks good = absurd (cc)
+lacking_first : (wanted : Wanted) (told : Files) (name : List ℕ) (later : Verdict) → contains_key told name ≡ false
+    → next_verdict (verdict_on wanted (get told name)) later ≡ Good → ⊥
+unfolding verdict_on
+lacking_first wanted told name later lacks good = by_get (get told name) lacks good
+  where
+    by_get : (o : Option (List ℕ)) → is_some o ≡ false → next_verdict (verdict_on wanted o) later ≡ Good → ⊥
+    by_get None a e = absurd (cc)
+    by_get (Some file) a e = absurd (cc)
+
+second_good : (a b : Verdict) → next_verdict a b ≡ Good → b ≡ Good
+second_good Lacking b e = absurd (cc)
+second_good TooLarge b e = absurd (cc)
+second_good (Refused why) b e = absurd (cc)
+second_good Good b e = e
+
+none_lacks : (wanted : Wanted) (told : Files) (names : List (List ℕ)) (name : List ℕ) → IsAmong name names → contains_key told name ≡ false
+    → verdict wanted told names ≡ Good → ⊥
+unfolding verdict
+none_lacks wanted told [] name among lacks good = among
+none_lacks wanted told (n ∷ names) name (inl same) lacks good =
+    lacking_first wanted told n (verdict wanted told names) (subst (λ (t : List ℕ). contains_key told t ≡ false) same lacks) good
+none_lacks wanted told (n ∷ names) name (inr later) lacks good =
+    none_lacks wanted told names name later lacks (second_good (verdict_on wanted (get told n)) (verdict wanted told names) good)
 
 success : (asked : Asked) (s : ℕ) (told : Files) (b n : Moment) → b.files ≡ Some told → Ends asked s b n
     → verdict (wanted_by asked) told (read_by asked) ≡ Good
@@ -185,7 +206,7 @@ success asked s told b n is (inl (p, x)) good r w f = inl p
 success asked s told b n is (inr (inl (p, x))) good r w f =
     elim x.cause [
       | inl rose ↦ absurd (r rose)
-      | inr lacks ↦ absurd (not_good (wanted_by asked) told (read_by asked) (let h : AreJudged (wanted_by asked) (Some told) (read_by asked) Lacking = subst (λ (o : Option Files). AreJudged (wanted_by asked) o (read_by asked) Lacking) is lacks.1 in h) good)
+      | inr lacks ↦ absurd (none_lacks (wanted_by asked) told (read_by asked) x.name x.named (let h : Lacks (Some told) x.name = subst (λ (o : Option Files). Lacks o x.name) is lacks in h) good)
     ]
 success asked s told b n is (inr (inr (inl (p, x)))) good r w f =
     elim x.failed [ inl out ↦ absurd (w out.cause) | inr rep ↦ absurd (f rep.cause) ]
@@ -268,7 +289,7 @@ pub never_unread : (o : Option Asked) (s writing now_writing : ℕ) (now_files :
 never_unread None s writing now_writing now_files written now_written faults now_faults words unread is =
     let one : s ≡ 1 = words.1 refl in absurd (omega arith)
 never_unread (Some asked) s writing now_writing now_files written now_written faults now_faults words unread is =
-    elim (unread is).cause [ inl rose ↦ absurd (omega (arith, rose)) | inr lacks ↦ absurd (lacks.0) ]
+    elim (unread is).cause [ inl rose ↦ absurd (omega (arith, rose)) | inr lacks ↦ absurd lacks ]
 
 pub only_put : (o : Option Asked) (s reading now_reading : ℕ) (written now_written : Option (List ℕ)) (faults now_faults : ℕ)
     → (s ≡ 1) ↔ (o ≡ None)

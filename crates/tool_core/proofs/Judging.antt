@@ -1,11 +1,10 @@
 -- Verdicts on files that were read.
-use Rattle.std.proofs.Common.{◌≡◌, ◌⊎◌, inl, inr, ℕ, ◌<◌, ◌≤◌, List, [], ◌∷◌, length, refl, sym, ◌∙◌, ap, subst, lt-ltb, if◌then◌else◌}
-use Rattle.std.specs.Prelude.{Option, Some, None, IfSome, IsSomeAnd, false, unwrap_or, is_none, is_some, Result, Ok, Err, OnOk, IfOk, IfErr, ok_or}
+use Rattle.std.proofs.Common.{◌≡◌, inl, ℕ, ◌<◌, ◌≤◌, List, [], ◌∷◌, length, refl, sym, ◌∙◌, ap, subst, lt-ltb, if◌then◌else◌}
+use Rattle.std.specs.Prelude.{Option, Some, None, IfSome, IsSomeAnd, unwrap_or, is_none, is_some, false, Result, Ok, Err, OnOk, IfOk, IfErr, ok_or}
 use Rattle.std.specs.FinMap.{get}
 use Rattle.std.specs.Option.{option_or}
 use Rattle.std.proofs.lemmas.Bool.{le-ltb}
 use Rattle.outside.specs.Files.{Files, Lacks}
-use Rattle.outside.specs.Faults.{Rose}
 use Rattle.tool_core.specs.declared.refusal.Refusal.{Refusal}
 use Rattle.tool_core.specs.declared.trouble.Trouble.{Trouble}
 use Rattle.tool_core.specs.declared.trouble.Trouble.TheVariants as trouble
@@ -71,23 +70,19 @@ unfolding verdict
 one_judged wanted None name v is = tt
 one_judged wanted (Some told) name v is = next_good (verdict_on wanted (get told name)) ∙ is
 
-on_none : (wanted : Wanted) (o : Option (List ℕ)) → is_some o ≡ false → verdict_on wanted o ≡ Lacking
+none_there : (wanted : Wanted) (o : Option (List ℕ)) → is_some o ≡ false → verdict_on wanted o ≡ Lacking
 unfolding verdict_on
-on_none wanted None a = refl
-on_none wanted (Some file) a = absurd (cc)
+none_there wanted None e = refl
+none_there wanted (Some file) e = absurd (cc)
 
 pub lacking_judged : (wanted : Wanted) (files : Option Files) (name : List ℕ) → Lacks files name → IsJudged wanted files name Lacking
-lacking_judged wanted None name lacks = absurd lacks
-lacking_judged wanted (Some told) name lacks = on_none wanted (get told name) lacks
-
-one_unread : (wanted : Wanted) (files : Option Files) (name : List ℕ) (before now : ℕ) → Rose before now ⊎ Lacks files name
-    → Rose before now ⊎ (Lacks files name × AreJudged wanted files (name ∷ []) Lacking)
-one_unread wanted files name before now (inl rose) = inl rose
-one_unread wanted files name before now (inr lacks) = inr (lacks, one_judged wanted files name Lacking (lacking_judged wanted files name lacks))
+lacking_judged wanted None name lacks = tt
+lacking_judged wanted (Some told) name lacks = none_there wanted (get told name) lacks
 
 pub one_reason : (why : Trouble) (wanted : Wanted) (files : Option Files) (name : List ℕ) (before now : ℕ)
     → HasReason why wanted files name before now → HasReasonAmong why wanted files (name ∷ []) name before now
-one_reason trouble.Unread wanted files name before now reason = (inl refl, one_unread wanted files name before now reason)
+one_reason trouble.Unread wanted files name before now reason =
+    (inl refl, reason, λ lacks. one_judged wanted files name Lacking (lacking_judged wanted files name lacks))
 one_reason trouble.TooLarge wanted files name before now reason = (reason.0, one_judged wanted files name TooLarge (reason.1))
 one_reason (trouble.Refused why) wanted files name before now reason = (reason.0, one_judged wanted files name (Refused why) (reason.1))
 one_reason trouble.Memory wanted files name before now reason = reason

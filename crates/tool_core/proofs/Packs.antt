@@ -1,5 +1,5 @@
 -- Several files, one after the other.
-use Rattle.std.proofs.Common.{◌≡◌, ◌⊎◌, inl, inr, ℕ, zero, suc, ◌+◌, ◌-◌, ◌<◌, ◌≤◌, List, [], ◌∷◌, ◌++◌, length, map, take, set, replicate, get_or, refl, sym, ◌∙◌, ap, subst, arith}
+use Rattle.std.proofs.Common.{◌≡◌, inl, inr, ℕ, zero, suc, ◌+◌, ◌-◌, ◌<◌, ◌≤◌, List, [], ◌∷◌, ◌++◌, length, map, take, set, replicate, get_or, refl, sym, ◌∙◌, ap, subst, arith}
 use Rattle.std.specs.Prelude.{Option, Some, None, IfSome, String, string_bytes}
 use Rattle.std.specs.FinMap.{get}
 use Rattle.std.specs.declared.alloc.Global.{Global}
@@ -15,8 +15,8 @@ use Rattle.tool_core.specs.declared.packing.Stop.{Stop}
 use Rattle.tool_core.specs.Refusals.{Wanted}
 use Rattle.tool_core.specs.Verdicts.{Verdict, Lacking, TooLarge, Refused, Good, verdict, verdict_on, next_verdict, AreJudged}
 use Rattle.tool_core.specs.Outcomes.{IsAmong, voice_of, packed}
-use Rattle.tool_core.specs.Troubles.{IsJudged, HasReason, HasReasonAmong}
 use Rattle.tool_core.proofs.Judging.{lacking_judged}
+use Rattle.tool_core.specs.Troubles.{IsJudged, HasReason, HasReasonAmong}
 
 record AreGood (a b : Verdict) : Type 0 where
   first : a ≡ Good
@@ -82,17 +82,11 @@ stop_judged : (wanted : Wanted) (files : Option Files) (names : List (List ℕ))
 stop_judged wanted None names i v stays below before here = tt
 stop_judged wanted (Some told) names i v stays below before here = stops wanted told names i v stays below before here
 
-stop_unread : (wanted : Wanted) (files : Option Files) (names : List (List ℕ)) (i before now : ℕ)
-    → i < length names → AreJudged wanted files (take i names) Good → Rose before now ⊎ Lacks files (get_or names i [])
-    → Rose before now ⊎ (Lacks files (get_or names i []) × AreJudged wanted files names Lacking)
-stop_unread wanted files names i before now below good (inl rose) = inl rose
-stop_unread wanted files names i before now below good (inr lacks) =
-    inr (lacks, stop_judged wanted files names i Lacking (λ later. refl) below good (lacking_judged wanted files (get_or names i []) lacks))
-
 stop_reason : (why : Trouble) (wanted : Wanted) (files : Option Files) (names : List (List ℕ)) (i before now : ℕ)
     → i < length names → AreJudged wanted files (take i names) Good → HasReason why wanted files (get_or names i []) before now
     → HasReasonAmong why wanted files names (get_or names i []) before now
-stop_reason trouble.Unread wanted files names i before now below good reason = (among names i below, stop_unread wanted files names i before now below good reason)
+stop_reason trouble.Unread wanted files names i before now below good reason =
+    (among names i below, reason, λ lacks. stop_judged wanted files names i Lacking (λ later. refl) below good (lacking_judged wanted files (get_or names i []) lacks))
 stop_reason trouble.TooLarge wanted files names i before now below good reason =
     (reason.0, stop_judged wanted files names i TooLarge (λ later. refl) below good (reason.1))
 stop_reason (trouble.Refused why) wanted files names i before now below good reason =

@@ -114,11 +114,12 @@ pub record IsDone (asked : Asked) (before now : Moment) : Type 0 where
   pub files : IfSome before.files (λ files. AreWritten asked files now.files)
   pub report : IfSome before.files (λ files. now.written ≡ option_map (said (report asked files)) before.written)
 
--- 2: a read failed, or the first file that isn't good is not there
+-- 2: a read failed, or the told files lack a name, and every file before it is good
 pub record IsUnread (asked : Asked) (before now : Moment) : Type 0 where
   pub name : List ℕ
   pub named : IsAmong name (read_by asked)
-  pub cause : Rose before.reading now.reading ⊎ (Lacks before.files name × AreJudged (wanted_by asked) before.files (read_by asked) Lacking)
+  pub cause : Rose before.reading now.reading ⊎ Lacks before.files name
+  pub first : Lacks before.files name → AreJudged (wanted_by asked) before.files (read_by asked) Lacking
   pub files : now.files ≡ before.files
   pub line : Tells (cannot_read name) before now
 

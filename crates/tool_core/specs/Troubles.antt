@@ -38,7 +38,8 @@ HasReason trouble.Memory wanted files name before now = now ≡ before
 
 -- why some files don't all serve, where the last one that was read is this
 abbrev pub HasReasonAmong : Trouble → Wanted → Option Files → List (List ℕ) → List ℕ → ℕ → ℕ → Type 0
-HasReasonAmong trouble.Unread wanted files names name before now = IsAmong name names × (Rose before now ⊎ (Lacks files name × AreJudged wanted files names Lacking))
+HasReasonAmong trouble.Unread wanted files names name before now =
+    IsAmong name names × (Rose before now ⊎ Lacks files name) × (Lacks files name → AreJudged wanted files names Lacking)
 HasReasonAmong trouble.TooLarge wanted files names name before now = (now ≡ before) × AreJudged wanted files names TooLarge
 HasReasonAmong (trouble.Refused why) wanted files names name before now = (now ≡ before) × AreJudged wanted files names (Refused why)
 HasReasonAmong trouble.Memory wanted files names name before now = now ≡ before

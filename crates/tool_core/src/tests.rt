@@ -139,7 +139,7 @@ fn numbered(alloc: Global, letter: &str, k: u8) -> Result<String, AllocError> {
 fn voice_message(k: u8) -> [u8; 163] {
     let mut voice = Voice::init();
     let _ = voice.set(134, k);
-    let _ = voice.set(145, b'A' + k);
+    let _ = voice.set(145, b'A' + k % 32);
     write_voice(0, &voice)
 }
 
@@ -162,10 +162,7 @@ fn a_librarian_keeps_voices(rt: HostRuntime) -> Result<(), Fail> {
     let list = words_of(alloc, &["list", "c"])?;
     assert_eq!(rt; tool_main(alloc, &list, &mut shelf, &mut names), 0);
     assert_eq!(rt; names.bytes().len(), 32 * 13 + 22);
-    assert_eq!(rt;
-        &names.bytes()[..26],
-        b"0 ANIT VOICE\n1 BNIT VOICE\n".as_slice()
-    );
+    assert!(rt; names.bytes().starts_with(b"0 ANIT VOICE\n1 BNIT VOICE\n"));
     for k in 0..32u8 {
         let name = numbered(alloc, "p", k)?;
         let slot = numbered(alloc, "", k)?;
