@@ -14,6 +14,16 @@ fn messages(alloc: Global, stream: &[u8]) -> Result<Vec<MidiMessage>, AllocError
     Ok(messages)
 }
 
+/// The stream with a timing clock before each byte.
+fn with_clocks(alloc: Global, stream: &[u8]) -> Result<Vec<u8>, AllocError> {
+    let mut bytes = Vec::new(alloc);
+    for byte in stream {
+        bytes.push(0xF8)?;
+        bytes.push(*byte)?;
+    }
+    Ok(bytes)
+}
+
 /// A system exclusive message of this many bytes.
 fn exclusive(alloc: Global, length: usize) -> Result<Vec<u8>, AllocError> {
     let mut bytes = Vec::new(alloc);
@@ -116,6 +126,9 @@ fn reads_streams(rt: HostRuntime) -> Result<(), Fail> {
     ];
     for (stream, wanted) in rows {
         let found = messages(alloc, stream)?;
+        assert_eq!(rt; found.as_slice(), wanted);
+        let clocked = with_clocks(alloc, stream)?;
+        let found = messages(alloc, clocked.as_slice())?;
         assert_eq!(rt; found.as_slice(), wanted);
     }
     Ok(())
