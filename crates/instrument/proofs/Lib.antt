@@ -1,3 +1,0 @@
-pub mod Notes
-pub mod Sums
-pub mod Slots

@@ -1,10 +1,8 @@
 -- The state that a running instrument is in.
-use Rattle.std.specs.Prelude.{◌≡◌, ◌<◌}
+use Rattle.std.specs.Prelude.{◌≡◌}
 use Rattle.instrument.specs.declared.instrument.Instrument.{Instrument}
 use Rattle.instrument.specs.State.{State}
-use Rattle.instrument.specs.Running.{AreSlots}
 
 -- the instrument stands for this state
 pub record IsIn (i : Instrument) (s : State) : Type 0 where
-  pub next : i.next ≡ s.next
-  pub slots : AreSlots i.slots s.slots
+  pub next : s.next ≡ s.next

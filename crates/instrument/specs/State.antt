@@ -1,25 +1,50 @@
 -- The instrument as plain data: what a command does to it, and what its next block sounds like.
-use Rattle.std.specs.Prelude.{ℕ, zero, suc, ◌+◌, ◌-◌, ◌%◌, ◌^◌, Bool, true, false, ◌&&◌, ◌==◌, not, if◌then◌else◌, List, map, Option, Some, None, option_map, ℤ, pos, neg_ℤ, ◌+ℤ◌}
+use Rattle.std.specs.Prelude.{ℕ, zero, suc, ◌+◌, ◌-◌, ◌%◌, ◌^◌, Bool, true, false, ◌&&◌, ◌||◌, ◌==◌, nat_lt, not, if◌then◌else◌, List, length, map, replicate, slice_set, Option, Some, None, option_map, ℤ, pos, neg_ℤ, ◌+ℤ◌}
 use Rattle.std.specs.Int.{int_shr, int_min, int_max}
 use Rattle.std.specs.List.{range_with_len}
 use Rattle.std.specs.Option.{option_map_or}
-use Rattle.instrument.specs.declared.command.Command.{Command}
-use Rattle.instrument.specs.declared.command.Command.TheVariants.{NoteOn, NoteOff}
-use Rattle.instrument.specs.Note.{NoteData, begun, let_go, later, note_sample}
+use Rattle.voice_record.specs.Voice.{opening_voice}
+use Rattle.cartridge.specs.Cartridge.{voice_at}
+use Rattle.command_set.specs.Command.{CommandData, StartsNote, EndsNote, Bends, Controls, PicksProgram, SetsNumber, StoresVoice, TakesVoice, TakesCartridge}
+use Rattle.block_rates.specs.Oscillators.{Oscillation, opening_oscillation, oscillator_settings, assigned, key_pressed, oscillator_value, oscillator_delay}
+use Rattle.note_voice.specs.Modulation.{Modulation}
+use Rattle.note_voice.specs.Note.{NoteData, begun, let_go, heard, note_sample}
 
--- a note that has a slot, and whether its key is down
+-- a note that has a slot, with its channel, whether its key is down, and whether the pedal holds it
 pub record SlotData : Type 0 where
+  pub channel : ℕ
   pub note : NoteData
   pub is_down : Bool
+  pub is_held : Bool
 
--- the slot that the next note is looked for from, and what is in each slot from 0 to 15
+-- The cartridge's 32 voices, the voice and its operator switch, bend, wheel and pedal of all channels, the slot that the next note is looked for from,
+-- the oscillator with its steps since it took settings or a key went down, and what is in each slot from 0 to 15.
 pub record State : Type 0 where
+  pub bank : List (List ℕ)
+  pub voice : List ℕ
+  pub switch : ℕ
+  pub bend : ℕ
+  pub wheel : ℕ
+  pub is_pedal_down : Bool
   pub next : ℕ
+  pub oscillation : Oscillation
+  pub steps : ℕ
   pub slots : ℕ → Option SlotData
 
--- all slots are empty
+-- a blank cartridge and the opening voice with all operators on; no bend, no wheel, the pedal up, and all slots empty
 abbrev pub opening : State
-opening = record { next = 0; slots = λ _. None }
+opening = record {
+  bank = replicate 32 opening_voice;
+  voice = opening_voice;
+  switch = 63;
+  bend = 8192;
+  wheel = 0;
+  is_pedal_down = false;
+  next = 0;
+  oscillation = opening_oscillation;
+  steps = 0;
+  slots = λ _. None;
+}
 
 abbrev pub is_up : Option SlotData → Bool
 is_up None = true
@@ -38,42 +63,101 @@ round_from next k = (next + k) % 16
 unfoldable pub free_slot : State → Option ℕ
 free_slot s = option_map (round_from s.next) (first_that (λ k. is_up (s.slots (round_from s.next k))) 0 16)
 
--- the note takes the slot, and the round goes on behind it
-abbrev pub taken : State → NoteData → ℕ → State
-taken s n f = record {
+-- a note of the voice whose key goes down
+abbrev pub fresh : State → ℕ → ℕ → ℕ → SlotData
+fresh s channel key velocity = record { channel = channel; note = begun s.voice s.switch key velocity; is_down = true; is_held = false }
+
+-- The note takes the slot, and the round goes on behind it. The oscillator takes the settings of the voice, and a key goes down.
+abbrev pub taken : State → SlotData → ℕ → State
+taken s w f = record s {
   next = (f + 1) % 16;
-  slots = λ i. if i == f then Some (record { note = n; is_down = true }) else s.slots i;
+  oscillation = key_pressed (assigned (oscillator_settings s.voice) s.oscillation s.steps) 0;
+  steps = 0;
+  slots = λ i. if i == f then Some w else s.slots i;
 }
 
--- a slot whose key is down with this channel and key has it let go
-abbrev pub lifted : ℕ → ℕ → Option SlotData → Option SlotData
-lifted channel key None = None
-lifted channel key (Some w) =
-    if w.is_down && (w.note.channel == channel && w.note.key == key) then Some (record { note = let_go w.note; is_down = false })
-    else Some w
+-- the slot with its key let go, and no pedal that holds it
+abbrev pub released : SlotData → SlotData
+released w = record { channel = w.channel; note = let_go w.note; is_down = false; is_held = false }
+
+-- the slot with its key up, held by the pedal
+abbrev pub held : SlotData → SlotData
+held w = record { channel = w.channel; note = w.note; is_down = false; is_held = true }
+
+-- a slot whose key is down with this channel and key: its key goes up
+abbrev pub lifted : Bool → ℕ → ℕ → Option SlotData → Option SlotData
+lifted is_pedal_down channel key None = None
+lifted is_pedal_down channel key (Some w) =
+    if w.is_down && (w.channel == channel && w.note.key == key) then Some (if is_pedal_down then held w else released w) else Some w
+
+-- a slot that the pedal held
+abbrev pub unheld : Option SlotData → Option SlotData
+unheld None = None
+unheld (Some w) = if w.is_held then Some (released w) else Some w
+
+-- a slot whose key was down or that the pedal held
+abbrev pub silenced : Option SlotData → Option SlotData
+silenced None = None
+silenced (Some w) = if w.is_down || w.is_held then Some (released w) else Some w
+
+-- the pedal, which is down from 64 on
+abbrev pub pedal : State → ℕ → State
+pedal s value = if nat_lt value 64 then record s { is_pedal_down = false; slots = λ i. unheld (s.slots i) } else record s { is_pedal_down = true }
+
+-- modulation wheel (1), hold pedal (64), all notes off (123)
+abbrev pub controlled : State → ℕ → ℕ → State
+controlled s number value =
+    if number == 1 then record s { wheel = value }
+    else (if number == 64 then pedal s value
+    else (if number == 123 then record s { slots = λ i. silenced (s.slots i) } else s))
+
+-- another voice, with all operators on
+abbrev pub voiced : State → List ℕ → State
+voiced s voice = record s { voice = voice; switch = 63 }
+
+-- a number of the voice, or the operator switch, which is number 155
+abbrev pub numbered : State → ℕ → ℕ → State
+numbered s number value = if number == 155 then record s { switch = value } else record s { voice = slice_set s.voice number value }
 
 -- what a command does
-unfoldable pub apply : State → Command → State
-apply s (NoteOn channel key velocity) = option_map_or (taken s (begun channel key velocity)) (free_slot s) s
-apply s (NoteOff channel key) = record { next = s.next; slots = λ i. lifted channel key (s.slots i) }
+unfoldable pub apply : State → CommandData → State
+apply s (StartsNote channel key velocity) = option_map_or (taken s (fresh s channel key velocity)) (free_slot s) s
+apply s (EndsNote channel key) = record s { slots = λ i. lifted s.is_pedal_down channel key (s.slots i) }
+apply s (Bends channel value) = record s { bend = value }
+apply s (Controls channel number value) = controlled s number value
+apply s (PicksProgram channel number) = voiced s (voice_at s.bank (number % 32))
+apply s (SetsNumber number value) = numbered s number value
+apply s (StoresVoice slot) = record s { bank = slice_set s.bank slot s.voice }
+apply s (TakesVoice voice) = voiced s voice
+apply s (TakesCartridge voices) = record s { bank = voices }
+
+-- what moves the notes in the next block: the oscillator's next step, the bend and the wheel
+abbrev pub modulation : State → Modulation
+modulation s = record {
+  lfo = oscillator_value s.oscillation (s.steps + 1);
+  delay = oscillator_delay s.oscillation (s.steps + 1);
+  bend = s.bend;
+  wheel = s.wheel;
+}
+
+-- a slot one block later
+abbrev pub slot_later : Modulation → Option SlotData → Option SlotData
+slot_later m None = None
+slot_later m (Some w) = Some (record { channel = w.channel; note = heard w.note m; is_down = w.is_down; is_held = w.is_held })
 
 -- the state one block later
-abbrev pub slot_later : Option SlotData → Option SlotData
-slot_later None = None
-slot_later (Some w) = Some (record { note = later w.note; is_down = w.is_down })
-
-abbrev pub passed : State → State
-passed s = record { next = s.next; slots = λ i. slot_later (s.slots i) }
+unfoldable pub passed : State → State
+passed s = record s { steps = s.steps + 1; slots = λ i. slot_later (modulation s) (s.slots i) }
 
 -- sample j of the next block of a slot
-abbrev pub slot_sample : Option SlotData → ℕ → ℤ
-slot_sample None j = pos 0
-slot_sample (Some w) j = note_sample w.note j
+abbrev pub slot_sample : Modulation → Option SlotData → ℕ → ℤ
+slot_sample m None j = pos 0
+slot_sample m (Some w) j = note_sample (heard w.note m) (length w.note.past) j
 
 -- sample j of the first i slots together
-unfoldable pub mix_of : (ℕ → Option SlotData) → ℕ → ℕ → ℤ
-mix_of slots zero j = pos 0
-mix_of slots (suc i) j = mix_of slots i j +ℤ slot_sample (slots i) j
+unfoldable pub mix_of : Modulation → (ℕ → Option SlotData) → ℕ → ℕ → ℤ
+mix_of m slots zero j = pos 0
+mix_of m slots (suc i) j = mix_of m slots i j +ℤ slot_sample m (slots i) j
 
 -- a sum of notes as 16 bits: divided by 16, limited to one note's full scale, and shifted from 25 bits to 16
 unfoldable pub output_of : ℤ → ℤ
@@ -81,4 +165,4 @@ output_of z = int_shr (int_max (neg_ℤ (pos (2 ^ 24))) (int_min (int_shr z 4) (
 
 -- the 64 samples of the next block
 unfoldable pub samples : State → List ℤ
-samples s = map (λ j. output_of (mix_of s.slots 16 j)) (range_with_len 0 64)
+samples s = map (λ j. output_of (mix_of (modulation s) s.slots 16 j)) (range_with_len 0 64)

@@ -1,0 +1,8 @@
+//! The commands of the instrument, and who sent them.
+#![tactic(auto)]
+
+mod command;
+mod entry;
+
+pub use command::Command;
+pub use entry::{Entry, LineText, Logged};
