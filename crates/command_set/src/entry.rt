@@ -1,6 +1,4 @@
 use crate::command::Command;
-use arrayvec::ArrayVec;
-
 /// A command that a script sent: the script's number, the command's place in the script from 0 on,
 /// and the block at which it was due.
 #[derive(Drop)]
@@ -17,6 +15,3 @@ pub struct Logged {
     pub block: u32,
     pub entry: Entry,
 }
-
-/// A line of text. The longest is an order line with a whole cartridge.
-pub type LineText = ArrayVec<u8, 8256>;

@@ -5,4 +5,5 @@ mod command;
 mod entry;
 
 pub use command::Command;
-pub use entry::{Entry, LineText, Logged};
+pub use entry::{Entry, Logged};
+pub use plain_text::LineText;

@@ -1,0 +1,29 @@
+use super::*;
+use std::process::Abort;
+use std::test::Fail;
+
+/// What a number reads as, from 1 to 300.
+fn read(rt: &impl Abort, text: &[u8], wanted: Option<u32>) {
+    let found = number_in(text, 1, 300);
+    assert_eq!(rt; found, wanted);
+}
+
+#[test]
+fn numbers_and_words(rt: HostRuntime) -> Result<(), Fail> {
+    read(&rt, b"1", Some(1));
+    read(&rt, b"300", Some(300));
+    read(&rt, b"301", None);
+    read(&rt, b"0", None);
+    read(&rt, b"007", None);
+    read(&rt, b"", None);
+    read(&rt, b"1x", None);
+    read(&rt, b"99999999999999999999999", None);
+    let mut line = LineText::new();
+    push_text(&mut line, b"blocks ");
+    push_number(&mut line, 4_294_967_295);
+    push_text(&mut line, b" 0");
+    assert!(rt; is_word(line.as_slice(), b"blocks 4294967295 0"));
+    let parted = cut(line.as_slice(), b' ');
+    assert!(rt; matches!(parted, Some((front, _)) if is_word(front, b"blocks")));
+    Ok(())
+}
