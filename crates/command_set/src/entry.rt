@@ -1,4 +1,5 @@
 use crate::command::Command;
+
 /// A command that a script sent: the script's number, the command's place in the script from 0 on,
 /// and the block at which it was due.
 #[derive(Drop)]
