@@ -1,10 +1,11 @@
 -- Words that write no command.
 use Rattle.std.proofs.Common.{◌≡◌, ℕ, List, [], ◌∷◌, ◌-◌, refl}
 use Rattle.std.specs.Prelude.{Option, Some, None}
-use Rattle.instrument.specs.declared.command.Command.{Command}
-use Rattle.play_core.specs.Script.{parts, command_of, due_at, due_of}
-use Rattle.play_core.specs.Number.{number}
-use Rattle.play_core.proofs.Cuts.{parts_some}
+use Rattle.command_set.specs.declared.command.Command.{Command}
+use Rattle.plain_text.specs.Parts.{parts}
+use Rattle.play_core.specs.Script.{command_of, due_at, due_of}
+use Rattle.plain_text.specs.Number.{number}
+use Rattle.plain_text.proofs.Cuts.{parts_some}
 
 no_words : command_of [] ≡ None
 unfolding command_of

@@ -2,10 +2,11 @@
 use Rattle.std.proofs.Common.{◌≡◌, ◌≢◌, ℕ, zero, suc, ◌-◌, ◌≤◌, ◌<◌, List, [], ◌∷◌, ◌++◌, length, take, refl, sym, ◌∙◌, ap, arith, append_assoc, add-one, lt-ltb, ltb-true}
 use Rattle.std.specs.Prelude.{nat_lt, Bool, true, false, ◌&&◌, Option, Some, None, is_some, option_map, bytes_eq, codes, if◌then◌else◌}
 use Rattle.std.proofs.lemmas.List.{append-nil}
-use Rattle.instrument.specs.Command.{IsInRange}
+use Rattle.command_set.specs.Command.{IsInRange, content}
+use Rattle.plain_text.specs.Parts.{parts}
 use Rattle.play_core.specs.declared.line.Due.{Due}
-use Rattle.play_core.specs.Script.{Plan, Commands, TooMany, NotYet, parts, due_of, dues_of, ended, is_whole, are_too_many, plan_of, plan_of_lines, plan_of_parts, plan, command_limit, AreInOrder}
-use Rattle.play_core.proofs.Cuts.{parts_some}
+use Rattle.play_core.specs.Script.{Plan, Commands, TooMany, NotYet, due_of, dues_of, ended, is_whole, are_too_many, plan_of, plan_of_lines, plan_of_parts, plan, command_limit, AreInOrder}
+use Rattle.plain_text.proofs.Cuts.{parts_some}
 
 abbrev pub with_first : Due → Plan → Plan
 with_first due (Commands dues) = Commands (due ∷ dues)
@@ -196,7 +197,7 @@ pub last_pushed : (least : ℕ) (dues : List Due) (due : Due) → last_block lea
 last_pushed least [] due = refl
 last_pushed least (first ∷ dues) due = last_pushed first.block dues due
 
-pub order_pushed : (least : ℕ) (dues : List Due) (due : Due) → AreInOrder least dues → last_block least dues ≤ due.block → IsInRange due.command
+pub order_pushed : (least : ℕ) (dues : List Due) (due : Due) → AreInOrder least dues → last_block least dues ≤ due.block → IsInRange (content due.command)
     → AreInOrder least (dues ++ due ∷ [])
 order_pushed least [] due order later range = (later, range, tt)
 order_pushed least (first ∷ dues) due order later range = (order.0, order.1, order_pushed first.block dues due order.2 later range)

@@ -1,70 +1,18 @@
--- The bytes of the order file and of the sound file.
-use Rattle.std.specs.Prelude.{ℕ, zero, suc, ◌+◌, ◌*◌, ◌≤◌, List, [], ◌∷◌, ◌++◌, length, ℤ, codes, decimal}
-use Rattle.std.specs.Int.{w16, w32, to_le_bytes, cast_unsigned}
-use Rattle.std.specs.List.{flat_map}
-use Rattle.instrument.specs.declared.command.Command.{Command}
-use Rattle.instrument.specs.declared.command.Command.TheVariants.{NoteOn, NoteOff}
-use Rattle.instrument.specs.declared.command.Logged.{Logged}
-use Rattle.instrument.specs.Command.{IsInRange}
-use Rattle.instrument.specs.Journal.{sound}
+-- The journal of a script by itself, and the report of a run.
+use Rattle.std.specs.Prelude.{ℕ, ◌+◌, List, [], ◌∷◌, ◌++◌, length, codes, decimal}
+use Rattle.command_set.specs.Command.{content}
+use Rattle.command_set.specs.Entries.{LoggedData}
 use Rattle.play_core.specs.declared.line.Due.{Due}
 
 -- command i of the first script, taken at its due block
-abbrev pub logged : ℕ → Due → Logged
-logged i due = record { block = due.block; entry = record { script = 0; seq = i; sent_at = due.block; command = due.command } }
+abbrev pub logged : ℕ → Due → LoggedData
+logged i due = record { block = due.block; entry = record { script = 0; seq = i; sent_at = due.block; command = content due.command } }
 
 -- the commands of the first script from number i on, each taken at its due block
-unfoldable pub journal_from : ℕ → List Due → List Logged
+unfoldable pub journal_from : ℕ → List Due → List LoggedData
 journal_from i [] = []
 journal_from i (due ∷ dues) = logged i due ∷ journal_from (i + 1) dues
 
--- the text of a command
-unfoldable pub command_text : Command → List ℕ
-command_text (NoteOn channel key velocity) = codes "on " ++ (decimal channel ++ (32 ∷ (decimal key ++ (32 ∷ decimal velocity))))
-command_text (NoteOff channel key) = codes "off " ++ (decimal channel ++ (32 ∷ decimal key))
-
--- the first line of an order, with the number of blocks and of scripts
-unfoldable pub order_header : ℕ → ℕ → List ℕ
-order_header blocks scripts = codes "order engine 1 blocks " ++ (decimal blocks ++ (codes " scripts " ++ (decimal scripts ++ 10 ∷ [])))
-
--- BLOCK DUE SCRIPT SEQ TEXT
-unfoldable pub order_line : Logged → List ℕ
-order_line l =
-    decimal l.block ++ (32 ∷ (decimal l.entry.sent_at ++ (32 ∷ (decimal l.entry.script ++ (32 ∷ (decimal l.entry.seq ++ (32 ∷ (command_text l.entry.command ++ 10 ∷ []))))))))
-
--- the order file
-unfoldable pub order : List Logged → ℕ → ℕ → List ℕ
-order journal blocks scripts = order_header blocks scripts ++ flat_map order_line journal
-
--- the header of the sound file: one channel of 16 bits at 44100 Hz, and 64 samples for each block
-unfoldable pub wav_header : ℕ → List ℕ
-wav_header blocks =
-    codes "RIFF" ++ to_le_bytes w32 (36 + 128 * blocks) ++ codes "WAVEfmt " ++ to_le_bytes w32 16
-    ++ to_le_bytes w16 1 ++ to_le_bytes w16 1 ++ to_le_bytes w32 44100 ++ to_le_bytes w32 88200 ++ to_le_bytes w16 2 ++ to_le_bytes w16 16
-    ++ codes "data" ++ to_le_bytes w32 (128 * blocks)
-
--- the two bytes of a sample, the lower one first
-abbrev pub sample_bytes : ℤ → List ℕ
-sample_bytes sample = to_le_bytes w16 (cast_unsigned w16 sample)
-
--- the bytes of a block
-unfoldable pub wav_block : List ℤ → List ℕ
-wav_block samples = flat_map sample_bytes samples
-
--- the bytes of the first blocks of a journal's sound
-unfoldable pub wav_blocks : List Logged → ℕ → List ℕ
-wav_blocks journal zero = []
-wav_blocks journal (suc b) = wav_blocks journal b ++ wav_block (sound journal b)
-
--- the sound file
-unfoldable pub wav : List Logged → ℕ → List ℕ
-wav journal blocks = wav_header blocks ++ wav_blocks journal blocks
-
 -- the report
-unfoldable pub report : List Logged → ℕ → List ℕ
+unfoldable pub report : List LoggedData → ℕ → List ℕ
 report journal blocks = codes "ok blocks " ++ (decimal blocks ++ (codes " commands " ++ (decimal (length journal) ++ 10 ∷ [])))
-
--- the entries are in range, and no block is below the one before
-abbrev pub AreOrdered : ℕ → List Logged → Type 0
-AreOrdered least [] = Unit {0}
-AreOrdered least (l ∷ ls) = (least ≤ l.block) × IsInRange l.entry.command × AreOrdered l.block ls

@@ -1,4 +1,3 @@
-pub mod Number
 pub mod Script
 pub mod Files
 pub mod Words

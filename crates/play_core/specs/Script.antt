@@ -1,21 +1,17 @@
 -- What a script says: lines of text, in each a command and the block at which it is due.
-use Rattle.std.specs.Prelude.{ℕ, ◌+◌, ◌-◌, ◌≤◌, ◌==◌, nat_lt, List, [], ◌∷◌, length, take, Option, Some, None, is_some, option_map, option_and_then, Bool, true, false, ◌&&◌, bytes_eq, codes, if◌then◌else◌}
-use Rattle.std.specs.List.{slice_split}
-use Rattle.instrument.specs.declared.command.Command.{Command}
-use Rattle.instrument.specs.declared.command.Command.TheVariants.{NoteOn, NoteOff}
-use Rattle.instrument.specs.Command.{IsInRange}
+use Rattle.std.specs.Prelude.{ℕ, ◌+◌, ◌-◌, ◌≤◌, nat_lt, List, [], ◌∷◌, length, take, Option, Some, None, is_some, option_map, option_and_then, Bool, true, false, ◌&&◌, bytes_eq, codes, if◌then◌else◌}
+use Rattle.plain_text.specs.Parts.{parts}
+use Rattle.plain_text.specs.Number.{number}
+use Rattle.command_set.specs.declared.command.Command.{Command}
+use Rattle.command_set.specs.declared.command.Command.TheVariants.{NoteOn, NoteOff}
+use Rattle.command_set.specs.Command.{IsInRange, content}
 use Rattle.play_core.specs.declared.line.Due.{Due}
-use Rattle.play_core.specs.Number.{number}
 
 -- what a script says: its commands in order; or more of them than a run may have; or what is not known yet
 pub data Plan : Type 0 where
   Commands : List Due → Plan
   TooMany : Plan
   NotYet : Plan
-
--- the parts of a text that single bytes of this code separate
-abbrev pub parts : ℕ → List ℕ → List (List ℕ)
-parts code text = slice_split (λ byte. byte == code) text
 
 -- on CHANNEL KEY VELOCITY
 abbrev pub on_of : Option ℕ → Option ℕ → Option ℕ → Option Command
@@ -98,4 +94,4 @@ plan blocks text = plan_of_parts blocks (parts 10 text)
 -- the commands are in range, and no block is below the one before
 abbrev pub AreInOrder : ℕ → List Due → Type 0
 AreInOrder least [] = Unit {0}
-AreInOrder least (due ∷ dues) = (least ≤ due.block) × IsInRange due.command × AreInOrder due.block dues
+AreInOrder least (due ∷ dues) = (least ≤ due.block) × IsInRange (content due.command) × AreInOrder due.block dues

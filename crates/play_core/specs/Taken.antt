@@ -2,13 +2,14 @@
 use Rattle.std.specs.Prelude.{◌≡◌, ◌≢◌, ◌⊎◌, ℕ, ◌≤◌, List, [], length, Option, Some, option_map, take}
 use Rattle.std.specs.FinMap.{insert}
 use Rattle.outside.specs.Files.{Files, content, created, file_of}
-use Rattle.instrument.specs.declared.command.Logged.{Logged}
+use Rattle.command_set.specs.Entries.{LoggedData}
+use Rattle.take_files.specs.Files.{order, wav}
 use Rattle.play_core.specs.declared.line.Due.{Due}
 use Rattle.play_core.specs.declared.writing.Target.{Target}
 use Rattle.play_core.specs.declared.writing.Target.TheVariants.{Sound, Order}
 use Rattle.play_core.specs.Words.{Asked}
 use Rattle.play_core.specs.Script.{Plan, Commands, TooMany, NotYet, plan}
-use Rattle.play_core.specs.Files.{journal_from, order, wav, report}
+use Rattle.play_core.specs.Files.{journal_from, report}
 
 -- a plan is one of commands
 abbrev pub IsPlan : Plan → Type 0
@@ -23,7 +24,7 @@ commands_of TooMany = []
 commands_of NotYet = []
 
 -- the journal of the named script: each of its commands at its due block
-abbrev pub journal_in : Asked → Files → List Logged
+abbrev pub journal_in : Asked → Files → List LoggedData
 journal_in asked files = journal_from 0 (commands_of (plan asked.blocks (content files asked.script)))
 
 -- what is written is that of these commands

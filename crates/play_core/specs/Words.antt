@@ -1,7 +1,7 @@
 -- The words that the program takes.
 use Rattle.std.specs.Prelude.{ℕ, List, [], ◌∷◌, Option, None, option_map, Bool, not, ◌&&◌, nat_lt, length, bytes_eq, codes, if◌then◌else◌}
 use Rattle.play_core.specs.declared.words.Request.{Request}
-use Rattle.play_core.specs.Number.{number}
+use Rattle.plain_text.specs.Number.{number}
 
 -- what is asked for: the two files to write, the number of blocks and the script to read
 pub record Asked : Type 0 where

@@ -1,13 +1,13 @@
-ghost use Rattle.std.specs.Prelude.{◌≡◌, ◌≤◌, ◌∷◌, [], bytes_eq, IfSome};
-ghost use Rattle.play_core.specs.Script.{command_of, due_of, parts};
-ghost use Rattle.instrument.specs.Command.{IsInRange};
+ghost use Rattle.std.specs.Prelude.{◌≡◌, ◌≤◌, ◌∷◌, [], IfSome};
+ghost use Rattle.plain_text.specs.Parts.{parts};
+ghost use Rattle.play_core.specs.Script.{command_of, due_of};
+ghost use Rattle.command_set.specs.Command.{IsInRange, content};
 
-use crate::cut::cut;
-use crate::number::number_in;
-use instrument::Command;
+use command_set::Command;
+use plain_text::{cut, is_word, number_in};
 
 /// A command, and the block at which it is due.
-#[derive(Clone, Copy, Debug, PartialEq, Eq)]
+#[derive(Drop)]
 pub struct Due {
     pub block: u32,
     pub command: Command,
@@ -18,7 +18,7 @@ pub struct Due {
 pub(crate) fn read_line(line: &[u8], least: u32, blocks: u32) -> Option<Due>
     ensures value { result ≡ due_of least blocks (parts 32 line.now) }
     ensures later { IfSome result (λ due. least ≤ due.block) }
-    ensures range { IfSome result (λ due. IsInRange due.command) }
+    ensures range { IfSome result (λ due. IsInRange (content due.command)) }
 {
     let (block, words) = match cut(line, b' ') {
         Some(cut) => cut,
@@ -41,7 +41,7 @@ pub(crate) fn read_line(line: &[u8], least: u32, blocks: u32) -> Option<Due>
 #[tactic(auto, unfolding(crate::specs::Script::command_of))]
 fn read_command(verb: &[u8], numbers: &[u8]) -> Option<Command>
     ensures value { result ≡ command_of (verb.now ∷ parts 32 numbers.now) }
-    ensures range { IfSome result (λ command. IsInRange command) }
+    ensures range { IfSome result (λ command. IsInRange (content command)) }
 {
     let (channel, rest) = match cut(numbers, b' ') {
         Some(cut) => cut,
@@ -59,7 +59,7 @@ fn read_command(verb: &[u8], numbers: &[u8]) -> Option<Command>
 #[tactic(auto, unfolding(crate::specs::Script::command_of))]
 fn read_on(verb: &[u8], channel: &[u8], key: &[u8], velocity: &[u8]) -> Option<Command>
     ensures value { result ≡ command_of (verb.now ∷ channel.now ∷ key.now ∷ velocity.now ∷ []) }
-    ensures range { IfSome result (λ command. IsInRange command) }
+    ensures range { IfSome result (λ command. IsInRange (content command)) }
 {
     if !is_word(verb, b"on") {
         return None;
@@ -85,7 +85,7 @@ fn read_on(verb: &[u8], channel: &[u8], key: &[u8], velocity: &[u8]) -> Option<C
 #[tactic(auto, unfolding(crate::specs::Script::command_of))]
 fn read_off(verb: &[u8], channel: &[u8], key: &[u8]) -> Option<Command>
     ensures value { result ≡ command_of (verb.now ∷ channel.now ∷ key.now ∷ []) }
-    ensures range { IfSome result (λ command. IsInRange command) }
+    ensures range { IfSome result (λ command. IsInRange (content command)) }
 {
     if !is_word(verb, b"off") {
         return None;
@@ -101,11 +101,4 @@ fn read_off(verb: &[u8], channel: &[u8], key: &[u8]) -> Option<Command>
         }),
         None => None,
     }
-}
-
-/// Whether the text is this word.
-pub(crate) fn is_word(text: &[u8], word: &[u8]) -> bool
-    ensures { result ≡ bytes_eq text.now word.now }
-{
-    text == word
 }

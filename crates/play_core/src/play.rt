@@ -2,7 +2,8 @@ ghost use Rattle.std.specs.Prelude.{◌≡◌, ◌≢◌, ◌⊎◌, ◌<◌, �
 ghost use Rattle.outside.specs.Files.{Lacks, said};
 ghost use Rattle.outside.specs.Faults.{Rose};
 ghost use Rattle.play_core.specs.Script.{NotYet, plan};
-ghost use Rattle.play_core.specs.Files.{order as order_of, report, wav};
+ghost use Rattle.take_files.specs.Files.{order as order_of, wav};
+ghost use Rattle.play_core.specs.Files.{report};
 ghost use Rattle.play_core.specs.Taken.{AreBegun, HalfTaken, IsPlan, journal_in, taken, with_two};
 ghost use Rattle.play_core.specs.Words.{asked};
 ghost use Rattle.play_core.specs.Refused.{Finds, IsOneOf, OnSuccess, script_limit};

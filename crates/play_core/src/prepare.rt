@@ -36,7 +36,7 @@ pub(crate) fn prepare<S: Shelf>(
         Ok(dues) => dues,
         Err(why) => return Err(why),
     };
-    match make(alloc, &dues, blocks) {
+    match make(alloc, dues, blocks) {
         Ok(take) => Ok(take),
         Err(_) => Err(Refusal::Memory),
     }

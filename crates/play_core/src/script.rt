@@ -1,10 +1,11 @@
 ghost use Rattle.std.specs.Prelude.{◌≡◌, ◌≤◌, length, IfOk, IfErr};
-ghost use Rattle.play_core.specs.Script.{AreInOrder, Commands, command_limit, parts, plan, plan_of_lines};
+ghost use Rattle.plain_text.specs.Parts.{parts};
+ghost use Rattle.play_core.specs.Script.{AreInOrder, Commands, command_limit, plan, plan_of_lines};
 ghost use Rattle.play_core.specs.Refused.{IsPlanFault};
 
-use crate::cut::cut;
-use crate::line::{Due, is_word, read_line};
+use crate::line::{Due, read_line};
 use crate::refusal::Refusal;
+use plain_text::{cut, is_word};
 use std::alloc::Global;
 
 const COMMAND_LIMIT: usize = 1_000_000;
@@ -43,11 +44,11 @@ fn read_lines(alloc: Global, text: &[u8], blocks: u32) -> Result<Vec<Due>, Refus
         if dues.len() >= COMMAND_LIMIT {
             return Err(Refusal::Many);
         }
+        least = due.block;
         match dues.push(due) {
             Ok(()) => {}
             Err(_) => return Err(Refusal::Memory),
         }
-        least = due.block;
         rest = behind;
     }
     if rest.is_empty() {

@@ -1,7 +1,7 @@
 ghost use Rattle.std.specs.Prelude.{◌≡◌, ◌≢◌, ◌≤◌, IfSome, map, option_map, string_bytes};
 ghost use Rattle.play_core.specs.Words.{asked, asked_by, asked_of};
 
-use crate::number::number_in;
+use plain_text::number_in;
 
 /// What the words ask for.
 #[derive(Clone, Copy)]

@@ -1,5 +1,6 @@
 use Rattle.std.proofs.Common.{◌≡◌, ℕ, ◌-◌, ◌+◌, ◌≤◌, ◌<◌, [], ◌∷◌, ◌++◌, length, length-append, ◌∙◌, sym, ap, subst, refl, arith}
-use Rattle.play_core.specs.Script.{parts, command_limit}
+use Rattle.plain_text.specs.Parts.{parts}
+use Rattle.play_core.specs.Script.{command_limit}
 use Rattle.play_core.proofs.Plans.{all_none, said_is_plan, stops_at, is_over, goes_on, is_done, is_cut_off, empty, last_block, last_pushed, order_pushed}
 use Rattle.play_core.proofs.script.read_lines.Goals as goal
 

@@ -1,5 +1,6 @@
 use Rattle.std.proofs.Common.{◌≡◌, ◌-◌, ◌≤◌, length}
-use Rattle.play_core.specs.Script.{parts, plan_of_lines, command_limit, AreInOrder}
+use Rattle.plain_text.specs.Parts.{parts}
+use Rattle.play_core.specs.Script.{plan_of_lines, command_limit, AreInOrder}
 use Rattle.play_core.proofs.Plans.{said_from, with_all, last_block}
 use Rattle.play_core.proofs.script.read_lines.Given as goal
 

@@ -3,9 +3,9 @@ use Rattle.std.specs.Prelude.{pos}
 use Rattle.std.specs.List.{flat_map}
 use Rattle.std.proofs.Math.ListN.{length-set}
 use Rattle.std.proofs.lemmas.List.{take_all}
-use Rattle.play_core.specs.Files.{wav_block, sample_bytes}
-use Rattle.play_core.proofs.Waves.{sample_more}
-use Rattle.play_core.proofs.wav.wav_block.Goals as goal
+use Rattle.take_files.specs.Files.{wav_block, sample_bytes}
+use Rattle.take_files.proofs.Waves.{sample_more}
+use Rattle.take_files.proofs.wav.wav_block.Goals as goal
 
 pub loop-i-preserved : goal.loop-i-preserved
 loop-i-preserved c =

@@ -1,7 +1,7 @@
 use Rattle.std.proofs.Common.{◌≡◌, ◌*◌, length, take}
 use Rattle.std.specs.List.{flat_map}
-use Rattle.play_core.specs.Files.{sample_bytes}
-use Rattle.play_core.proofs.wav.wav_block.Given as goal
+use Rattle.take_files.specs.Files.{sample_bytes}
+use Rattle.take_files.proofs.wav.wav_block.Given as goal
 
 abbrev pub invariant-loop-i : goal.invariant-loop-i
 invariant-loop-i l = record {

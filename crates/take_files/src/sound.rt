@@ -1,24 +1,23 @@
 ghost use Rattle.std.specs.Prelude.{◌≡◌, ◌≤◌, ◌==◌, ◌<◌, ◌+◌, ◌*◌, length, map, IfOk, All, take_while};
-ghost use Rattle.instrument.specs.Command.{IsInRange};
+ghost use Rattle.command_set.specs.Command.{IsInRange, content};
+ghost use Rattle.command_set.specs.Entries.{journal_data};
 ghost use Rattle.instrument.specs.State.{State};
 ghost use Rattle.instrument.specs.Journal.{applied};
 ghost use Rattle.instrument.specs.Instrument.{IsIn};
-ghost use Rattle.play_core.specs.Files.{AreOrdered, wav};
+ghost use Rattle.take_files.specs.Files.{AreOrdered, wav};
 
 use crate::wav::{wav_block, wav_header};
-use instrument::{Engine, Instrument, Logged};
+use command_set::Logged;
+use instrument::{Engine, Instrument};
 use std::alloc::{AllocError, Global};
 
-/// The bytes of the sound file: block by block, after the commands that were taken up to it.
+/// The bytes of the sound file of a journal whose blocks don't fall, up to 1048576 blocks: block by block, what one instrument renders after
+/// the commands that were taken up to it.
 #[tactic(auto, unfolding(crate::specs::Files::wav))]
-pub(crate) fn make_sound(
-    alloc: Global,
-    journal: &[Logged],
-    blocks: u32,
-) -> Result<Vec<u8>, AllocError>
+pub fn sound_file(alloc: Global, journal: &[Logged], blocks: u32) -> Result<Vec<u8>, AllocError>
     requires blocks { blocks ≤ 1048576 }
-    requires order { AreOrdered 0 journal.now }
-    ensures { IfOk result (λ sound. sound.items ≡ wav journal.now blocks) }
+    requires order { AreOrdered 0 (journal_data journal.now) }
+    ensures { IfOk result (λ sound. sound.items ≡ wav (journal_data journal.now) blocks) }
 {
     let mut sound = Vec::with_capacity(alloc, 44 + 128 * blocks as usize)?;
     sound.extend_from_slice(&wav_header(blocks))?;
@@ -49,8 +48,8 @@ fn count_at(journal: &[Logged], block: u32) -> usize
 
 /// Applies the commands of the entries, one after the other.
 fn apply_all(instrument: &mut Instrument, entries: &[Logged])
-    requires { All (λ l. IsInRange l.entry.command) entries.now }
-    ensures { (s : State) → IsIn instrument.old s → IsIn instrument.new (applied s (map (λ l. l.entry.command) entries.now)) }
+    requires { All (λ l. IsInRange (content l.entry.command)) entries.now }
+    ensures { (s : State) → IsIn instrument.old s → IsIn instrument.new (applied s (map (λ l. content l.entry.command) entries.now)) }
 {
     for logged in entries {
         instrument.apply(&logged.entry.command);

@@ -1,5 +1,5 @@
 ghost use Rattle.std.specs.Prelude.{◌≡◌, ◌≤◌, ◌<◌, ◌+◌, ◌*◌, ◌^◌, length, slice_index_or, pos};
-ghost use Rattle.play_core.specs.Files as files;
+ghost use Rattle.take_files.specs.Files as files;
 
 /// The header of a sound file of so many blocks: RIFF, one channel of 16 bits at 44100 Hz.
 #[tactic(auto, unfolding(crate::specs::Files::wav_header))]

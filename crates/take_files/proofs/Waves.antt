@@ -6,7 +6,7 @@ use Rattle.std.proofs.Math.Seq.{take-suc-set}
 use Rattle.std.specs.List.{flat_map}
 use Rattle.std.proofs.lemmas.Grind.{take_at_read, flat_map-append}
 use Rattle.std.proofs.lemmas.List.{append-nil}
-use Rattle.play_core.specs.Files.{sample_bytes}
+use Rattle.take_files.specs.Files.{sample_bytes}
 
 pair_set : (bytes : List ℕ) (k x y : ℕ) → k + 1 < length bytes → take (suc (suc k)) (set (set bytes k x) (suc k) y) ≡ take k bytes ++ (x ∷ y ∷ [])
 pair_set bytes k x y fits =

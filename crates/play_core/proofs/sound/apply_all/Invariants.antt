@@ -1,8 +1,0 @@
-use Rattle.std.proofs.Common.{take, map}
-use Rattle.instrument.specs.State.{State}
-use Rattle.instrument.specs.Journal.{applied}
-use Rattle.instrument.specs.Instrument.{IsIn}
-use Rattle.play_core.proofs.sound.apply_all.Given as goal
-
-abbrev pub invariant-loop-logged : goal.invariant-loop-logged
-invariant-loop-logged l = (s : State) → IsIn l.fn.instrument s → IsIn l.instrument (applied s (map (λ x. x.entry.command) (take l.logged-index l.entries)))

@@ -1,0 +1,10 @@
+//! The two files of a run: the order of its commands, and its sound.
+#![tactic(auto)]
+
+mod order;
+mod sound;
+mod wav;
+
+pub use order::order_file;
+pub use sound::sound_file;
+pub use wav::{wav_block, wav_header};
