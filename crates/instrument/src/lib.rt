@@ -9,3 +9,8 @@ mod slots;
 
 pub use dx_tables::Engine;
 pub use instrument::Instrument;
+
+#[cfg(test)]
+mod plain;
+#[cfg(test)]
+mod tests;
