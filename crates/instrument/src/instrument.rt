@@ -1,7 +1,7 @@
 ghost use Rattle.std.specs.Prelude.{◌≡◌, ◌<◌, ◌≤◌, ◌+◌, ◌%◌, ℕ, Option, IfOk, IfSome};
 ghost use Rattle.voice_record.specs.Voice.{greatest_value};
 ghost use Rattle.cartridge.specs.Cartridge.{voice_at};
-ghost use Rattle.command_set.specs.Command.{IsInRange, StartsNote, EndsNote, SetsNumber, StoresVoice, TakesVoice, TakesCartridge, content};
+ghost use Rattle.command_set.specs.Command.{IsInRange, StartsNote, EndsNote, SetsNumber, StoresVoice, TakesCartridge, content};
 ghost use Rattle.instrument.specs.State.{State, apply, controlled, free_slot, modulation, opening, passed, pedal, samples, voiced};
 
 use crate::mix::{output, silence};
@@ -91,7 +91,7 @@ impl Instrument {
         ensures samples { (s : State) → IsIn self.old s → out.new ≡ samples s }
         ensures passed { (s : State) → IsIn self.old s → IsIn self.new (passed s) }
     {
-        let movement = self.movement();
+        let movement = self.next_movement();
         let mut mix = silence();
         sound_all(&mut self.slots, &self.tables, &movement, &mut mix);
         for j in 0..64usize {
@@ -126,23 +126,23 @@ impl Instrument {
         requires velocity { (1 ≤ velocity) × (velocity ≤ 127) }
         ensures { (s : State) → IsIn self.old s → IsIn self.new (apply s (StartsNote channel key velocity)) }
     {
-        if let Some(free) = self.free_slot() {
-            self.slots[free].start(
-                &self.tables,
-                &self.voice,
-                self.switch,
-                channel,
-                key,
-                velocity,
-            );
-            self.next = (free + 1) % 16;
-            self.lfo.assign(&self.voice);
-            self.lfo.key_down();
-        }
+        let Some(free) = self.free_slot() else {
+            return;
+        };
+        self.slots[free].start(
+            &self.tables,
+            &self.voice,
+            self.switch,
+            channel,
+            key,
+            velocity,
+        );
+        self.next = (free + 1) % 16;
+        self.lfo.assign(&self.voice);
+        self.lfo.key_down();
     }
 
     /// A key goes up in each slot where it is down.
-    #[tactic(auto, unfolding(crate::specs::State::apply))]
     fn note_off(&mut self, channel: u8, key: u8)
         ensures { (s : State) → IsIn self.old s → IsIn self.new (apply s (EndsNote channel key)) }
     {
@@ -186,8 +186,8 @@ impl Instrument {
     fn pick(&mut self, number: u8)
         ensures { (s : State) → IsIn self.old s → IsIn self.new (voiced s (voice_at s.bank (number % 32))) }
     {
-        self.voice = self.bank.voice(number % 32);
-        self.switch = 63;
+        let voice = self.bank.voice(number % 32);
+        self.take_voice(&voice);
     }
 
     /// Sets a number of the voice, 0 to 154, or the operator switch, 155.
@@ -221,9 +221,8 @@ impl Instrument {
     }
 
     /// Takes another voice, with all operators on.
-    #[tactic(auto, unfolding(crate::specs::State::apply))]
     fn take_voice(&mut self, voice: &Voice)
-        ensures { (s : State) → IsIn self.old s → IsIn self.new (apply s (TakesVoice voice.now)) }
+        ensures { (s : State) → IsIn self.old s → IsIn self.new (voiced s voice.now) }
     {
         self.voice = *voice;
         self.switch = 63;
@@ -244,7 +243,7 @@ impl Instrument {
     }
 
     /// What moves the notes in the next block, for which the oscillator steps.
-    fn movement(&mut self) -> Movement
+    fn next_movement(&mut self) -> Movement
         ensures value { (s : State) → IsIn self.old s → modulation_of result ≡ modulation s }
         ensures stepped { (s : State) → IsIn self.old s → IsIn self.new (record s { steps = s.steps + 1 }) }
     {

@@ -4,8 +4,8 @@ use Rattle.instrument.proofs.AllSlots.{taken_slots}
 use Rattle.instrument.proofs.States.{apply_free, apply_full, fresh_is, pressed_is, none_is}
 use Rattle.instrument.proofs.instrument.Instrument.note_on.Goals as goal
 
-pub returns-in-Some : goal.returns-in-Some
-returns-in-Some c = λ s h.
+pub returns : goal.returns
+returns c = λ s h.
     let len : length c.args.self.now.slots ≡ 16 = search rules in
     rw (apply_free s c.args.channel c.args.key c.args.velocity c.in-Some.free (sym (c.in-Some.ensures.slot s h)))
     (record {
