@@ -1,5 +1,5 @@
 -- Slots that a loop has gone through up to a place, and a slot that a note takes.
-use Rattle.std.proofs.Common.{ℕ, Bool, true, false, Option, Some, None, List, length, get_or, set, eqb, cond, eqb-true, ◌+◌, ◌<◌, ◌≤◌, ◌≢◌, ◌≡◌, refl, arith, below_more, get_or-set_other, get_or-set_same, subst}
+use Rattle.std.proofs.Common.{ℕ, Bool, true, false, Option, Some, List, length, get_or, set, eqb, cond, eqb-true, ◌+◌, ◌<◌, ◌≤◌, ◌≢◌, ◌≡◌, refl, arith, below_more, get_or-set_other, get_or-set_same, subst}
 use Rattle.std.proofs.lemmas.Bool.{eqb-false}
 use Rattle.instrument.specs.declared.slot.Slot.{Slot}
 use Rattle.instrument.specs.State.{SlotData}

@@ -1,5 +1,5 @@
 -- The search for the first slot of the round whose key is up.
-use Rattle.std.proofs.Common.{ℕ, suc, Bool, true, false, Option, Some, None, List, length, get_or, ◌+◌, ◌-◌, ◌%◌, ◌<◌, ◌≤◌, ◌≡◌, sym, refl, add-one, arith}
+use Rattle.std.proofs.Common.{ℕ, suc, Bool, true, false, Option, Some, None, List, get_or, ◌+◌, ◌-◌, ◌%◌, ◌<◌, ◌≤◌, ◌≡◌, sym, refl, add-one, arith}
 use Rattle.instrument.specs.declared.slot.Slot.{Slot}
 use Rattle.instrument.specs.State.{SlotData, first_that, is_up, round_from}
 use Rattle.instrument.specs.Running.{IsSlot, AreSlots}

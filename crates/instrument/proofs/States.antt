@@ -1,5 +1,5 @@
 -- What a command does, by what was found or which number it names.
-use Rattle.std.proofs.Common.{ℕ, Option, Some, None, true, false, Result, Ok, Err, IsOk, OnOk, List, set, ◌≤◌, ◌≢◌, ◌≡◌, refl, arith}
+use Rattle.std.proofs.Common.{ℕ, Option, Some, None, true, false, Result, Ok, Err, IsOk, OnOk, List, set, ◌≤◌, ◌≢◌, ◌≡◌, refl}
 use Rattle.std.proofs.lemmas.Bool.{ne_eqb}
 use Rattle.voice_record.specs.Voice.{greatest_value}
 use Rattle.command_set.specs.Command.{StartsNote, SetsNumber}

@@ -34,7 +34,8 @@ pub struct PlainInstrument {
     bend: u16,
     wheel: u8,
     pedal: u8,
-    last: usize,
+    /// The slot of the last note.
+    pub last: usize,
     lfo: Lfo,
     slots: [PlainSlot; 16],
     /// How many notes found no slot.

@@ -119,7 +119,7 @@ fn a_seventeenth_note_waits_for_a_slot(rt: HostRuntime) -> Result<(), Fail> {
     pair.block(&rt, 1);
     pair.apply(&rt, &note_off(42));
     pair.apply(&rt, &note_on(90));
-    assert_eq!(rt; pair.plain.dropped, 1);
+    assert_eq!(rt; (pair.plain.dropped, pair.plain.last), (1, 2));
     for b in 2..20u32 {
         pair.block(&rt, b);
     }
@@ -127,29 +127,36 @@ fn a_seventeenth_note_waits_for_a_slot(rt: HostRuntime) -> Result<(), Fail> {
     Ok(())
 }
 
-/// Block 12 of a note that was released before block 1.
-fn released_sound(rt: &impl Abort, alloc: Global, value: u8) -> Result<[i16; 64], AllocError> {
+/// Blocks 1 and 12 of a note that is released before block 1, where the pedal's value is this.
+fn released_sound(
+    rt: &impl Abort,
+    alloc: Global,
+    value: u8,
+) -> Result<([i16; 64], [i16; 64]), AllocError> {
     let mut pair = Pair::new(alloc)?;
     pair.apply(rt, &pedal(value));
     pair.apply(rt, &note_on(69));
     pair.block(rt, 0);
     pair.apply(rt, &note_off(69));
-    for b in 1..12u32 {
+    let early = pair.block(rt, 1);
+    for b in 2..12u32 {
         pair.block(rt, b);
     }
-    let out = pair.block(rt, 12);
+    let late = pair.block(rt, 12);
     pair.apply(rt, &pedal(0));
     for b in 13..20u32 {
         pair.block(rt, b);
     }
-    Ok(out)
+    Ok((early, late))
 }
 
 #[test]
 fn the_pedal_holds_a_note(rt: HostRuntime) -> Result<(), Fail> {
-    assert!(rt; released_sound(&rt, rt.alloc(), 127)? != [0; 64]);
-    assert!(rt; released_sound(&rt, rt.alloc(), 64)? != [0; 64]);
-    assert!(rt; released_sound(&rt, rt.alloc(), 63)? == [0; 64]);
+    let (early, late) = released_sound(&rt, rt.alloc(), 127)?;
+    let (early_at_64, late_at_64) = released_sound(&rt, rt.alloc(), 64)?;
+    assert!(rt; late != [0; 64] && early == early_at_64 && late == late_at_64);
+    let (early_at_63, late_at_63) = released_sound(&rt, rt.alloc(), 63)?;
+    assert!(rt; early != early_at_63 && late_at_63 == [0; 64]);
     Ok(())
 }
 

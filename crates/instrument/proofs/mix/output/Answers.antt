@@ -1,5 +1,5 @@
-use Rattle.std.proofs.Common.{ℤ, pos, negsuc, ◌∙◌, ◌≡◌, ◌≤◌, ◌≤ℤ◌, ◌^◌, ◌/◌, ap, SFits, w16, w64, to_z, of_z, arith, rules}
-use Rattle.std.specs.Int.{int_shr, int_min, int_max}
+use Rattle.std.proofs.Common.{ℤ, pos, negsuc, ◌≤◌, ◌≤ℤ◌, ap, SFits, w16, w64, arith}
+use Rattle.std.specs.Int.{int_shr}
 use Rattle.std.proofs.lemmas.Int.{ints, to_z-of_z}
 use Rattle.instrument.specs.State.{output_of}
 use Rattle.instrument.proofs.mix.output.Goals as goal

@@ -1,6 +1,6 @@
-use Rattle.std.proofs.Common.{ℕ, Option, ◌≡◌, ◌*◌, ◌^◌, ap, length-set, arith, subst, List, ℤ}
+use Rattle.std.proofs.Common.{◌≡◌, length-set, arith, subst}
 use Rattle.note_voice.specs.Mix.{IsAdded}
-use Rattle.instrument.specs.State.{SlotData, mix_of}
+use Rattle.instrument.specs.State.{mix_of}
 use Rattle.instrument.specs.Running.{modulation_of}
 use Rattle.instrument.proofs.AllSlots.{AreSlotsUpTo-none, AreSlotsUpTo-next, AreSlotsUpTo-all}
 use Rattle.instrument.proofs.Sums.{none_added, one_added, IsSmall-more, IsSmall-zeros}

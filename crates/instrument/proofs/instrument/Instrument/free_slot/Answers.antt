@@ -1,4 +1,4 @@
-use Rattle.std.proofs.Common.{◌∙◌, ◌≡◌, ◌+◌, ◌%◌, Some, ap, sym, arith, option_map}
+use Rattle.std.proofs.Common.{◌∙◌, ◌+◌, ◌%◌, Some, ap, sym, option_map}
 use Rattle.instrument.specs.State.{free_slot, round_from}
 use Rattle.instrument.proofs.Rounds.{first_that_stops, first_that_goes_on, first_that_ends, up_is}
 use Rattle.instrument.proofs.instrument.Instrument.free_slot.Goals as goal

@@ -1,4 +1,4 @@
-use Rattle.std.proofs.Common.{◌≡◌, ◌-◌, ℕ}
+use Rattle.std.proofs.Common.{◌≡◌, ◌-◌}
 use Rattle.instrument.specs.State.{State, is_up, first_that, round_from}
 use Rattle.instrument.specs.Instrument.{IsIn}
 use Rattle.instrument.proofs.instrument.Instrument.free_slot.Given as goal

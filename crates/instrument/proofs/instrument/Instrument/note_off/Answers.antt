@@ -1,4 +1,4 @@
-use Rattle.std.proofs.Common.{subst, ℕ}
+use Rattle.std.proofs.Common.{subst}
 use Rattle.instrument.specs.State.{apply, lifted}
 use Rattle.instrument.specs.Running.{AreSlots}
 use Rattle.instrument.proofs.instrument.Instrument.note_off.Goals as goal
