@@ -1,0 +1,4 @@
+pub mod Sums
+pub mod AllSlots
+pub mod Rounds
+pub mod States

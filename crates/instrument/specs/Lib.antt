@@ -1,4 +1,5 @@
 pub mod Mix
 pub mod State
 pub mod Journal
+pub mod Running
 pub mod Instrument

@@ -2,6 +2,15 @@
 #![tactic(auto)]
 
 mod instrument;
+mod mix;
+mod movement;
+mod slot;
+mod slots;
 
 pub use dx_tables::Engine;
 pub use instrument::Instrument;
+
+#[cfg(test)]
+mod plain;
+#[cfg(test)]
+mod tests;

@@ -1,0 +1,18 @@
+use Rattle.std.proofs.Common.{subst}
+use Rattle.instrument.specs.State.{apply, lifted}
+use Rattle.instrument.specs.Running.{AreSlots}
+use Rattle.instrument.proofs.instrument.Instrument.note_off.Goals as goal
+
+pub returns : goal.returns
+unfolding apply
+returns c = λ s h. record {
+  bank = h.bank;
+  voice = h.voice;
+  switch = h.switch;
+  bend = h.bend;
+  wheel = h.wheel;
+  pedal = h.pedal;
+  next = h.next;
+  oscillator = h.oscillator;
+  slots = subst (λ p. AreSlots c.lift_all.new.slots (λ i. lifted p c.args.channel c.args.key (s.slots i))) h.pedal (c.lift_all.ensures s.slots h.slots);
+}
