@@ -1,6 +1,6 @@
 -- The command that some words write.
 use Rattle.std.proofs.Common.{◌≡◌, ◌≢◌, ℕ, ◌+◌, ◌*◌, ◌^◌, ◌<◌, ◌≤◌, List, [], ◌∷◌, length, get_or, Option, Some, None, Result, Ok, Err, true, false, refl, ap, sym, ◌∙◌, subst, arith, if◌then◌else◌}
-use Rattle.std.specs.Prelude.{codes, decimal, option_map, option_and_then, bytes_eq}
+use Rattle.std.specs.Prelude.{codes, decimal, option_map, option_and_then, bytes_eq, MatchResult}
 use Rattle.std.specs.List.{flat_map}
 use Rattle.std.proofs.lemmas.Slice.Eq.{bytes_eq-Decides}
 use Rattle.hex.specs.Hex.{decode_of, decode_sized, encode_lower}
@@ -180,11 +180,44 @@ pub lone_word : (word : List ℕ) → command_of (word ∷ []) ≡ None
 unfolding command_of
 lone_word word = refl
 
+pub two_words : (kind first rest : List ℕ) → parts 32 rest ≡ rest ∷ [] → command_of (kind ∷ first ∷ parts 32 rest) ≡ two_of kind first rest
+unfolding command_of
+two_words kind first rest whole = rw whole refl
+
+pub three_words : (kind first rest second third : List ℕ) → parts 32 rest ≡ second ∷ parts 32 third → parts 32 third ≡ third ∷ []
+    → command_of (kind ∷ first ∷ parts 32 rest) ≡ three_of kind first second third
+unfolding command_of
+three_words kind first rest second third cut whole = rw (cut, whole) refl
+
 more_words : (kind first second third : List ℕ) (rest : List (List ℕ)) → rest ≢ [] → command_of (kind ∷ first ∷ second ∷ third ∷ rest) ≡ None
 unfolding command_of
 more_words kind first second third [] some = absurd (some refl)
 more_words kind first second third (one ∷ rest) some = refl
 
 -- a word too many
-pub five_words : (kind first second third rest : List ℕ) → command_of (kind ∷ first ∷ second ∷ third ∷ parts 32 rest) ≡ None
-five_words kind first second third rest = more_words kind first second third (parts 32 rest) (parts_some 32 rest)
+pub five_words : (kind first rest second behind third last : List ℕ) → parts 32 rest ≡ second ∷ parts 32 behind → parts 32 behind ≡ third ∷ parts 32 last
+    → command_of (kind ∷ first ∷ parts 32 rest) ≡ None
+five_words kind first rest second behind third last one two = rw (one, two) (more_words kind first second third (parts 32 last) (parts_some 32 last))
+
+pub only_store : (word : List ℕ) (slot : ℕ) → Some slot ≡ number 0 255 word → IsOnlyReading (codes "store" ∷ word ∷ []) (StoresVoice slot)
+only_store word slot e = only_read _ _ (store_words word ∙ ap (option_map StoresVoice) (sym e))
+
+pub no_store : (word : List ℕ) → None ≡ number 0 255 word → IsNoReading (codes "store" ∷ word ∷ [])
+no_store word e = none_read _ (store_words word ∙ ap (option_map StoresVoice) (sym e))
+
+-- ---- what a call that decodes says
+
+pub decoded : (o : Result (List ℕ) FromHexError) (r : Result Unit FromHexError) (out : List ℕ)
+    → MatchResult o (λ bytes. (r ≡ Ok tt) × (out ≡ bytes)) (λ e. r ≡ Err e) → r ≡ Ok tt → o ≡ Ok out
+decoded (Ok bytes) r out h is = ap Ok (sym h.1)
+decoded (Err x) r out h is = absurd (cc)
+
+pub not_decoded : (o : Result (List ℕ) FromHexError) (r : Result Unit FromHexError) (out : List ℕ) (e : FromHexError)
+    → MatchResult o (λ bytes. (r ≡ Ok tt) × (out ≡ bytes)) (λ x. r ≡ Err x) → r ≡ Err e → o ≡ Err e
+not_decoded (Ok bytes) r out e h is = let one = h.0 in absurd (cc)
+not_decoded (Err x) r out e h is = cc
+
+-- ---- a text and its words
+
+pub text_words : (d : CommandData) (whole : List ℕ) → IsInRange d → text d ≡ whole → words d ≡ parts 32 whole
+text_words d whole r same = sym (parts_text d r) ∙ ap (parts 32) same
