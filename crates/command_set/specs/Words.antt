@@ -1,9 +1,7 @@
 -- The words of a command's text, and the command that words say.
-use Rattle.std.specs.Prelude.{ℕ, ◌≡◌, ◌≢◌, List, [], ◌∷◌, codes, decimal, Option, Some, None, option_map, option_and_then, Result, Ok, Err, bytes_eq, if◌then◌else◌}
+use Rattle.std.specs.Prelude.{ℕ, ◌≡◌, ◌≢◌, List, [], ◌∷◌, codes, decimal, Option, Some, None, option_map, option_and_then, bytes_eq, if◌then◌else◌}
 use Rattle.std.specs.List.{flat_map}
-use Rattle.hex.specs.Hex.{decode_of, encode_lower}
-use Rattle.hex.specs.declared.error.FromHexError.{FromHexError}
-use Rattle.cartridge.specs.Cartridge.{voices_of}
+use Rattle.hex.specs.Hex.{encode_lower}
 use Rattle.plain_text.specs.Number.{number}
 use Rattle.command_set.specs.Command.{CommandData, StartsNote, EndsNote, Bends, Controls, PicksProgram, SetsNumber, StoresVoice, TakesVoice, TakesCartridge, IsInRange}
 use Rattle.command_set.specs.Text.{packed}
@@ -20,26 +18,21 @@ words (StoresVoice slot) = codes "store" ∷ decimal slot ∷ []
 words (TakesVoice voice) = codes "voice" ∷ encode_lower voice ∷ []
 words (TakesCartridge voices) = codes "cartridge" ∷ encode_lower (flat_map packed voices) ∷ []
 
--- no other command in range has these words
-abbrev pub IsOnlyReading : List (List ℕ) → CommandData → Type 0
-IsOnlyReading found command = (d : CommandData) → IsInRange d → words d ≡ found → d ≡ command
+-- the words of a command in range
+abbrev pub AreWordsOf : List (List ℕ) → CommandData → Type 0
+AreWordsOf found command = IsInRange command × (words command ≡ found)
 
--- no command in range has these words
-abbrev pub IsNoReading : List (List ℕ) → Type 0
-IsNoReading found = (d : CommandData) → IsInRange d → words d ≢ found
+-- the words of no command in range
+abbrev pub AreWordsOfNone : List (List ℕ) → Type 0
+AreWordsOfNone found = (d : CommandData) → IsInRange d → words d ≢ found
 
--- what bytes in hex write
-abbrev pub bytes_of : {A : Type 0} → (List ℕ → A) → Result (List ℕ) FromHexError → Option A
-bytes_of f (Ok bytes) = Some (f bytes)
-bytes_of f (Err e) = None
+-- the words of some command in range
+abbrev pub AreWordsOfSome : List (List ℕ) → Type 0
+AreWordsOfSome found = (d : CommandData) × AreWordsOf found d
 
--- a kind and one word
-unfoldable pub one_of : List ℕ → List ℕ → Option CommandData
-one_of kind word =
-    if bytes_eq kind (codes "store") then option_map StoresVoice (number 0 255 word)
-    else if bytes_eq kind (codes "voice") then bytes_of TakesVoice (decode_of word)
-    else if bytes_eq kind (codes "cartridge") then bytes_of (λ bytes. TakesCartridge (voices_of bytes)) (decode_of word)
-    else None
+-- `store` and one word
+unfoldable pub store_of : List ℕ → List ℕ → Option CommandData
+store_of kind word = if bytes_eq kind (codes "store") then option_map StoresVoice (number 0 255 word) else None
 
 -- a kind and two bytes
 unfoldable pub two_bytes_of : List ℕ → ℕ → ℕ → Option CommandData
@@ -68,9 +61,9 @@ unfoldable pub three_of : List ℕ → List ℕ → List ℕ → List ℕ → Op
 three_of kind first second third =
     option_and_then (λ a. option_and_then (λ b. option_and_then (three_bytes_of kind a b) (number 0 255 third)) (number 0 255 second)) (number 0 255 first)
 
--- the command that the words write, whether it is in range or not
-unfoldable pub command_of : List (List ℕ) → Option CommandData
-command_of (kind ∷ word ∷ []) = one_of kind word
-command_of (kind ∷ first ∷ second ∷ []) = two_of kind first second
-command_of (kind ∷ first ∷ second ∷ third ∷ []) = three_of kind first second third
-command_of other = None
+-- the command of numbers that the words write, whether it is in range or not
+unfoldable pub numbers_of : List (List ℕ) → Option CommandData
+numbers_of (kind ∷ word ∷ []) = store_of kind word
+numbers_of (kind ∷ first ∷ second ∷ []) = two_of kind first second
+numbers_of (kind ∷ first ∷ second ∷ third ∷ []) = three_of kind first second third
+numbers_of other = None

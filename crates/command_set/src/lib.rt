@@ -4,6 +4,8 @@
 mod command;
 mod entry;
 mod read;
+mod read_bytes;
+mod read_numbers;
 mod text;
 
 pub use command::Command;

@@ -109,7 +109,7 @@ fn push_next(into: &mut LineText, number: u32)
 }
 
 /// Adds bytes in hex.
-fn push_hex(into: &mut LineText, bytes: &[u8])
+pub(crate) fn push_hex(into: &mut LineText, bytes: &[u8])
     requires { length into.old.items + 2 * length bytes.now ≤ 8256 }
     ensures { into.new.items ≡ into.old.items ++ encode_lower bytes.now }
 {

@@ -1,6 +1,6 @@
 use Rattle.std.proofs.Common.{◌∙◌, sym}
 use Rattle.command_set.proofs.Reading.{two_words, three_words, five_words}
-use Rattle.command_set.proofs.read.read_more.Goals as goal
+use Rattle.command_set.proofs.read_numbers.read_more.Goals as goal
 
 pub returns-in-None : goal.returns-in-None
 returns-in-None c = c.read_two.ensures ∙ sym (two_words c.args.kind.now c.args.first.now c.args.rest.now c.in-None.ensures.whole)
