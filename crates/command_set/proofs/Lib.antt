@@ -1,0 +1,4 @@
+pub mod Packs
+pub mod Words
+pub mod Reading
+pub mod Writing

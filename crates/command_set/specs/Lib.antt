@@ -1,3 +1,5 @@
 pub mod Command
 pub mod Entries
 pub mod Text
+pub mod Words
+pub mod Unique

@@ -1,9 +1,14 @@
-//! The commands of the instrument, and who sent them.
+//! The commands of the instrument, the one text of each, and who sent them.
 #![tactic(auto)]
 
 mod command;
 mod entry;
+mod read;
+mod read_bytes;
+mod read_numbers;
+mod text;
 
 pub use command::Command;
 pub use entry::{Entry, Logged};
 pub use plain_text::LineText;
+pub use read::{TextFault, texts_are_unique};
