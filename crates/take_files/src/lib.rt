@@ -5,6 +5,6 @@ mod order;
 mod sound;
 mod wav;
 
-pub use order::order_file;
+pub use order::{order_file, order_header, order_line};
 pub use sound::sound_file;
 pub use wav::{wav_block, wav_header};
