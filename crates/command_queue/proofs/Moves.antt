@@ -1,5 +1,5 @@
 -- Each step keeps the rule.
-use Rattle.std.proofs.Common.{◌≡◌, ◌≢◌, ◌⊎◌, ℕ, ◌+◌, ◌<◌, true, false, List, [], ◌∷◌, ◌++◌, length, set, refl, sym, ap, ◌∙◌, subst, ⊎_elim, inl, inr, zero, suc, map, get_or, arith, append_assoc, true≢false}
+use Rattle.std.proofs.Common.{◌≡◌, ◌≢◌, ◌⊎◌, ℕ, ◌+◌, ◌<◌, true, false, List, [], ◌∷◌, ◌++◌, length, set, refl, sym, ap, ◌∙◌, subst, ⊎_elim, inl, inr, zero, suc, get_or, arith, append_assoc, true≢false}
 use Rattle.std.specs.Prelude.{All, sum, slice_index_or}
 use Rattle.std.proofs.lemmas.List.Elements.{All-push, All-weaker, All-nil}
 use Rattle.std.proofs.Math.ListN.{length-append, length-set, length-map, get_or-append}
@@ -99,7 +99,7 @@ takes port v may stays e items views h at =
     let left : x.script < length t.known → length (sent_by x.script t.taken) < length (slice_index_or t.known x.script []) =
     λ lt. subst (λ l. length (sent_by x.script t.taken) < length l) (sym (h.known x.script lt)) (of_front t.taken waiting x) in
     let Facts : Role → Type 0 = λ r. (x.script < length r.quotas) × IsInRange x.command × (length r.taken < sum r.quotas)
-        × (x.script < length r.known → length (sent_by x.script r.taken) < length (slice_index_or r.known x.script [])) in
+    × (x.script < length r.known → length (sent_by x.script r.taken) < length (slice_index_or r.known x.script [])) in
     let facts : Facts v = subst Facts (sym mine.1) (script, ranges, total, left) in
     let fits : (j : ℕ) (u : Role) → get_elem? (set views port w) j ≡ some u → Fits t' all j u =
     fits_set t' all views port w

@@ -1,14 +1,13 @@
 -- What an end's role says of its lessons.
-use Rattle.std.proofs.Common.{◌≡◌, ℕ, ◌+◌, ◌<◌, ◌≤◌, List, [], ◌++◌, length, sym, ap, ◌∙◌, subst, arith}
+use Rattle.std.proofs.Common.{◌≡◌, ℕ, ◌+◌, ◌<◌, ◌≤◌, List, ◌++◌, length, sym, ap, ◌∙◌, subst, arith}
 use Rattle.std.proofs.Math.ListN.{length-append, length-map}
-use Rattle.std.specs.Prelude.{All, sum, slice_index_or}
-use Rattle.command_set.specs.Entries.{EntryData, entry_data, sent_by}
+use Rattle.command_set.specs.Entries.{entry_data, sent_by}
 use Rattle.command_set.specs.declared.entry.Entry.{Entry}
 use Rattle.command_queue.specs.declared.rule.Role.{Role}
-use Rattle.command_queue.specs.Entries.{quota_at, IsLegal}
+use Rattle.command_queue.specs.Entries.{IsLegal}
 use Rattle.command_queue.specs.Rule.{plain, SenderSees}
-use Rattle.command_queue.specs.Ends.{SendView, RestView, HoldsAll, others_of, WasFull}
-use Rattle.command_queue.proofs.Counts.{others_bound, total_exact}
+use Rattle.command_queue.specs.Ends.{SendView, others_of, WasFull}
+use Rattle.command_queue.proofs.Counts.{others_bound}
 
 pub full_seen : (v : Role) (e : SendView) (items : List Entry) → v.number ≡ e.number → v.places ≡ e.line.places → v.quotas ≡ e.line.quotas → v.sent ≡ e.list → length items ≡ e.line.places → SenderSees v (plain items) → WasFull e
 full_seen v e items number places quotas sent full s = (

@@ -1,10 +1,10 @@
 //! The line.
-ghost use Rattle.std.specs.Prelude.{sum, ◌≡◌, ℕ, ◌+◌, ◌<◌, ◌≤◌, length, MatchOption, IfOk, IfErr, IfSome, IfNone};
-ghost use Rattle.crossbeam_queue.specs.Passes.{IsPassOf};
+ghost use Rattle.std.specs.Prelude.{sum, ◌≡◌, ℕ, ◌+◌, ◌<◌, ◌≤◌, true, false, [], length, MatchOption, IfOk, IfErr, IfSome, IfNone};
+ghost use Rattle.crossbeam_queue.specs.Passes.{IsPassOf, IsSamePass};
 ghost use Rattle.command_set.specs.Command.{content, IsInRange};
 ghost use Rattle.command_set.specs.Entries.{entry_data};
 ghost use Rattle.command_queue.specs.Entries.{quota_at};
-ghost use Rattle.command_queue.specs.Rule.{role_of, root, taker};
+ghost use Rattle.command_queue.specs.Rule.{role_of, root, taker, Took, TakerSees};
 ghost use Rattle.command_queue.specs.Ends.{line_at, new_end, new_taker, AreNewEnds, quota_of, others_of, total_of, entry_of, accepted, refused, took, found_empty, WasFull, WasEmpty};
 
 use crate::ends::{Full, SendEnd, TakeEnd};
@@ -62,6 +62,17 @@ fn make_end(queue: &Queue, pass: &mut Seat, number: u32, quota: u32, total: u64)
         refusals: 0,
         pass,
     }
+}
+
+// Takes the front out of the queue, by a pass that takes.
+pub(crate) fn pop<R: Wait>(queue: &Queue, rt: &R, pass: &mut Seat) -> Option<Entry>
+    requires pass { IsPassOf queue.now pass.old }
+    requires taker { ((role_of pass.old).takes ≡ true) × ((role_of pass.old).sends ≡ false) }
+    ensures pass { IsSamePass pass.old pass.new }
+    ensures some { IfSome result (λ x. Took (role_of pass.old) (entry_data x) (role_of pass.new)) }
+    ensures none { IfNone result ((role_of pass.new ≡ role_of pass.old) × TakerSees (role_of pass.old) []) }
+{
+    queue.pop_as::<Takes, R>(rt, pass)
 }
 
 impl Line {
@@ -150,7 +161,7 @@ impl Line {
         ensures some { IfSome result (λ x. (end.new ≡ took end.old (entry_data x)) × (x.script < length self.now.quotas) × IsInRange (content x.command) × (length end.new.list ≤ total_of end.old)) }
         ensures none { IfNone result ((end.new ≡ found_empty end.old) × WasEmpty end.old) }
     {
-        match self.queue.pop_as::<Takes, R>(rt, &mut end.pass) {
+        match pop(&self.queue, rt, &mut end.pass) {
             Some(entry) => Some(entry),
             None => {
                 end.empties = end.empties.saturating_add(1);

@@ -7,7 +7,7 @@ ghost use Rattle.command_queue.specs.Rule.{role_of, settler};
 ghost use Rattle.command_queue.specs.Ends.{AreEnds, rest_of, rest_took, HoldsAll, IsSettled};
 
 use crate::ends::{SendEnd, TakeEnd};
-use crate::line::Line;
+use crate::line::{Line, pop};
 use crate::rule::{Ends, Queue, Seat, Takes};
 use command_set::Entry;
 use std::marker::Model;
@@ -69,6 +69,6 @@ impl Rest {
         ensures more { IfSome result (λ _. ¬ (HoldsAll self.old)) }
         ensures none { IfNone result ((self.new ≡ self.old) × HoldsAll self.old × IsSettled self.old []) }
     {
-        self.queue.pop_as::<Takes, R>(rt, &mut self.pass)
+        pop(&self.queue, rt, &mut self.pass)
     }
 }

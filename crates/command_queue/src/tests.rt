@@ -31,11 +31,23 @@ fn send_at<R: Wait>(
 #[test]
 fn one_place(rt: HostRuntime) -> Result<(), Fail> {
     let (line, mut taker, mut ends) = Line::new(rt.alloc(), 1, &[4])?;
+    assert_eq!(rt; (line.places(), taker.total()), (1, 4));
+    assert_eq!(rt;
+        (ends[0].number(), ends[0].quota(), ends[0].others()),
+        (0, 4, 0)
+    );
     let sent = send_at(&rt, &line, ends.as_mut_slice(), 0, 7);
     assert!(rt; matches!(sent, Some(Ok(0))));
     assert!(rt; !ends[0].was_refused());
     let full = send_at(&rt, &line, ends.as_mut_slice(), 0, 8);
-    assert!(rt; matches!(full, Some(Err(Full { command: Command::Store { slot: 8 } }))));
+    assert!(rt;
+        matches!(
+            full,
+            Some(Err(Full {
+                command: Command::Store { slot: 8 }
+            }))
+        )
+    );
     assert!(rt; ends[0].was_refused());
     assert_eq!(rt; ends[0].count(), 1);
     let first = line.take(&rt, &mut taker).ok_or("nothing")?;
@@ -57,7 +69,10 @@ fn fill<R: Wait>(rt: &R, line: &Line, end: &mut SendEnd, count: u32)
         if sent >= count || sent >= end.quota() {
             return;
         }
-        if line.send(rt, end, sent, Command::Store { slot: 7 }).is_err() {
+        if line
+            .send(rt, end, sent, Command::Store { slot: 7 })
+            .is_err()
+        {
             thread::yield_now();
         }
     }
@@ -120,7 +135,11 @@ fn two_lent<R: Threads + Wait + Sync>(rt: &R, line: &Line, ends: &mut [SendEnd])
     let (low, high) = ends.split_at_mut(2);
     let one = &mut low[0];
     let two = &mut high[1];
-    thread::join_mut(rt, &mut || fill(rt, line, one, 3), &mut || fill(rt, line, two, 3));
+    thread::join_mut(
+        rt,
+        &mut || fill(rt, line, one, 3),
+        &mut || fill(rt, line, two, 3),
+    );
 }
 
 // All ends send, each from a thread of its own.
@@ -164,7 +183,14 @@ fn four_threads(rt: HostRuntime) -> Result<(), Fail> {
         in_order: true,
     };
     two_lent(&rt, &line, ends.as_mut_slice());
-    pass(&rt, &line, ends.as_mut_slice(), &mut taker, early, &mut tally);
+    pass(
+        &rt,
+        &line,
+        ends.as_mut_slice(),
+        &mut taker,
+        early,
+        &mut tally,
+    );
     let mut rest = line.finish(&rt, taker, ends);
     take_rest(&rt, &mut rest, &mut tally);
     assert_eq!(rt; tally.next, [1000, 1000, 1000, 1000]);
