@@ -12,20 +12,20 @@ use Rattle.command_set.specs.Command.{IsInRange}
 use Rattle.command_set.specs.Entries.{EntryData, sent_by, AreNumbered}
 use Rattle.command_queue.specs.Entries.{quota_at, others_at, IsLegal}
 
-pub of_push : (e : ℕ) (xs : List EntryData) (x : EntryData) → sent_by e (xs ++ x ∷ []) ≡ sent_by e xs ++ sent_by e (x ∷ [])
-of_push e xs x = filter-append (λ y. y.script == e) xs (x ∷ [])
+pub sent_by_push : (e : ℕ) (xs : List EntryData) (x : EntryData) → sent_by e (xs ++ x ∷ []) ≡ sent_by e xs ++ sent_by e (x ∷ [])
+sent_by_push e xs x = filter-append (λ y. y.script == e) xs (x ∷ [])
 
-pub of_one : (x : EntryData) (e : ℕ) → x.script ≡ e → sent_by e (x ∷ []) ≡ x ∷ []
-of_one x e h = ap (λ b. cond b (x ∷ []) []) (eq-eqb x.script e h)
+pub sent_by_one : (x : EntryData) (e : ℕ) → x.script ≡ e → sent_by e (x ∷ []) ≡ x ∷ []
+sent_by_one x e h = ap (λ b. cond b (x ∷ []) []) (eq-eqb x.script e h)
 
-pub of_none : (x : EntryData) (e : ℕ) → x.script ≢ e → sent_by e (x ∷ []) ≡ []
-of_none x e h = ap (λ b. cond b (x ∷ []) []) (ne_eqb x.script e h)
+pub sent_by_other : (x : EntryData) (e : ℕ) → x.script ≢ e → sent_by e (x ∷ []) ≡ []
+sent_by_other x e h = ap (λ b. cond b (x ∷ []) []) (ne_eqb x.script e h)
 
-pub of_push_same : (e : ℕ) (xs : List EntryData) (x : EntryData) → x.script ≡ e → sent_by e (xs ++ x ∷ []) ≡ sent_by e xs ++ x ∷ []
-of_push_same e xs x h = of_push e xs x ∙ ap (λ l. sent_by e xs ++ l) (of_one x e h)
+pub sent_by_push_same : (e : ℕ) (xs : List EntryData) (x : EntryData) → x.script ≡ e → sent_by e (xs ++ x ∷ []) ≡ sent_by e xs ++ x ∷ []
+sent_by_push_same e xs x h = sent_by_push e xs x ∙ ap (λ l. sent_by e xs ++ l) (sent_by_one x e h)
 
-pub of_push_other : (e : ℕ) (xs : List EntryData) (x : EntryData) → x.script ≢ e → sent_by e (xs ++ x ∷ []) ≡ sent_by e xs
-of_push_other e xs x h = of_push e xs x ∙ ap (λ l. sent_by e xs ++ l) (of_none x e h) ∙ append-nil (sent_by e xs)
+pub sent_by_push_other : (e : ℕ) (xs : List EntryData) (x : EntryData) → x.script ≢ e → sent_by e (xs ++ x ∷ []) ≡ sent_by e xs
+sent_by_push_other e xs x h = sent_by_push e xs x ∙ ap (λ l. sent_by e xs ++ l) (sent_by_other x e h) ∙ append-nil (sent_by e xs)
 
 pub same_or_not : (a b : ℕ) → (a ≡ b) ⊎ (a ≢ b)
 same_or_not a b = grind (arith, eqb_tells a b)
@@ -50,18 +50,18 @@ bounded_push : (quotas : List ℕ) (all : List EntryData) (x : EntryData) → le
 bounded_push quotas all x room h e = ⊎_elim
     (λ (is : x.script ≡ e).
     let r : length (sent_by e all) < quota_at quotas e = subst (λ k. length (sent_by k all) < quota_at quotas k) is room in
-    let l : length (sent_by e (all ++ x ∷ [])) ≡ length (sent_by e all ++ x ∷ []) = ap length (of_push_same e all x is) in
+    let l : length (sent_by e (all ++ x ∷ [])) ≡ length (sent_by e all ++ x ∷ []) = ap length (sent_by_push_same e all x is) in
     omega (arith, length-append (sent_by e all) (x ∷ [])))
     (λ (is : x.script ≢ e).
-    let l : length (sent_by e (all ++ x ∷ [])) ≡ length (sent_by e all) = ap length (of_push_other e all x is) in
+    let l : length (sent_by e (all ++ x ∷ [])) ≡ length (sent_by e all) = ap length (sent_by_push_other e all x is) in
     let b = h e in
     omega arith)
     (same_or_not x.script e)
 
 all_numbered_push : (all : List EntryData) (x : EntryData) → x.seq ≡ length (sent_by x.script all) → ((e : ℕ) → AreNumbered (sent_by e all)) → (e : ℕ) → AreNumbered (sent_by e (all ++ x ∷ []))
 all_numbered_push all x seq h e = ⊎_elim
-    (λ (is : x.script ≡ e). subst AreNumbered (sym (of_push_same e all x is)) (numbered_push (sent_by e all) x (h e) (seq ∙ ap (λ k. length (sent_by k all)) is)))
-    (λ (is : x.script ≢ e). subst AreNumbered (sym (of_push_other e all x is)) (h e))
+    (λ (is : x.script ≡ e). subst AreNumbered (sym (sent_by_push_same e all x is)) (numbered_push (sent_by e all) x (h e) (seq ∙ ap (λ k. length (sent_by k all)) is)))
+    (λ (is : x.script ≢ e). subst AreNumbered (sym (sent_by_push_other e all x is)) (h e))
     (same_or_not x.script e)
 
 -- the next entry of an end joins those that wait
@@ -182,21 +182,6 @@ module _ (quotas : List ℕ) (all : List EntryData) (made : All (λ x. x.script 
       let u = upto_but e (length quotas) lt (omega arith) in
       omega (arith, whole, below_all (length quotas) all made)
 
--- as many entries as all quotas, where each end's are as many as its quota
-upto_exact : (quotas : List ℕ) (all : List EntryData) → ((e : ℕ) → e < length quotas → length (sent_by e all) ≡ quota_at quotas e) → (n : ℕ) → n ≤ length quotas → length (below n all) ≡ sum (take n quotas)
-upto_exact quotas all each zero h = below_none all
-upto_exact quotas all each (suc n) h =
-    let r = upto_exact quotas all each n (omega arith) in
-    let b = each n (omega arith) in
-    let m : sum (take (n + 1) quotas) ≡ sum (take n quotas) + slice_index quotas n = sum_by_more (λ x. x) quotas n 0 (omega arith) in
-    let next : n + 1 ≡ suc n = omega arith in
-    let goal : length (below (n + 1) all) ≡ sum (take (n + 1) quotas) = omega (arith, below_more n all) in
-    subst (λ k. length (below k all) ≡ sum (take k quotas)) next goal
-
-pub total_exact : (quotas : List ℕ) (all : List EntryData) → All (λ x. x.script < length quotas) all → ((e : ℕ) → e < length quotas → length (sent_by e all) ≡ quota_at quotas e) → length all ≡ sum quotas
-total_exact quotas all made each =
-    sym (below_all (length quotas) all made) ∙ upto_exact quotas all each (length quotas) (omega arith) ∙ ap sum (take-length quotas)
-
 pub all_middle : (P : EntryData → Type 0) (xs : List EntryData) (x : EntryData) (ys : List EntryData) → All P (xs ++ x ∷ ys) → P x
 all_middle P [] x ys h = All-head P x ys h
 all_middle P (z ∷ zs) x ys h = all_middle P zs x ys (All-tail P z (zs ++ x ∷ ys) h)
@@ -205,15 +190,15 @@ pub all_none : (xs : List EntryData) → All (λ x. x.script < 0) xs → xs ≡ 
 all_none [] h = refl
 all_none (x ∷ xs) h = let bad : x.script < 0 = All-head (λ y. y.script < 0) x xs h in absurd (omega arith)
 
-pub none_of : (n : ℕ) (xs : List EntryData) → All (λ x. x.script < n) xs → sent_by n xs ≡ []
-none_of n [] h = refl
-none_of n (x ∷ xs) h =
+pub sent_by_nobody : (n : ℕ) (xs : List EntryData) → All (λ x. x.script < n) xs → sent_by n xs ≡ []
+sent_by_nobody n [] h = refl
+sent_by_nobody n (x ∷ xs) h =
     let is : x.script < n = All-head (λ y. y.script < n) x xs h in
-    ap (λ b. cond b (x ∷ sent_by n xs) (sent_by n xs)) (ne_eqb x.script n (λ e. omega arith)) ∙ none_of n xs (All-tail (λ y. y.script < n) x xs h)
+    ap (λ b. cond b (x ∷ sent_by n xs) (sent_by n xs)) (ne_eqb x.script n (λ e. omega arith)) ∙ sent_by_nobody n xs (All-tail (λ y. y.script < n) x xs h)
 
 -- what is left of an end's entries once x is taken is less than before
-pub of_front : (taken items : List EntryData) (x : EntryData) → length (sent_by x.script taken) < length (sent_by x.script (taken ++ x ∷ items))
-of_front taken items x =
+pub sent_by_front : (taken items : List EntryData) (x : EntryData) → length (sent_by x.script taken) < length (sent_by x.script (taken ++ x ∷ items))
+sent_by_front taken items x =
     let e : sent_by x.script (taken ++ x ∷ items) ≡ sent_by x.script taken ++ sent_by x.script (x ∷ items) = filter-append (λ y. y.script == x.script) taken (x ∷ items) in
     let f : sent_by x.script (x ∷ items) ≡ x ∷ sent_by x.script items = ap (λ b. cond b (x ∷ sent_by x.script items) (sent_by x.script items)) (eq-eqb x.script x.script refl) in
     let l : length (sent_by x.script (taken ++ x ∷ items)) ≡ length (sent_by x.script taken ++ (x ∷ sent_by x.script items)) = ap length (e ∙ ap (λ r. sent_by x.script taken ++ r) f) in

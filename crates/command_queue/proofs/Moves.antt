@@ -15,7 +15,7 @@ use Rattle.command_set.specs.Entries.{EntryData, entry_data, sent_by}
 use Rattle.command_queue.specs.declared.rule.Role.{Role}
 use Rattle.command_queue.specs.Entries.{quota_at, IsLegal}
 use Rattle.command_queue.specs.Rule.{plain, nobody, root, taker, one_more, next_end, joined, with_sent, with_taken, IsEnd, Fits, Kept, Holds, Sent, SenderSees, Accounts, Took, TakerSees}
-use Rattle.command_queue.proofs.Counts.{of_push_same, of_push_other, legal_push, legal_pop, legal_none, total_bound, all_middle, all_none, none_of, of_front, same_or_not}
+use Rattle.command_queue.proofs.Counts.{sent_by_push_same, sent_by_push_other, legal_push, legal_pop, legal_none, total_bound, all_middle, all_none, sent_by_nobody, sent_by_front, same_or_not}
 
 -- all views fit where the one that changed does, and the others do
 fits_set : (t : Role) (all : List EntryData) (views : List Role) (port : ℕ) (w : Role) → Fits t all port w → ((j : ℕ) (u : Role) → j ≢ port → get_elem? views j ≡ some u → Fits t all j u)
@@ -55,7 +55,7 @@ sends n port v e may stays places script seq quota ranges items views room h at 
         port_is = mine.port_is;
         made = mine.made;
         unjoined = mine.unjoined;
-        sent_is = ap (λ l. l ++ x ∷ []) mine.sent_is ∙ sym (of_push_same v.number all x script);
+        sent_is = ap (λ l. l ++ x ∷ []) mine.sent_is ∙ sym (sent_by_push_same v.number all x script);
         places_is = mine.places_is;
         quotas_is = mine.quotas_is;
       }),
@@ -66,7 +66,7 @@ sends n port v e may stays places script seq quota ranges items views room h at 
         port_is = y.port_is;
         made = y.made;
         unjoined = y.unjoined;
-        sent_is = y.sent_is ∙ sym (of_push_other u.number all x (other_end t all x port j v u mine y apart script));
+        sent_is = y.sent_is ∙ sym (sent_by_push_other u.number all x (other_end t all x port j v u mine y apart script));
         places_is = y.places_is;
         quotas_is = y.quotas_is;
       },
@@ -78,7 +78,7 @@ sends n port v e may stays places script seq quota ranges items views room h at 
       ends = h.ends;
       made = subst (All (λ y. y.script < t.made)) (sym moved) (All-push (λ y. y.script < t.made) all x h.made made);
       joins = h.joins;
-      known = λ k lt. h.known k lt ∙ sym (of_push_other k all x (λ same. let le = mine.unjoined in absurd (omega (arith, sym same ∙ script)))) ∙ ap (sent_by k) (sym moved);
+      known = λ k lt. h.known k lt ∙ sym (sent_by_push_other k all x (λ same. let le = mine.unjoined in absurd (omega (arith, sym same ∙ script)))) ∙ ap (sent_by k) (sym moved);
       each = subst (λ l. (j : ℕ) (u : Role) → get_elem? (set views port w) j ≡ some u → Fits t l j u) (sym moved) fits;
     } in
     (w, subst (λ l. Kept l (set views port w)) (sym (map-append entry_data items (e ∷ []))) kept, refl)
@@ -97,7 +97,7 @@ takes port v may stays e items views h at =
     let ranges : IsInRange x.command = all_middle (λ y. IsInRange y.command) t.taken x waiting h.legal.ranges in
     let total : length t.taken < sum t.quotas = omega (arith, total_bound t.quotas all h.legal.queued.made h.legal.bounded, length-append t.taken (x ∷ waiting)) in
     let left : x.script < length t.known → length (sent_by x.script t.taken) < length (slice_index_or t.known x.script []) =
-    λ lt. subst (λ l. length (sent_by x.script t.taken) < length l) (sym (h.known x.script lt)) (of_front t.taken waiting x) in
+    λ lt. subst (λ l. length (sent_by x.script t.taken) < length l) (sym (h.known x.script lt)) (sent_by_front t.taken waiting x) in
     let Facts : Role → Type 0 = λ r. (x.script < length r.quotas) × IsInRange x.command × (length r.taken < sum r.quotas)
     × (x.script < length r.known → length (sent_by x.script r.taken) < length (slice_index_or r.known x.script [])) in
     let facts : Facts v = subst Facts (sym mine.1) (script, ranges, total, left) in
@@ -230,7 +230,7 @@ forks port v may stays opened more items views h at =
               port_is = omega (arith, length-set views port w);
               made = omega arith;
               unjoined = omega arith;
-              sent_is = sym (none_of t.made all h.made) ∙ ap (λ k. sent_by k all) (sym number);
+              sent_is = sym (sent_by_nobody t.made all h.made) ∙ ap (λ k. sent_by k all) (sym number);
               places_is = ap (λ (r : Role). r.places) same;
               quotas_is = ap (λ (r : Role). r.quotas) same;
             },

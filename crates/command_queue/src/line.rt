@@ -1,5 +1,5 @@
 //! The line.
-ghost use Rattle.std.specs.Prelude.{sum, ◌≡◌, ℕ, ◌+◌, ◌<◌, ◌≤◌, true, false, [], length, MatchOption, IfOk, IfErr, IfSome, IfNone};
+ghost use Rattle.std.specs.Prelude.{sum, ◌≡◌, ◌+◌, ◌<◌, ◌≤◌, true, false, [], length, IfOk, IfErr, IfSome, IfNone};
 ghost use Rattle.crossbeam_queue.specs.Passes.{IsPassOf, IsSamePass};
 ghost use Rattle.command_set.specs.Command.{content, IsInRange};
 ghost use Rattle.command_set.specs.Entries.{entry_data};
@@ -38,6 +38,7 @@ fn open<K: Plan>(queue: &Queue, pass: &mut Seat, places: usize, quotas: &[u32])
     queue.another::<Opening<K>>(pass);
 }
 
+// The sum of all quotas.
 fn sum_of(quotas: &[u32]) -> u64
     requires { length quotas.now ≤ 256 }
     ensures { result ≡ sum quotas.now }

@@ -1,5 +1,5 @@
 //! What rests in a line once all ends have sent.
-ghost use Rattle.std.specs.Prelude.{◌≡◌, ℕ, ◌+◌, ◌<◌, ◌≤◌, [], ◌∷◌, ◌++◌, List, length, sum, IfSome, IfNone};
+ghost use Rattle.std.specs.Prelude.{◌≡◌, ◌<◌, ◌≤◌, [], ◌∷◌, ◌++◌, List, length, sum, IfSome, IfNone};
 ghost use Rattle.crossbeam_queue.specs.Passes.{IsPassOf};
 ghost use Rattle.command_set.specs.Command.{content, IsInRange};
 ghost use Rattle.command_set.specs.Entries.{EntryData, entry_data};

@@ -1,5 +1,5 @@
-ghost use Rattle.std.specs.Prelude.{◌≡◌, ◌<◌, ◌≤◌, All, length};
-ghost use Rattle.command_queue.specs.Ends.{AreEnds, quota_of};
+ghost use Rattle.std.specs.Prelude.{◌≡◌, ◌<◌, ◌≤◌, length};
+ghost use Rattle.command_queue.specs.Ends.{AreEnds};
 
 use crate::{Full, Line, Rest, SendEnd, TakeEnd};
 use command_set::{Command, Entry};
