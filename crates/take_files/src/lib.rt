@@ -2,9 +2,11 @@
 #![tactic(auto)]
 
 mod order;
+mod read;
 mod sound;
 mod wav;
 
 pub use order::{order_file, order_header, order_line};
+pub use read::{Order, OrderFault, OrderKind, read_order};
 pub use sound::sound_file;
 pub use wav::{wav_block, wav_header};
