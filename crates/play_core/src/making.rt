@@ -30,7 +30,7 @@ pub(crate) fn make(alloc: Global, dues: Vec<Due>, blocks: u32) -> Result<Take, A
 {
     let journal = make_journal(alloc, dues)?;
     Ok(Take {
-        sound: sound_file(alloc, &journal, blocks)?,
+        sound: sound_file(alloc, Engine::One, &journal, blocks)?,
         order: order_file(alloc, Engine::One, &journal, blocks, 1)?,
         report: make_report(alloc, &journal, blocks)?,
     })

@@ -3,15 +3,16 @@ use Rattle.std.proofs.Common.{◌≡◌, ◌≢◌, ℕ, zero, suc, ◌+◌, ◌
 use Rattle.std.specs.Prelude.{◌==◌, Bool, true, false, cond, filter, take_while, All}
 use Rattle.std.proofs.lemmas.Bool.{eq-eqb, eqb-true}
 use Rattle.std.proofs.lemmas.Grind.{take_at_read}
-use Rattle.std.proofs.lemmas.List.{map-append, length-take-le}
+use Rattle.std.proofs.lemmas.List.{map-append}
 use Rattle.std.proofs.lemmas.List.Elements.{All-nil, All-cons}
 use Rattle.std.proofs.lemmas.List.Sums.{take_while-cons}
 use Rattle.command_set.specs.Command.{CommandData, IsInRange, content}
-use Rattle.command_set.specs.Entries.{LoggedData, journal_data, logged_data}
+use Rattle.command_set.specs.Entries.{LoggedData, journal_data}
 use Rattle.command_set.specs.declared.entry.Logged.{Logged}
-use Rattle.instrument.specs.State.{State, opening, passed, apply, samples}
+use Rattle.instrument.specs.State.{State, passed, apply, samples}
 use Rattle.instrument.specs.Journal.{commands_at, applied, state_at, sound}
 use Rattle.take_files.specs.Files.{AreOrdered, wav_block, wav_blocks}
+use Rattle.take_files.specs.Playback.{state_before}
 
 -- entries in order
 
@@ -144,11 +145,6 @@ applied_more s ls i d below =
 
 -- the sound
 
--- the state in which a block begins, before its commands
-abbrev pub state_before : List LoggedData → ℕ → State
-state_before journal zero = opening
-state_before journal (suc b) = passed (state_at journal b)
-
 pub state_is : (journal : List LoggedData) (b : ℕ) → state_at journal b ≡ applied (state_before journal b) (commands_at journal b)
 unfolding state_at
 state_is journal zero = refl
@@ -158,10 +154,10 @@ pub next_state : (journal : List LoggedData) (b : ℕ) → state_before journal 
 next_state journal b = rw add-one refl
 
 pub plays : (journal : List LoggedData) (waiting : List Logged) (b count : ℕ) → count ≡ count_at b waiting → AreOrdered b (journal_data waiting)
-    → ((c : ℕ) → b ≤ c → commands_at journal c ≡ commands_in waiting c)
+    → ((c : ℕ) → b ≤ c → commands_at journal c ≡ commands_at (journal_data waiting) c)
     → applied (state_before journal b) (map command_in (take count waiting)) ≡ state_at journal b
 plays journal waiting b count is order rest =
-    ap (applied (state_before journal b)) (front_commands b count waiting is order ∙ sym (rest b (omega arith))) ∙ sym (state_is journal b)
+    ap (applied (state_before journal b)) (front_commands b count waiting is order ∙ sym (commands_data waiting b) ∙ sym (rest b (omega arith))) ∙ sym (state_is journal b)
 
 pub sounds : (journal : List LoggedData) (b : ℕ) → samples (state_at journal b) ≡ sound journal b
 unfolding sound
@@ -174,3 +170,14 @@ blocks_more journal header b = rw add-one (sym (append_assoc header (wav_blocks 
 pub no_blocks : (journal : List LoggedData) → wav_blocks journal 0 ≡ []
 unfolding wav_blocks
 no_blocks journal = refl
+
+-- one block later
+pub rest_at : (journal : List LoggedData) (waiting : List Logged) (b n count : ℕ) → count ≡ count_at b waiting → b < n
+    → commands_at journal n ≡ commands_at (journal_data waiting) n → commands_at journal n ≡ commands_at (journal_data (drop count waiting)) n
+rest_at journal waiting b n count is later was =
+    was ∙ commands_data waiting n ∙ rest_commands b n count waiting is later ∙ sym (commands_data (drop count waiting) n)
+
+pub block_behind : (journal : List LoggedData) (b : ℕ) (before bytes : List ℕ) → wav_blocks journal b ≡ before ++ bytes
+    → wav_blocks journal (b + 1) ≡ before ++ (bytes ++ wav_block (sound journal b))
+unfolding wav_blocks
+block_behind journal b before bytes is = rw add-one (ap (λ (l : List ℕ). l ++ wav_block (sound journal b)) is ∙ append_assoc before bytes (wav_block (sound journal b)))

@@ -1,7 +1,7 @@
 -- Which journals an order file may list, and where a text stops being an order.
 use Rattle.std.specs.Prelude.{ℕ, ◌≡◌, ◌≢◌, ◌⊎◌, ◌+◌, ◌^◌, ◌<◌, ◌≤◌, ◌==◌, List, [], ◌∷◌, ◌++◌, length, filter, take, slice_index_or}
 use Rattle.command_set.specs.Command.{IsInRange}
-use Rattle.command_set.specs.Entries.{EntryData, LoggedData}
+use Rattle.command_set.specs.Entries.{LoggedData}
 use Rattle.take_files.specs.Files.{order_header, order_line, order}
 use Rattle.take_files.specs.declared.read.OrderKind.{OrderKind}
 use Rattle.take_files.specs.declared.read.OrderKind.TheVariants.{Line, Block, Script, Sequence, Many}

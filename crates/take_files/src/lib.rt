@@ -2,11 +2,13 @@
 #![tactic(auto)]
 
 mod order;
+mod playback;
 mod read;
 mod sound;
 mod wav;
 
 pub use order::{order_file, order_header, order_line};
+pub use playback::{Piece, Playback};
 pub use read::{Order, OrderFault, OrderKind, read_order};
 pub use sound::sound_file;
 pub use wav::{wav_block, wav_header};

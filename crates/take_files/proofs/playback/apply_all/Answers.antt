@@ -4,7 +4,7 @@ use Rattle.instrument.specs.State.{State, apply}
 use Rattle.instrument.specs.Journal.{applied}
 use Rattle.instrument.specs.Instrument.{IsIn}
 use Rattle.take_files.proofs.Journals.{applied_more, command_in}
-use Rattle.take_files.proofs.sound.apply_all.Goals as goal
+use Rattle.take_files.proofs.playback.apply_all.Goals as goal
 
 pub loop-logged-preserved : goal.loop-logged-preserved
 loop-logged-preserved c = λ s h.
