@@ -271,12 +271,12 @@ two_bytes_said kind a b d e =
     elim (either (bytes_eq kind (codes "off")) _ _ d e) [
       | inl off ↦ kinded kind (codes "off") _ (EndsNote a b) d off.0 off.1 refl
       | inr f ↦ elim (either (bytes_eq kind (codes "program")) _ _ d f) [
-          | inl program ↦ kinded kind (codes "program") _ (PicksProgram a b) d program.0 program.1 refl
-          | inr g ↦ elim (either (bytes_eq kind (codes "param")) _ _ d g) [
-              | inl param ↦ kinded kind (codes "param") _ (SetsNumber a b) d param.0 param.1 refl
-              | inr none ↦ absurd (none_some d none)
-            ]
+        | inl program ↦ kinded kind (codes "program") _ (PicksProgram a b) d program.0 program.1 refl
+        | inr g ↦ elim (either (bytes_eq kind (codes "param")) _ _ d g) [
+          | inl param ↦ kinded kind (codes "param") _ (SetsNumber a b) d param.0 param.1 refl
+          | inr none ↦ absurd (none_some d none)
         ]
+      ]
     ]
 
 three_bytes_said : (kind : List ℕ) (a b v : ℕ) (d : CommandData) → three_bytes_of kind a b v ≡ Some d
@@ -286,9 +286,9 @@ three_bytes_said kind a b v d e =
     elim (either (bytes_eq kind (codes "on")) _ _ d e) [
       | inl on ↦ kinded kind (codes "on") _ (StartsNote a b v) d on.0 on.1 refl
       | inr f ↦ elim (either (bytes_eq kind (codes "control")) _ _ d f) [
-          | inl control ↦ kinded kind (codes "control") _ (Controls a b v) d control.0 control.1 refl
-          | inr none ↦ absurd (none_some d none)
-        ]
+        | inl control ↦ kinded kind (codes "control") _ (Controls a b v) d control.0 control.1 refl
+        | inr none ↦ absurd (none_some d none)
+      ]
     ]
 
 three_said : (kind first second third : List ℕ) (d : CommandData) → three_of kind first second third ≡ Some d → words d ≡ kind ∷ first ∷ second ∷ third ∷ []

@@ -14,8 +14,10 @@ returns-then-not-is_payload-clause-refused c =
 
 pub returns-in-Err-clause-memory : goal.returns-in-Err-clause-memory
 returns-in-Err-clause-memory c =
-    λ e. (TakesCartridge (voices_of c.decode_lower.new.into),
-    cartridge_read c.args.word.now c.decode_lower.new.into (c.is_payload.ensures.0 c.if-not-is_payload.false) (c.decode_lower.ensures.decoded c.if-not-decode_lower.false))
+    λ e. (
+      TakesCartridge (voices_of c.decode_lower.new.into),
+      cartridge_read c.args.word.now c.decode_lower.new.into (c.is_payload.ensures.0 c.if-not-is_payload.false) (c.decode_lower.ensures.decoded c.if-not-decode_lower.false),
+    )
 
 pub returns-in-Ok-new-clause-read : goal.returns-in-Ok-new-clause-read
 returns-in-Ok-new-clause-read c =
@@ -26,5 +28,7 @@ returns-in-Ok-new-clause-read c =
 
 pub returns-clause-memory : goal.returns-clause-memory
 returns-clause-memory c =
-    λ e. (TakesCartridge (voices_of c.decode_lower.new.into),
-    cartridge_read c.args.word.now c.decode_lower.new.into (c.is_payload.ensures.0 c.if-not-is_payload.false) (c.decode_lower.ensures.decoded c.if-not-decode_lower.false))
+    λ e. (
+      TakesCartridge (voices_of c.decode_lower.new.into),
+      cartridge_read c.args.word.now c.decode_lower.new.into (c.is_payload.ensures.0 c.if-not-is_payload.false) (c.decode_lower.ensures.decoded c.if-not-decode_lower.false),
+    )

@@ -17,6 +17,8 @@ returns-then-ne-clause-refused c =
 pub returns-in-Err-clause-memory : goal.returns-in-Err-clause-memory
 returns-in-Err-clause-memory c =
     λ e.
-    let same : c.bytes.result ≡ c.decode_lower.new.into = ne_same c.ne.result c.bytes.result c.decode_lower.new.into c.ne.ensures c.if-ne.false in
-    (TakesVoice c.from_bytes-voice.result, voice_read c.args.word.now c.from_bytes-voice.result c.from_bytes-voice.ensures.voice
-    (ap (λ s. encode_lower s) (sym c.bytes.ensures.value ∙ same) ∙ c.decode_lower.ensures.decoded c.if-not-decode_lower.false))
+    let same : c.bytes.result ≡ c.decode_lower.new.into = ne_same c.ne.result c.bytes.result c.decode_lower.new.into c.ne.ensures c.if-ne.false in (
+      TakesVoice c.from_bytes-voice.result,
+      voice_read c.args.word.now c.from_bytes-voice.result c.from_bytes-voice.ensures.voice
+          (ap (λ s. encode_lower s) (sym c.bytes.ensures.value ∙ same) ∙ c.decode_lower.ensures.decoded c.if-not-decode_lower.false),
+    )
