@@ -53,7 +53,7 @@ fn read_words(alloc: Global, text: &[u8]) -> Result<Command, TextFault>
     };
     match cut(rest, b' ') {
         None => read_one(alloc, kind, rest),
-        Some((first, rest)) => in_range(read_more(kind, first, rest)),
+        Some((first, rest)) => within_range(read_more(kind, first, rest)),
     }
 }
 
@@ -68,12 +68,12 @@ fn read_one(alloc: Global, kind: &[u8], word: &[u8]) -> Result<Command, TextFaul
     } else if is_word(kind, b"cartridge") {
         read_cartridge(alloc, word)
     } else {
-        in_range(read_store(kind, word))
+        within_range(read_store(kind, word))
     }
 }
 
 /// The command, where there is one and it is in range.
-fn in_range(command: Option<Command>) -> Result<Command, TextFault>
+fn within_range(command: Option<Command>) -> Result<Command, TextFault>
     ensures read { IfOk result (λ c. (option_map content command ≡ Some (content c)) × IsInRange (content c)) }
     ensures refused { result ≡ Err NotCommand → (d : CommandData) → IsInRange d → option_map content command ≢ Some d }
     ensures memory { result ≢ Err Memory }

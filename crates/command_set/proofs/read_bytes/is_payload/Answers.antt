@@ -1,6 +1,6 @@
 use Rattle.std.proofs.Common.{◌≡◌, true, arith, refl, sym, subst, below_more}
 use Rattle.voice_record.specs.Packing.{Packs}
-use Rattle.cartridge.specs.Cartridge.{slot_bytes, unpacked, voices_of, PacksAll}
+use Rattle.cartridge.specs.Cartridge.{slot_bytes, unpacked}
 use Rattle.cartridge.proofs.Voices.{all_packed, packs_itself}
 use Rattle.command_set.proofs.read_bytes.is_payload.Goals as goal
 

@@ -1,7 +1,7 @@
-use Rattle.std.proofs.Common.{◌≡◌, ◌∙◌, sym, ap, subst}
+use Rattle.std.proofs.Common.{◌≡◌, ◌∙◌}
 use Rattle.cartridge.specs.Cartridge.{voices_of}
 use Rattle.command_set.specs.Command.{TakesCartridge}
-use Rattle.command_set.proofs.Reading.{cartridge_read, no_cartridge, other_cartridge, never_both}
+use Rattle.command_set.proofs.Hexed.{cartridge_read, no_cartridge, other_cartridge, never_both}
 use Rattle.command_set.proofs.read_bytes.read_cartridge.Goals as goal
 
 pub returns-then-not-decode_lower-clause-refused : goal.returns-then-not-decode_lower-clause-refused

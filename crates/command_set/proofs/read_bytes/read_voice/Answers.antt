@@ -1,7 +1,7 @@
-use Rattle.std.proofs.Common.{◌≡◌, ◌≢◌, ◌∙◌, true, sym, ap, subst}
+use Rattle.std.proofs.Common.{◌≡◌, ◌≢◌, ◌∙◌, sym, ap}
 use Rattle.hex.specs.Hex.{encode_lower}
 use Rattle.command_set.specs.Command.{TakesVoice}
-use Rattle.command_set.proofs.Reading.{voice_read, no_voice, other_voice, ne_apart, ne_same}
+use Rattle.command_set.proofs.Hexed.{voice_read, no_voice, other_voice, ne_apart, ne_same}
 use Rattle.command_set.proofs.read_bytes.read_voice.Goals as goal
 
 pub returns-then-not-decode_lower-clause-refused : goal.returns-then-not-decode_lower-clause-refused
