@@ -1,4 +1,6 @@
 pub mod Packs
 pub mod Words
-pub mod Reading
 pub mod Writing
+pub mod Reading
+pub mod Hexed
+pub mod Numbers

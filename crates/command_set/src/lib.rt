@@ -12,3 +12,6 @@ pub use command::Command;
 pub use entry::{Entry, Logged};
 pub use plain_text::LineText;
 pub use read::{TextFault, texts_are_unique};
+
+#[cfg(test)]
+mod tests;

@@ -28,7 +28,8 @@ impl Command {
     ghost use Rattle.command_set.specs.Text.{text as text_of};
     ghost use Rattle.command_set.specs.declared.read.TextFault.TheVariants.{Memory, NotCommand};
 
-    /// The command that the text is the text of.
+    /// The command that the text is the text of. `NotCommand` comes exactly where it is the text of no
+    /// command in range, and takes no memory.
     pub fn read_text(alloc: Global, text: &[u8]) -> Result<Command, TextFault>
         requires { length text.now ≤ 536870912 }
         ensures text { IfOk result (λ c. text_of (content c) ≡ text.now) }
@@ -53,7 +54,7 @@ fn read_words(alloc: Global, text: &[u8]) -> Result<Command, TextFault>
     };
     match cut(rest, b' ') {
         None => read_one(alloc, kind, rest),
-        Some((first, rest)) => in_range(read_more(kind, first, rest)),
+        Some((first, rest)) => within_range(read_more(kind, first, rest)),
     }
 }
 
@@ -68,12 +69,12 @@ fn read_one(alloc: Global, kind: &[u8], word: &[u8]) -> Result<Command, TextFaul
     } else if is_word(kind, b"cartridge") {
         read_cartridge(alloc, word)
     } else {
-        in_range(read_store(kind, word))
+        within_range(read_store(kind, word))
     }
 }
 
 /// The command, where there is one and it is in range.
-fn in_range(command: Option<Command>) -> Result<Command, TextFault>
+fn within_range(command: Option<Command>) -> Result<Command, TextFault>
     ensures read { IfOk result (λ c. (option_map content command ≡ Some (content c)) × IsInRange (content c)) }
     ensures refused { result ≡ Err NotCommand → (d : CommandData) → IsInRange d → option_map content command ≢ Some d }
     ensures memory { result ≢ Err Memory }

@@ -1,6 +1,6 @@
-use Rattle.std.proofs.Common.{◌≡◌, ◌∙◌, Ok, true, length}
+use Rattle.std.proofs.Common.{◌≡◌, Ok, true, length}
 use Rattle.hex.specs.Hex.{decode_sized}
-use Rattle.command_set.proofs.Reading.{decoded, not_decoded, only_bytes, own_digits, no_digits}
+use Rattle.command_set.proofs.Hexed.{decoded, not_decoded, only_bytes, own_digits, no_digits}
 use Rattle.command_set.proofs.read_bytes.decode_lower.Goals as goal
 
 pub returns-in-Ok-clause-only : goal.returns-in-Ok-clause-only

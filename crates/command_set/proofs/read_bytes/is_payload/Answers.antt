@@ -1,6 +1,6 @@
 use Rattle.std.proofs.Common.{◌≡◌, true, arith, refl, sym, subst, below_more}
 use Rattle.voice_record.specs.Packing.{Packs}
-use Rattle.cartridge.specs.Cartridge.{slot_bytes, unpacked, voices_of, PacksAll}
+use Rattle.cartridge.specs.Cartridge.{slot_bytes, unpacked}
 use Rattle.cartridge.proofs.Voices.{all_packed, packs_itself}
 use Rattle.command_set.proofs.read_bytes.is_payload.Goals as goal
 
@@ -8,9 +8,9 @@ pub returns-then-not-is_packed : goal.returns-then-not-is_packed
 returns-then-not-is_packed c = (
   λ is. absurd (cc),
   λ all.
-  let own : Packs (unpacked (slot_bytes c.args.bytes.now c.loop-slot.slot)) (slot_bytes c.args.bytes.now c.loop-slot.slot) = packs_itself _ _ (all.slots c.loop-slot.slot c.loop-slot-test.true) in
-  let held : c.is_packed.result ≡ true = c.is_packed.ensures.1 (subst (λ bytes. Packs (unpacked bytes) bytes) (sym c.slot_of.ensures) own) in
-  absurd (cc (held, c.if-not-is_packed.true)),
+      let own : Packs (unpacked (slot_bytes c.args.bytes.now c.loop-slot.slot)) (slot_bytes c.args.bytes.now c.loop-slot.slot) = packs_itself _ _ (all.slots c.loop-slot.slot c.loop-slot-test.true) in
+      let held : c.is_packed.result ≡ true = c.is_packed.ensures.1 (subst (λ bytes. Packs (unpacked bytes) bytes) (sym c.slot_of.ensures) own) in
+      absurd (cc (held, c.if-not-is_packed.true)),
 )
 
 pub loop-slot-preserved : goal.loop-slot-preserved

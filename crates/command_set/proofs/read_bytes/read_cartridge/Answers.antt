@@ -1,7 +1,7 @@
-use Rattle.std.proofs.Common.{◌≡◌, ◌∙◌, sym, ap, subst}
+use Rattle.std.proofs.Common.{◌≡◌, ◌∙◌}
 use Rattle.cartridge.specs.Cartridge.{voices_of}
 use Rattle.command_set.specs.Command.{TakesCartridge}
-use Rattle.command_set.proofs.Reading.{cartridge_read, no_cartridge, other_cartridge, never_both}
+use Rattle.command_set.proofs.Hexed.{cartridge_read, no_cartridge, other_cartridge, never_both}
 use Rattle.command_set.proofs.read_bytes.read_cartridge.Goals as goal
 
 pub returns-then-not-decode_lower-clause-refused : goal.returns-then-not-decode_lower-clause-refused
@@ -14,8 +14,10 @@ returns-then-not-is_payload-clause-refused c =
 
 pub returns-in-Err-clause-memory : goal.returns-in-Err-clause-memory
 returns-in-Err-clause-memory c =
-    λ e. (TakesCartridge (voices_of c.decode_lower.new.into),
-    cartridge_read c.args.word.now c.decode_lower.new.into (c.is_payload.ensures.0 c.if-not-is_payload.false) (c.decode_lower.ensures.decoded c.if-not-decode_lower.false))
+    λ e. (
+      TakesCartridge (voices_of c.decode_lower.new.into),
+      cartridge_read c.args.word.now c.decode_lower.new.into (c.is_payload.ensures.0 c.if-not-is_payload.false) (c.decode_lower.ensures.decoded c.if-not-decode_lower.false),
+    )
 
 pub returns-in-Ok-new-clause-read : goal.returns-in-Ok-new-clause-read
 returns-in-Ok-new-clause-read c =
@@ -26,5 +28,7 @@ returns-in-Ok-new-clause-read c =
 
 pub returns-clause-memory : goal.returns-clause-memory
 returns-clause-memory c =
-    λ e. (TakesCartridge (voices_of c.decode_lower.new.into),
-    cartridge_read c.args.word.now c.decode_lower.new.into (c.is_payload.ensures.0 c.if-not-is_payload.false) (c.decode_lower.ensures.decoded c.if-not-decode_lower.false))
+    λ e. (
+      TakesCartridge (voices_of c.decode_lower.new.into),
+      cartridge_read c.args.word.now c.decode_lower.new.into (c.is_payload.ensures.0 c.if-not-is_payload.false) (c.decode_lower.ensures.decoded c.if-not-decode_lower.false),
+    )

@@ -1,5 +1,5 @@
 use Rattle.std.proofs.Common.{◌∙◌, sym}
-use Rattle.command_set.proofs.Reading.{two_words, three_words, five_words}
+use Rattle.command_set.proofs.Numbers.{two_words, three_words, five_words}
 use Rattle.command_set.proofs.read_numbers.read_more.Goals as goal
 
 pub returns-in-None : goal.returns-in-None
