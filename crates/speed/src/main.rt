@@ -1,6 +1,10 @@
 //! Runs a kernel many times and prints a checksum of its answers, so that a script can time it:
-//! `notes` renders blocks of six operators, `frames` reads a cartridge's message.
+//! `notes` renders blocks of six operators, `note` a whole note of them, `sixteen` sixteen notes on the instrument, `commands` applies commands,
+//! `entries` passes entries through a line, `frames` reads a cartridge's message.
 #![tactic(auto)]
+
+mod engine;
+mod line;
 
 ghost use Rattle.std.specs.Prelude.{◌≤◌};
 ghost use Rattle.operator_kernel.specs.Operator.{HasGains};
@@ -21,11 +25,27 @@ fn main(rt: HostRuntime) -> Result<(), anyhow::Error> {
                 let sum = render_notes(rt.alloc())?;
                 println!(rt; "notes sum {sum}")?;
             }
+            "note" => {
+                let sum = engine::render_note(rt.alloc())?;
+                println!(rt; "note sum {sum}")?;
+            }
+            "sixteen" => {
+                let sum = engine::render_sixteen(rt.alloc())?;
+                println!(rt; "sixteen sum {sum}")?;
+            }
+            "commands" => {
+                let sum = engine::apply_commands(rt.alloc())?;
+                println!(rt; "commands sum {sum}")?;
+            }
+            "entries" => {
+                let sum = line::pass_entries(&rt, rt.alloc())?;
+                println!(rt; "entries sum {sum}")?;
+            }
             "frames" => {
                 let sum = read_frames(rt.alloc())?;
                 println!(rt; "frames sum {sum}")?;
             }
-            _ => println!(rt; "usage: speed notes|frames")?,
+            _ => println!(rt; "usage: speed notes|note|sixteen|commands|entries|frames")?,
         }
     }
     Ok(())
