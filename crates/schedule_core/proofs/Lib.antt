@@ -1,0 +1,4 @@
+pub mod Journals
+pub mod Sounds
+pub mod Legal
+pub mod Settling
