@@ -36,7 +36,7 @@ order_by present journal es i j d h up below (inl inside) =
     rw (get_or_append_left journal (map (logged_at present) es) d i front, get_or_append_left journal (map (logged_at present) es) d j inside) (h.order i j d up inside)
 order_by present journal es i j d h up below (inr behind) =
     let at : get_or (journal ++ map (logged_at present) es) j d ≡ get_or (map (logged_at present) es) (j - length journal) d =
-        get_or-append_right journal (map (logged_at present) es) (length journal) j d refl behind in
+    get_or-append_right journal (map (logged_at present) es) (length journal) j d refl behind in
     let inside : j - length journal < length (map (logged_at present) es) = omega (arith, length-append journal (map (logged_at present) es)) in
     let last : (get_or (map (logged_at present) es) (j - length journal) d).block ≡ present = All-map (IsAt present) (logged_at present) es (λ k d below. refl) (j - length journal) d inside in
     let same : (get_or (journal ++ map (logged_at present) es) j d).block ≡ present = ap (λ (l : LoggedData). l.block) at ∙ last in
@@ -54,11 +54,11 @@ taken_up_to present journal es h = record {
 logs : (c : Core) (es later : List EntryData) → c.waiting ≡ es ++ later → IsLegal c → IsLegal (record c { waiting = later; journal = c.journal ++ map (logged_at c.blocks) es })
 logs c es later split h =
     let same : entries_of (c.journal ++ map (logged_at c.blocks) es) ++ later ≡ entries_of c.journal ++ c.waiting =
-        ap (λ (front : List EntryData). front ++ later) (entries_logged c.journal c.blocks es) ∙ append_assoc (entries_of c.journal) es later
-        ∙ ap (λ (back : List EntryData). entries_of c.journal ++ back) (sym split) in
+    ap (λ (front : List EntryData). front ++ later) (entries_logged c.journal c.blocks es) ∙ append_assoc (entries_of c.journal) es later
+    ∙ ap (λ (back : List EntryData). entries_of c.journal ++ back) (sym split) in
     let long : length c.waiting ≡ length es + length later = ap length split ∙ length-append es later in
     let more : length (c.journal ++ map (logged_at c.blocks) es) ≡ length c.journal + length es =
-        length-append c.journal (map (logged_at c.blocks) es) ∙ ap (λ (n : ℕ). length c.journal + n) (length-map es (logged_at c.blocks)) in
+    length-append c.journal (map (logged_at c.blocks) es) ∙ ap (λ (n : ℕ). length c.journal + n) (length-map es (logged_at c.blocks)) in
     record {
       queued = record {
         made = subst (All (λ (e : EntryData). e.script < c.scripts)) (sym same) h.queued.made;
@@ -101,7 +101,7 @@ marked_accepted true e list waiting first places logged m =
     (omega (arith, m.0, length_push list e), omega (arith, m.1, length_push list e, length_push waiting e))
 marked_accepted false e list waiting first places logged m = (m.0, omega (arith, m.1, length_push waiting e))
 
-accepts : (c : Core) (script due : ℕ) (command : CommandData) → script < c.scripts → length c.waiting < c.places → IsLegal c → IsLegal (queued c (next_entry c script due command))
+pub accepts : (c : Core) (script due : ℕ) (command : CommandData) → script < c.scripts → length c.waiting < c.places → IsLegal c → IsLegal (queued c (next_entry c script due command))
 accepts c script due command made room h =
     let e : EntryData = next_entry c script due command in
     let all : List EntryData = entries_of c.journal ++ c.waiting in
@@ -132,7 +132,7 @@ marked_refused true false refusals list first places logged waiting is some full
 marked_refused false true refusals list first places logged waiting is some full m = m some
 marked_refused false false refusals list first places logged waiting is some full m = m some
 
-refuses : (c : Core) (script : ℕ) → c.places ≤ length c.waiting → IsLegal c → IsLegal (refused c script)
+pub refuses : (c : Core) (script : ℕ) → c.places ≤ length c.waiting → IsLegal c → IsLegal (refused c script)
 refuses c script full h = record {
   queued = h.queued;
   lists = h.lists;

@@ -2,3 +2,4 @@ pub mod Journals
 pub mod Sounds
 pub mod Legal
 pub mod Settling
+pub mod Worlds
