@@ -14,9 +14,10 @@ use Rattle.instrument.specs.State.{State, apply, passed}
 use Rattle.instrument.specs.State.{opening as opening_state}
 use Rattle.instrument.specs.Journal.{state_at}
 use Rattle.schedule_core.specs.declared.mark.Mark.{Mark}
+use Rattle.schedule_core.specs.declared.world.World.{World}
 use Rattle.schedule_core.specs.Core.{Core, opening, Step, Send, Take, Render, Settle, step, run, queued, refused, taken, next_entry, logged_at}
 use Rattle.schedule_core.specs.Schedule.{IsLegal}
-use Rattle.schedule_core.specs.World.{mark_of, Stands}
+use Rattle.schedule_core.specs.World.{mark_of, Stands, IsLater}
 use Rattle.schedule_core.proofs.Journals.{state_opening, state_logged, state_passed}
 use Rattle.schedule_core.proofs.Legal.{opening_legal, step_legal, accepts, refuses}
 use Rattle.schedule_core.proofs.Sounds.{run_appended}
@@ -202,3 +203,11 @@ settles c count all = ap (λ (n : ℕ). run c (replicate n Take)) all ∙ sym (s
 pub none_waits : (t : Bool) (n : ℕ) → (IsTrue t ↔ (0 < n)) → t ≡ false → n ≡ 0
 none_waits t zero says is = refl
 none_waits t (suc n) says is = absurd (both_ways t is (says.1 (omega arith)))
+
+-- later than later
+pub later_on : {sent rendered : ℕ} {first before now : World} → IsLater sent rendered first before → IsLater 0 0 before now → IsLater sent rendered first now
+later_on g h = record {
+  ends = h.ends ∙ g.ends;
+  accepted = λ script. let one = g.accepted script in let two = h.accepted script in omega (arith, one, two);
+  blocks = omega (arith, g.blocks, h.blocks);
+}

@@ -1,5 +1,5 @@
 -- How a world, with its line, journal, instrument and marks, stands for a core.
-use Rattle.std.specs.Prelude.{ℕ, ◌≡◌, ◌<◌, List, length, map, slice_index_or, vec_len, Result, Ok, Err}
+use Rattle.std.specs.Prelude.{ℕ, ◌≡◌, ◌+◌, ◌<◌, ◌≤◌, List, length, map, slice_index_or, vec_len, Result, Ok, Err}
 use Rattle.std.specs.VecDeque.{deque_len}
 use Rattle.command_set.specs.declared.command.Command.{Command}
 use Rattle.command_set.specs.declared.entry.Entry.{Entry}
@@ -48,6 +48,18 @@ blocks_of w = w.blocks
 -- how many entries were accepted of a script
 abbrev pub accepted_of : World → ℕ → ℕ
 accepted_of w script = (slice_index_or w.marks.items script (record { accepted = 0; refusals = 0; first = 0 })).accepted
+
+-- How far one world may be from an earlier one: it has the scripts, and of each at most so many more entries were accepted, and at most so many more blocks were rendered.
+pub record IsLater (sent rendered : ℕ) (before now : World) : Type 0 where
+  pub ends : ends_of now ≡ ends_of before
+  pub accepted : (script : ℕ) → accepted_of now script ≤ accepted_of before script + sent
+  pub blocks : blocks_of now ≤ blocks_of before + rendered
+
+-- a world of so many scripts, of which nothing was accepted, before its first block
+pub record IsFirst (scripts : ℕ) (w : World) : Type 0 where
+  pub ends : ends_of w ≡ scripts
+  pub accepted : (script : ℕ) → accepted_of w script ≡ 0
+  pub blocks : blocks_of w ≡ 0
 
 -- How a send ended. The entry was accepted and its number is answered, where fewer waited than there are places; or it was refused, exactly where so many waited;
 -- or for want of memory nothing happened. What isn't accepted is handed back.

@@ -30,7 +30,7 @@ impl World {
     ghost use Rattle.command_set.specs.Entries.{journal_data};
     ghost use Rattle.instrument.specs.Journal.{sound};
     ghost use Rattle.schedule_core.specs.Core.{Core, opening, step, run, Take, Settle, Render};
-    ghost use Rattle.schedule_core.specs.World.{IsWorld, HasSent, ends_of, waiting_of, blocks_of, accepted_of};
+    ghost use Rattle.schedule_core.specs.World.{IsWorld, HasSent, IsFirst, IsLater, ends_of, waiting_of, blocks_of, accepted_of};
 
     /// A world of so many places in the line, 1 to 1,000,000, and scripts, 1 to 256. Nothing was sent.
     ///
@@ -38,7 +38,8 @@ impl World {
     pub fn new(alloc: Global, places: usize, ends: u32, engine: Engine) -> Result<World, AllocError>
         requires places { (1 ≤ places) × (places ≤ 1000000) }
         requires ends { (1 ≤ ends) × (ends ≤ 256) }
-        ensures { IfOk result (λ world. IsWorld world (opening places ends)) }
+        ensures opening { IfOk result (λ world. IsWorld world (opening places ends)) }
+        ensures first { IfOk result (λ world. IsFirst ends world) }
     {
         let marks = vec![in alloc; Mark::new(); ends as usize]?;
         let instrument = Instrument::new(alloc, engine)?;
@@ -67,7 +68,8 @@ impl World {
         requires script { script < ends_of self.old }
         requires count { accepted_of self.old script < 4294967295 }
         requires range { IsInRange (content command) }
-        ensures { (c : Core) → IsWorld self.old c → HasSent c script sent_at command result self.new }
+        ensures sent { (c : Core) → IsWorld self.old c → HasSent c script sent_at command result self.new }
+        ensures later { IsLater 1 0 self.old self.new }
     {
         let _ = alloc;
         let mark = self.marks[script as usize];
@@ -98,6 +100,7 @@ impl World {
         ensures left { IfOk result (λ taken. waiting_of self.old ≡ waiting_of self.new + (if taken then 1 else 0)) }
         ensures taken { (c : Core) → IsWorld self.old c → OnOk result (IsWorld self.new (step c Take)) }
         ensures err { (c : Core) → IsWorld self.old c → OnErr result (IsWorld self.new c) }
+        ensures later { IsLater 0 0 self.old self.new }
     {
         let _ = alloc;
         if self.waiting.is_empty() {
@@ -125,6 +128,7 @@ impl World {
         ensures none { OnOk result (waiting_of self.new ≡ 0) }
         ensures settled { (c : Core) → IsWorld self.old c → OnOk result (IsWorld self.new (step c Settle)) }
         ensures err { (c : Core) → IsWorld self.old c → OnErr result ((k : ℕ) × (k ≤ length c.waiting) × IsWorld self.new (run c (replicate k Take))) }
+        ensures later { IsLater 0 0 self.old self.new }
     {
         let mut count = 0;
         while self.take(alloc)? {
@@ -139,6 +143,7 @@ impl World {
         ensures sound { (c : Core) → IsWorld self.old c → out.new ≡ sound c.journal c.blocks }
         ensures rendered { (c : Core) → IsWorld self.old c → IsWorld self.new (step c Render) }
         ensures blocks { blocks_of self.new ≡ blocks_of self.old + 1 }
+        ensures later { IsLater 0 1 self.old self.new }
     {
         self.instrument.block(out);
         self.blocks += 1;

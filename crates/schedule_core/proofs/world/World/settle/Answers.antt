@@ -2,7 +2,7 @@ use Rattle.std.proofs.Common.{◌≡◌, ℕ, ◌+◌, length, replicate, subst,
 use Rattle.std.specs.VecDeque.{deque_len}
 use Rattle.schedule_core.specs.Core.{Core, run, step, Take, Settle}
 use Rattle.schedule_core.specs.World.{IsWorld}
-use Rattle.schedule_core.proofs.Worlds.{one_more, how_many, take_none, settles, none_waits}
+use Rattle.schedule_core.proofs.Worlds.{later_on, one_more, how_many, take_none, settles, none_waits}
 use Rattle.schedule_core.proofs.world.World.settle.Goals as goal
 
 pub loop-count-preserved : goal.loop-count-preserved
@@ -10,6 +10,7 @@ loop-count-preserved c =
     let one : deque_len c.loop-count.self.waiting ≡ deque_len c.take.new.self.waiting + 1 = rw c.if-branch.true at c.in_ok-take.ensures.left in
     record {
       counted = omega (arith, one, c.loop-count.invariant.counted);
+      later = later_on c.loop-count.invariant.later c.in_ok-take.ensures.later;
       taken = λ core h. subst (λ (d : Core). IsWorld c.take.new.self d) (sym (one_more core c.loop-count.count))
           (c.in_ok-take.ensures.taken (run core (replicate c.loop-count.count Take)) (c.loop-count.invariant.taken core h));
     }
