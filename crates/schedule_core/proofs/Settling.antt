@@ -1,8 +1,8 @@
 -- To settle is to take until none waits.
-use Rattle.std.proofs.Common.{◌≡◌, ℕ, List, [], ◌∷◌, ◌++◌, length, replicate, map, refl, sym, ◌∙◌, ap, append_assoc}
+use Rattle.std.proofs.Common.{◌≡◌, List, [], ◌∷◌, ◌++◌, length, replicate, map, sym, ◌∙◌, ap, append_assoc}
 use Rattle.std.proofs.lemmas.List.{append-nil}
 use Rattle.command_set.specs.Entries.{EntryData, LoggedData}
-use Rattle.schedule_core.specs.Core.{Core, Step, Take, settled, run, logged_at}
+use Rattle.schedule_core.specs.Core.{Core, Take, settled, run, logged_at}
 
 -- the core with another line and journal
 abbrev with_lists : Core → List EntryData → List LoggedData → Core

@@ -1,8 +1,7 @@
 -- Each block answered is the sound of every later journal.
-use Rattle.std.proofs.Common.{◌≡◌, ℕ, zero, suc, ◌+◌, ◌≤◌, ◌<◌, List, [], ◌∷◌, ◌++◌, length, map, refl, sym, ◌∙◌, ap, subst, arith}
+use Rattle.std.proofs.Common.{◌≡◌, ℕ, ◌+◌, ◌<◌, List, [], ◌∷◌, ◌++◌, length, map, refl, sym, ◌∙◌, ap, subst, arith}
 use Rattle.std.specs.Prelude.{Bool, true, false, cond, ℤ, nat_lt}
 use Rattle.std.specs.List.{range_with_len}
-use Rattle.command_set.specs.Command.{CommandData}
 use Rattle.command_set.specs.Entries.{EntryData, LoggedData}
 use Rattle.instrument.specs.Journal.{commands_at, sound}
 use Rattle.schedule_core.specs.Core.{Core, opening, Step, Send, Take, Render, Settle, step, run, answer, answers, queued, refused, taken, next_entry}

@@ -1,13 +1,13 @@
 -- What each call makes of a world's fields stands for the core one step on.
-use Rattle.std.proofs.Common.{◌≡◌, ℕ, zero, suc, ◌+◌, ◌-◌, ◌^◌, ◌≤◌, ◌<◌, min, List, [], ◌∷◌, ◌++◌, length, get_or, set, replicate, map, refl, sym, ◌∙◌, ap, subst, arith}
+use Rattle.std.proofs.Common.{◌≡◌, ℕ, zero, suc, ◌+◌, ◌-◌, ◌^◌, ◌<◌, min, List, [], ◌∷◌, ◌++◌, length, get_or, set, replicate, map, refl, sym, ◌∙◌, ap, subst, arith}
 use Rattle.std.specs.Prelude.{◌==◌, ◌&&◌, ◌↔◌, IsTrue, nat_lt, Bool, true, false, cond}
 use Rattle.std.proofs.lemmas.Bool.{both_ways, lt-ltb, le-ltb, eqb-true, eqb-false, cond-true, cond-false}
-use Rattle.std.proofs.lemmas.List.{map-append, length-map, length_push, length-set, length-replicate, get_or-replicate, get_or-set_same, get_or-set_other, get_or_read, replicate_more}
+use Rattle.std.proofs.lemmas.List.{map-append, length-map, length_push, length-set, length-replicate, get_or-replicate, get_or-set_same, get_or-set_other, replicate_more}
 use Rattle.command_set.specs.declared.command.Command.{Command}
 use Rattle.command_set.specs.declared.entry.Entry.{Entry}
 use Rattle.command_set.specs.declared.entry.Logged.{Logged}
 use Rattle.command_set.specs.Command.{content}
-use Rattle.command_set.specs.Entries.{EntryData, LoggedData, entry_data, logged_data, journal_data}
+use Rattle.command_set.specs.Entries.{EntryData, LoggedData, entry_data, logged_data}
 use Rattle.instrument.specs.declared.instrument.Instrument.{Instrument}
 use Rattle.instrument.specs.Instrument.{IsIn}
 use Rattle.instrument.specs.State.{State, apply, passed}
@@ -15,7 +15,7 @@ use Rattle.instrument.specs.State.{opening as opening_state}
 use Rattle.instrument.specs.Journal.{state_at}
 use Rattle.schedule_core.specs.declared.mark.Mark.{Mark}
 use Rattle.schedule_core.specs.declared.world.World.{World}
-use Rattle.schedule_core.specs.Core.{Core, opening, Step, Send, Take, Render, Settle, step, run, queued, refused, taken, next_entry, logged_at}
+use Rattle.schedule_core.specs.Core.{Core, opening, Send, Take, Render, Settle, step, run, queued, refused, taken, next_entry, logged_at}
 use Rattle.schedule_core.specs.Schedule.{IsLegal}
 use Rattle.schedule_core.specs.World.{mark_of, Stands, IsLater}
 use Rattle.schedule_core.proofs.Journals.{state_opening, state_logged, state_passed}
@@ -112,7 +112,7 @@ turned_away places waiting journal blocks marks i c script due command m h full 
     let all : length c.waiting ≡ c.places = sym long ∙ full ∙ h.limit in
     let mark : m ≡ mark_of c script = read_mark h script m below is in
     let one : new ≡ record { accepted = length (c.accepted script); refusals = min (c.refusals script + 1) (2 ^ 64 - 1); first = cond (c.refusals script == 0) (length (c.accepted script)) (c.first script) } =
-        ap (λ (x : Mark). let y : Mark = record { accepted = x.accepted; refusals = min (x.refusals + 1) (2 ^ 64 - 1); first = cond (x.refusals == 0) x.accepted x.first } in y) mark in
+    ap (λ (x : Mark). let y : Mark = record { accepted = x.accepted; refusals = min (x.refusals + 1) (2 ^ 64 - 1); first = cond (x.refusals == 0) x.accepted x.first } in y) mark in
     let stands : Stands places waiting journal blocks (set marks script new) i (refused c script) = record {
       legal = refuses c script (omega (arith, all)) h.legal;
       limit = h.limit;

@@ -19,9 +19,9 @@ known_once number =
     one_of_two (at_one number 1)
     (one_of_two (at_one number 64) (at_one number 123) (λ a b. let h : 64 ≡ number = omega (arith, a) in omega (arith, a, b)))
     (λ a b. apart a b) where
-  apart : number ≡ 1 → (number ≡ 64) ⊎ (number ≡ 123) → ⊥
-  apart a (inl b) = omega (arith, a, b)
-  apart a (inr b) = omega (arith, a, b)
+      apart : number ≡ 1 → (number ≡ 64) ⊎ (number ≡ 123) → ⊥
+      apart a (inl b) = omega (arith, a, b)
+      apart a (inr b) = omega (arith, a, b)
 
 pub in_range_once : (command : CommandData) → IsProp (IsInRange command)
 in_range_once (StartsNote channel key velocity) = hlevel le_prop

@@ -10,8 +10,8 @@ pub record AreTakenUpTo (present : ℕ) (journal : List LoggedData) : Type 0 whe
   pub order : (i j : ℕ) (d : LoggedData) → i ≤ j → j < length journal → (slice_index_or journal i d).block ≤ (slice_index_or journal j d).block
   pub past : All (λ l. l.block ≤ present) journal
 
--- The entries that were taken and those that wait are of scripts that there are, numbered in each, and no more wait than there are places; a script's list is what was accepted of it;
--- a script that was refused had so many places taken by others that its refusal was due; and the journal's blocks don't fall.
+-- The entries that were taken and those that wait are of scripts that there are, numbered in each, and no more wait than there are places. A script's list is what was accepted of it.
+-- When a script was first refused, as many entries waited as there are places, so these and what was accepted of it since are at most all entries. The journal's blocks don't fall.
 pub record IsLegal (c : Core) : Type 0 where
   pub queued : AreQueued c.scripts c.places (entries_of c.journal) c.waiting
   pub lists : (e : ℕ) → e < c.scripts → c.accepted e ≡ sent_by e (entries_of c.journal ++ c.waiting)

@@ -10,3 +10,8 @@ pub use dx_tables::Engine;
 pub use refusal::WorldRefusal;
 pub use schedule::every_schedule;
 pub use world::World;
+
+#[cfg(test)]
+mod plain;
+#[cfg(test)]
+mod tests;

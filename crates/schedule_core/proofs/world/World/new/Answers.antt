@@ -1,4 +1,4 @@
-use Rattle.std.proofs.Common.{◌≡◌, replicate, ap, ◌∙◌, rules}
+use Rattle.std.proofs.Common.{◌≡◌, replicate, rules}
 use Rattle.schedule_core.proofs.Worlds.{opens, fresh_mark}
 use Rattle.schedule_core.proofs.world.World.new.Goals as goal
 

@@ -1,5 +1,5 @@
 use Rattle.std.proofs.Common.{◌≡◌, ◌<◌, length, refl, arith}
-use Rattle.schedule_core.proofs.Worlds.{accepted, turned_away, unsent}
+use Rattle.schedule_core.proofs.Worlds.{accepted, turned_away}
 use Rattle.schedule_core.proofs.world.World.send.Goals as goal
 
 pub returns-then-len-self-clause-sent : goal.returns-then-len-self-clause-sent

@@ -1,6 +1,6 @@
-use Rattle.std.proofs.Common.{◌≡◌, ℕ, ◌+◌, length, replicate, subst, sym, ◌∙◌, ap, arith}
+use Rattle.std.proofs.Common.{◌≡◌, ◌+◌, length, replicate, subst, sym, ◌∙◌, arith}
 use Rattle.std.specs.VecDeque.{deque_len}
-use Rattle.schedule_core.specs.Core.{Core, run, step, Take, Settle}
+use Rattle.schedule_core.specs.Core.{Core, run, Take}
 use Rattle.schedule_core.specs.World.{IsWorld}
 use Rattle.schedule_core.proofs.Worlds.{later_on, one_more, how_many, take_none, settles, none_waits}
 use Rattle.schedule_core.proofs.world.World.settle.Goals as goal
