@@ -1,8 +1,8 @@
 -- What each call makes of a world's fields stands for the core one step on.
-use Rattle.std.proofs.Common.{◌≡◌, ℕ, zero, suc, ◌+◌, ◌-◌, ◌^◌, ◌<◌, min, List, [], ◌∷◌, ◌++◌, length, get_or, set, replicate, map, refl, sym, ◌∙◌, ap, subst, arith}
-use Rattle.std.specs.Prelude.{◌==◌, ◌&&◌, ◌↔◌, IsTrue, nat_lt, Bool, true, false, cond}
-use Rattle.std.proofs.lemmas.Bool.{both_ways, lt-ltb, le-ltb, eqb-true, eqb-false, cond-true, cond-false}
-use Rattle.std.proofs.lemmas.List.{map-append, length-map, length_push, length-set, length-replicate, get_or-replicate, get_or-set_same, get_or-set_other, replicate_more}
+use Rattle.std.proofs.Common.{◌≡◌, ℕ, zero, suc, ◌+◌, ◌-◌, ◌^◌, ◌<◌, ◌≤◌, min, List, [], ◌∷◌, ◌++◌, length, get_or, set, replicate, map, refl, sym, ◌∙◌, ap, subst, arith, inl, inr}
+use Rattle.std.specs.Prelude.{◌==◌, ◌&&◌, ◌↔◌, ◌⊎◌, IsTrue, nat_lt, Bool, true, false, cond}
+use Rattle.std.proofs.lemmas.Bool.{both_ways, cases_lt, lt-ltb, le-ltb, eqb-true, eqb-false, cond-true, cond-false}
+use Rattle.std.proofs.lemmas.List.{map-append, length-map, length_push, length-set, length-replicate, get_or-replicate, get_or-set_same, get_or-set_other, get_or_past, replicate_more}
 use Rattle.command_set.specs.declared.command.Command.{Command}
 use Rattle.command_set.specs.declared.entry.Entry.{Entry}
 use Rattle.command_set.specs.declared.entry.Logged.{Logged}
@@ -17,7 +17,7 @@ use Rattle.schedule_core.specs.declared.mark.Mark.{Mark}
 use Rattle.schedule_core.specs.declared.world.World.{World}
 use Rattle.schedule_core.specs.Core.{Core, opening, Send, Take, Render, Settle, step, run, queued, refused, taken, next_entry, logged_at}
 use Rattle.schedule_core.specs.Schedule.{IsLegal}
-use Rattle.schedule_core.specs.World.{mark_of, Stands, IsLater}
+use Rattle.schedule_core.specs.World.{mark_of, Stands, IsLater, IsFirst, ends_of, blocks_of}
 use Rattle.schedule_core.proofs.Journals.{state_opening, state_logged, state_passed}
 use Rattle.schedule_core.proofs.Legal.{opening_legal, step_legal, accepts, refuses}
 use Rattle.schedule_core.proofs.Sounds.{run_appended}
@@ -36,6 +36,22 @@ opens places scripts marks i are h = record {
   ends = ap length are ∙ length-replicate scripts fresh_mark;
   counts = λ script d below. ap (λ (ms : List Mark). get_or ms script d) are ∙ get_or-replicate scripts script fresh_mark d below;
   playing = subst (λ (s : State). IsIn i s) (sym state_opening) h;
+}
+
+all_fresh : (scripts script : ℕ) → get_or (replicate scripts fresh_mark) script fresh_mark ≡ fresh_mark
+all_fresh scripts script =
+    by_place (cases_lt script scripts) where
+      by_place : (script < scripts) ⊎ (scripts ≤ script) → get_or (replicate scripts fresh_mark) script fresh_mark ≡ fresh_mark
+      by_place (inl inside) = get_or-replicate scripts script fresh_mark fresh_mark inside
+      by_place (inr past) =
+          let long : length (replicate scripts fresh_mark) ≤ script = omega (arith, past, length-replicate scripts fresh_mark) in
+          get_or_past (replicate scripts fresh_mark) script fresh_mark long
+
+pub begins : (scripts : ℕ) (w : World) → w.marks.items ≡ replicate scripts fresh_mark → ends_of w ≡ scripts → blocks_of w ≡ 0 → IsFirst scripts w
+begins scripts w are many none = record {
+  ends = many;
+  accepted = λ script. ap (λ (ms : List Mark). (get_or ms script fresh_mark).accepted) are ∙ ap (λ (m : Mark). m.accepted) (all_fresh scripts script);
+  blocks = none;
 }
 
 -- marks
