@@ -1,0 +1,201 @@
+-- Each step keeps a core legal.
+use Rattle.std.proofs.Common.{◌≡◌, ℕ, ◌+◌, ◌-◌, ◌^◌, ◌≤◌, ◌<◌, min, List, [], ◌∷◌, ◌++◌, length, get_or, map, refl, sym, ◌∙◌, ap, subst, arith, append_assoc, length-append, inl, inr}
+use Rattle.std.specs.Prelude.{◌==◌, ◌&&◌, nat_lt, Bool, true, false, cond, All, ◌⊎◌}
+use Rattle.std.proofs.lemmas.Bool.{ltb-true, ltb-false, eqb-true, eqb-false, cases_lt}
+use Rattle.std.proofs.lemmas.List.{append-nil, map-append, length-map, length_push, get_or_append_left, get_or-append_right, get_or_push}
+use Rattle.std.proofs.lemmas.List.Elements.{All-nil, All-head, All-tail, All-append, All-push, All-map, All-weaker, filter-append}
+use Rattle.command_set.specs.Command.{CommandData}
+use Rattle.command_set.specs.Entries.{EntryData, LoggedData, AreNumbered, entries_of, sent_by}
+use Rattle.schedule_core.specs.Core.{Core, opening, Step, Send, Take, Render, Settle, step, run, queued, refused, taken, next_entry, logged_at, CanStep}
+use Rattle.schedule_core.specs.Schedule.{AreTakenUpTo, IsLegal}
+
+-- the journal
+
+logged_entries : (b : ℕ) (es : List EntryData) → entries_of (map (logged_at b) es) ≡ es
+logged_entries b [] = refl
+logged_entries b (e ∷ es) = ap (λ (later : List EntryData). e ∷ later) (logged_entries b es)
+
+entries_logged : (journal : List LoggedData) (b : ℕ) (es : List EntryData) → entries_of (journal ++ map (logged_at b) es) ≡ entries_of journal ++ es
+entries_logged journal b es =
+    map-append (λ (l : LoggedData). l.entry) journal (map (logged_at b) es) ∙ ap (λ (later : List EntryData). entries_of journal ++ later) (logged_entries b es)
+
+abbrev IsPast : ℕ → LoggedData → Type 0
+IsPast present l = l.block ≤ present
+
+abbrev IsAt : ℕ → LoggedData → Type 0
+IsAt present l = l.block ≡ present
+
+past_more : (present : ℕ) (journal : List LoggedData) (es : List EntryData) → All (IsPast present) journal → All (IsPast present) (journal ++ map (logged_at present) es)
+past_more present journal es past = All-append (IsPast present) journal (map (logged_at present) es) past (All-map (IsPast present) (logged_at present) es (λ k d below. omega arith))
+
+order_by : (present : ℕ) (journal : List LoggedData) (es : List EntryData) (i j : ℕ) (d : LoggedData) → AreTakenUpTo present journal
+    → i ≤ j → j < length (journal ++ map (logged_at present) es) → (j < length journal) ⊎ (length journal ≤ j)
+    → (get_or (journal ++ map (logged_at present) es) i d).block ≤ (get_or (journal ++ map (logged_at present) es) j d).block
+order_by present journal es i j d h up below (inl inside) =
+    let front : i < length journal = omega (arith, up, inside) in
+    rw (get_or_append_left journal (map (logged_at present) es) d i front, get_or_append_left journal (map (logged_at present) es) d j inside) (h.order i j d up inside)
+order_by present journal es i j d h up below (inr behind) =
+    let at : get_or (journal ++ map (logged_at present) es) j d ≡ get_or (map (logged_at present) es) (j - length journal) d =
+    get_or-append_right journal (map (logged_at present) es) (length journal) j d refl behind in
+    let inside : j - length journal < length (map (logged_at present) es) = omega (arith, length-append journal (map (logged_at present) es)) in
+    let last : (get_or (map (logged_at present) es) (j - length journal) d).block ≡ present = All-map (IsAt present) (logged_at present) es (λ k d below. refl) (j - length journal) d inside in
+    let same : (get_or (journal ++ map (logged_at present) es) j d).block ≡ present = ap (λ (l : LoggedData). l.block) at ∙ last in
+    let low : (get_or (journal ++ map (logged_at present) es) i d).block ≤ present = past_more present journal es h.past i d (omega (arith, up, below)) in
+    omega (arith, low, same)
+
+taken_up_to : (present : ℕ) (journal : List LoggedData) (es : List EntryData) → AreTakenUpTo present journal → AreTakenUpTo present (journal ++ map (logged_at present) es)
+taken_up_to present journal es h = record {
+  order = λ i j d up below. order_by present journal es i j d h up below (cases_lt j (length journal));
+  past = past_more present journal es h.past;
+}
+
+-- the first entries that wait are logged
+
+logs : (c : Core) (es later : List EntryData) → c.waiting ≡ es ++ later → IsLegal c → IsLegal (record c { waiting = later; journal = c.journal ++ map (logged_at c.blocks) es })
+logs c es later split h =
+    let same : entries_of (c.journal ++ map (logged_at c.blocks) es) ++ later ≡ entries_of c.journal ++ c.waiting =
+    ap (λ (front : List EntryData). front ++ later) (entries_logged c.journal c.blocks es) ∙ append_assoc (entries_of c.journal) es later
+    ∙ ap (λ (back : List EntryData). entries_of c.journal ++ back) (sym split) in
+    let long : length c.waiting ≡ length es + length later = ap length split ∙ length-append es later in
+    let more : length (c.journal ++ map (logged_at c.blocks) es) ≡ length c.journal + length es =
+    length-append c.journal (map (logged_at c.blocks) es) ∙ ap (λ (n : ℕ). length c.journal + n) (length-map es (logged_at c.blocks)) in
+    record {
+      queued = record {
+        made = subst (All (λ (e : EntryData). e.script < c.scripts)) (sym same) h.queued.made;
+        numbered = λ s. subst (λ (all : List EntryData). AreNumbered (sent_by s all)) (sym same) (h.queued.numbered s);
+        room = omega (arith, h.queued.room, long);
+      };
+      lists = λ e below. h.lists e below ∙ ap (sent_by e) (sym same);
+      marked = λ e below some. let m = h.marked e below some in (m.0, omega (arith, m.1, long, more));
+      blocks = taken_up_to c.blocks c.journal es h.blocks;
+    }
+
+taken_legal : (c : Core) (es : List EntryData) → c.waiting ≡ es → IsLegal c → IsLegal (taken c es)
+taken_legal c [] split h = h
+taken_legal c (e ∷ later) split h = logs c (e ∷ []) later split h
+
+-- an entry is accepted
+
+push_numbered : (es : List EntryData) (e d : EntryData) (i : ℕ) → AreNumbered es → e.seq ≡ length es → i < length (es ++ e ∷ []) → (i < length es) ⊎ (length es ≤ i)
+    → (get_or (es ++ e ∷ []) i d).seq ≡ i
+push_numbered es e d i h last below (inl inside) = rw (get_or_append_left es (e ∷ []) d i inside) (h i d inside)
+push_numbered es e d i h last below (inr behind) =
+    let end : length es ≡ i = omega (arith, length_push es e, below, behind) in
+    rw (get_or_push es e d i end) (last ∙ end)
+
+numbered_by : (t : Bool) (es : List EntryData) (e : EntryData) → AreNumbered es → (t ≡ true → e.seq ≡ length es) → AreNumbered (es ++ cond t (e ∷ []) [])
+numbered_by true es e h last = λ i d below. push_numbered es e d i h (last refl) below (cases_lt i (length es))
+numbered_by false es e h last = subst AreNumbered (sym (append-nil es)) h
+
+sent_more : (s : ℕ) (es : List EntryData) (e : EntryData) → sent_by s (es ++ e ∷ []) ≡ sent_by s es ++ cond (e.script == s) (e ∷ []) []
+sent_more s es e = filter-append (λ (x : EntryData). x.script == s) es (e ∷ [])
+
+lists_by : (t : Bool) (e : EntryData) (list es : List EntryData) → list ≡ es → cond t (list ++ e ∷ []) list ≡ es ++ cond t (e ∷ []) []
+lists_by true e list es same = ap (λ (all : List EntryData). all ++ e ∷ []) same
+lists_by false e list es same = same ∙ sym (append-nil es)
+
+marked_accepted : (t : Bool) (e : EntryData) (list waiting : List EntryData) (first places logged : ℕ)
+    → (first ≤ length list) × (places + length list ≤ logged + length waiting + first)
+    → (first ≤ length (cond t (list ++ e ∷ []) list)) × (places + length (cond t (list ++ e ∷ []) list) ≤ logged + length (waiting ++ e ∷ []) + first)
+marked_accepted true e list waiting first places logged m =
+    (omega (arith, m.0, length_push list e), omega (arith, m.1, length_push list e, length_push waiting e))
+marked_accepted false e list waiting first places logged m = (m.0, omega (arith, m.1, length_push waiting e))
+
+pub accepts : (c : Core) (script due : ℕ) (command : CommandData) → script < c.scripts → length c.waiting < c.places → IsLegal c → IsLegal (queued c (next_entry c script due command))
+accepts c script due command made room h =
+    let e : EntryData = next_entry c script due command in
+    let all : List EntryData = entries_of c.journal ++ c.waiting in
+    let grown : entries_of c.journal ++ (c.waiting ++ e ∷ []) ≡ all ++ e ∷ [] = sym (append_assoc (entries_of c.journal) c.waiting (e ∷ [])) in
+    record {
+      queued = record {
+        made = subst (All (λ (x : EntryData). x.script < c.scripts)) (sym grown) (All-push (λ (x : EntryData). x.script < c.scripts) all e h.queued.made made);
+        numbered = λ s.
+            subst (λ (es : List EntryData). AreNumbered (sent_by s es)) (sym grown)
+            (subst AreNumbered (sym (sent_more s all e))
+            (numbered_by (script == s) (sent_by s all) e (h.queued.numbered s)
+            (λ is. let same : script ≡ s = eqb-true script s is in ap length (h.lists script made) ∙ ap (λ (k : ℕ). length (sent_by k all)) same)));
+        room = omega (arith, room, length_push c.waiting e);
+      };
+      lists = λ s below.
+          lists_by (script == s) e (c.accepted s) (sent_by s all) (h.lists s below) ∙ sym (sent_more s all e) ∙ ap (sent_by s) (sym grown);
+      marked = λ s below some. marked_accepted (script == s) e (c.accepted s) c.waiting (c.first s) c.places (length c.journal) (h.marked s below some);
+      blocks = h.blocks;
+    }
+
+-- a script is refused
+
+marked_refused : (t u : Bool) (refusals list first places logged waiting : ℕ) → (refusals == 0) ≡ u → 0 < cond t (min (refusals + 1) (2 ^ 64 - 1)) refusals → places ≤ waiting
+    → (0 < refusals → (first ≤ list) × (places + list ≤ logged + waiting + first))
+    → (cond (t && u) list first ≤ list) × (places + list ≤ logged + waiting + cond (t && u) list first)
+marked_refused true true refusals list first places logged waiting is some full m = (omega arith, omega (arith, full))
+marked_refused true false refusals list first places logged waiting is some full m = m (omega (arith, eqb-false refusals 0 is))
+marked_refused false true refusals list first places logged waiting is some full m = m some
+marked_refused false false refusals list first places logged waiting is some full m = m some
+
+pub refuses : (c : Core) (script : ℕ) → c.places ≤ length c.waiting → IsLegal c → IsLegal (refused c script)
+refuses c script full h = record {
+  queued = h.queued;
+  lists = h.lists;
+  marked = λ s below some.
+      marked_refused (script == s) (c.refusals s == 0) (c.refusals s) (length (c.accepted s)) (c.first s) c.places (length c.journal) (length c.waiting) refl some full (h.marked s below);
+  blocks = h.blocks;
+}
+
+sent_legal : (t : Bool) (c : Core) (script due : ℕ) (command : CommandData) → nat_lt (length c.waiting) c.places ≡ t → script < c.scripts → IsLegal c
+    → IsLegal (cond t (queued c (next_entry c script due command)) (refused c script))
+sent_legal true c script due command is made h = accepts c script due command made (ltb-true (length c.waiting) c.places is) h
+sent_legal false c script due command is made h = refuses c script (ltb-false (length c.waiting) c.places is) h
+
+-- one step, and all
+
+rendered_legal : (c : Core) → IsLegal c → IsLegal (record c { blocks = c.blocks + 1 })
+rendered_legal c h = record {
+  queued = h.queued;
+  lists = h.lists;
+  marked = h.marked;
+  blocks = record {
+    order = h.blocks.order;
+    past = All-weaker (IsPast c.blocks) (IsPast (c.blocks + 1)) (λ l low. omega (arith, low)) c.journal h.blocks.past;
+  };
+}
+
+pub step_legal : (c : Core) (s : Step) → CanStep c.scripts s → IsLegal c → IsLegal (step c s)
+step_legal c (Send script due command) can h = sent_legal (nat_lt (length c.waiting) c.places) c script due command refl can h
+step_legal c Take can h = taken_legal c c.waiting refl h
+step_legal c Render can h = rendered_legal c h
+step_legal c Settle can h = logs c c.waiting [] (sym (append-nil c.waiting)) h
+
+sent_scripts : (t : Bool) (c : Core) (e : EntryData) (script : ℕ) → (cond t (queued c e) (refused c script)).scripts ≡ c.scripts
+sent_scripts true c e script = refl
+sent_scripts false c e script = refl
+
+taken_scripts : (c : Core) (es : List EntryData) → (taken c es).scripts ≡ c.scripts
+taken_scripts c [] = refl
+taken_scripts c (e ∷ es) = refl
+
+step_scripts : (c : Core) (s : Step) → (step c s).scripts ≡ c.scripts
+step_scripts c (Send script due command) = sent_scripts (nat_lt (length c.waiting) c.places) c (next_entry c script due command) script
+step_scripts c Take = taken_scripts c c.waiting
+step_scripts c Render = refl
+step_scripts c Settle = refl
+
+pub run_legal : (scripts : ℕ) (c : Core) (steps : List Step) → c.scripts ≡ scripts → All (CanStep scripts) steps → IsLegal c → IsLegal (run c steps)
+run_legal scripts c [] same can h = h
+run_legal scripts c (s ∷ steps) same can h =
+    run_legal scripts (step c s) steps (step_scripts c s ∙ same) (All-tail (CanStep scripts) s steps can)
+    (step_legal c s (subst (λ (n : ℕ). CanStep n s) (sym same) (All-head (CanStep scripts) s steps can)) h)
+
+pub opening_legal : (places scripts : ℕ) → IsLegal (opening places scripts)
+opening_legal places scripts = record {
+  queued = record {
+    made = All-nil (λ (e : EntryData). e.script < scripts);
+    numbered = λ s i d below. absurd (omega (arith, below));
+    room = omega arith;
+  };
+  lists = λ e below. refl;
+  marked = λ e below some. absurd (omega (arith, some));
+  blocks = record {
+    order = λ i j d up below. absurd (omega (arith, below));
+    past = All-nil (IsPast 0);
+  };
+}

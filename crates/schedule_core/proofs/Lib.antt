@@ -1,0 +1,5 @@
+pub mod Journals
+pub mod Sounds
+pub mod Legal
+pub mod Settling
+pub mod Worlds

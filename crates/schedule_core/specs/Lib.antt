@@ -1,0 +1,4 @@
+pub mod Core
+pub mod Ranges
+pub mod Schedule
+pub mod World

@@ -1,0 +1,34 @@
+-- What holds of a core after every schedule.
+use Rattle.std.specs.Prelude.{ℕ, ◌≡◌, ◌+◌, ◌<◌, ◌≤◌, List, ◌++◌, length, map, replicate, All, slice_index_or}
+use Rattle.std.specs.List.{range_with_len}
+use Rattle.command_set.specs.Entries.{LoggedData, AreQueued, entries_of, sent_by}
+use Rattle.instrument.specs.Journal.{sound}
+use Rattle.schedule_core.specs.Core.{Core, opening, Step, Take, Settle, step, run, answers, CanStep}
+
+-- the blocks at which entries were taken don't fall, and none is above the present one
+pub record AreTakenUpTo (present : ℕ) (journal : List LoggedData) : Type 0 where
+  pub order : (i j : ℕ) (d : LoggedData) → i ≤ j → j < length journal → (slice_index_or journal i d).block ≤ (slice_index_or journal j d).block
+  pub past : All (λ l. l.block ≤ present) journal
+
+-- The entries that were taken and those that wait are of scripts that there are, numbered in each, and no more wait than there are places. A script's list is what was accepted of it.
+-- When a script was first refused, as many entries waited as there are places, so these and what was accepted of it since are at most all entries. The journal's blocks don't fall.
+pub record IsLegal (c : Core) : Type 0 where
+  pub queued : AreQueued c.scripts c.places (entries_of c.journal) c.waiting
+  pub lists : (e : ℕ) → e < c.scripts → c.accepted e ≡ sent_by e (entries_of c.journal ++ c.waiting)
+  pub marked : (e : ℕ) → e < c.scripts → 0 < c.refusals e
+      → (c.first e ≤ length (c.accepted e)) × (c.places + length (c.accepted e) ≤ length c.journal + length c.waiting + c.first e)
+  pub blocks : AreTakenUpTo c.blocks c.journal
+
+-- After the steps the core is legal, and each block answered was, and remains after more steps, the sound of the journal.
+pub record HoldsOf (places scripts : ℕ) (steps more : List Step) : Type 0 where
+  pub legal : IsLegal (run (opening places scripts) steps)
+  pub sounds : answers (opening places scripts) steps
+      ≡ map (sound (run (opening places scripts) (steps ++ more)).journal) (range_with_len 0 (run (opening places scripts) steps).blocks)
+
+-- for so many places and scripts, and all steps that can be made
+abbrev pub EverySchedule : Type 0
+EverySchedule = (places scripts : ℕ) (steps more : List Step) → All (CanStep scripts) steps → All (CanStep scripts) more → HoldsOf places scripts steps more
+
+-- to settle is to take until none waits
+abbrev pub SettlesByTaking : Type 0
+SettlesByTaking = (c : Core) → step c Settle ≡ run c (replicate (length c.waiting) Take)

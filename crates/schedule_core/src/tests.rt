@@ -1,0 +1,129 @@
+ghost use Rattle.std.specs.Prelude.{ℕ, ◌≡◌, ◌<◌, OnOk};
+ghost use Rattle.schedule_core.specs.World.{IsFirst, IsLater, ends_of, accepted_of, blocks_of};
+
+use super::*;
+use crate::plain::{PlainCore, command_of};
+use command_set::Command;
+use std::alloc::{AllocError, Global};
+use std::process::Abort;
+use std::test::Fail;
+
+#[test]
+fn one_place(rt: HostRuntime) -> Result<(), Fail> {
+    let alloc = rt.alloc();
+    let mut world = World::new(alloc, 1, 1, Engine::One)?;
+    let first = world.send(alloc, 0, 0, command_of(4));
+    assert!(rt; matches!(&first, Ok(0)));
+    assert!(rt; !world.was_refused(0));
+    let second = world.send(alloc, 0, 7, command_of(9));
+    assert!(rt;
+        matches!(
+            &second,
+            Err(WorldRefusal::Full(Command::NoteOff { channel: 0, key: 2 }))
+        )
+    );
+    assert!(rt; world.was_refused(0));
+    assert!(rt; world.take(alloc)?);
+    assert!(rt; !world.take(alloc)?);
+    assert_eq!(rt; world.settle(alloc)?, 0);
+    assert_eq!(rt; world.journal().len(), 1);
+    every_schedule();
+    Ok(())
+}
+
+/// A step of the world and the plain core, by a random number. Is anything heard?
+fn one_step(
+    rt: &impl Abort,
+    alloc: Global,
+    world: &mut World,
+    plain: &mut PlainCore,
+    random: u32,
+) -> Result<bool, AllocError>
+    requires ends { ends_of world.old ≡ 3 }
+    requires accepted { (script : ℕ) → accepted_of world.old script < 1000 }
+    requires blocks { blocks_of world.old < 1000 }
+    ensures { OnOk result (IsLater 1 1 world.old world.new) }
+{
+    let kind = random % 9;
+    if kind == 0 {
+        assert_eq!(rt; world.take(alloc)?, plain.take()?);
+    } else if kind == 1 {
+        assert_eq!(rt; world.settle(alloc)?, plain.settle()?);
+    } else if kind == 2 {
+        let mut samples = [0i16; 64];
+        world.render(&mut samples);
+        assert_eq!(rt; samples, plain.render(alloc)?);
+        return Ok(samples[63] != 0);
+    } else {
+        let script = random / 9 % 3;
+        let number = random / 27;
+        let wanted = plain.send(script, random, number)?;
+        match world.send(alloc, script, random, command_of(number)) {
+            Ok(seq) => assert_eq!(rt; Some(seq), wanted),
+            Err(WorldRefusal::Full(_)) => assert_eq!(rt; None, wanted),
+            Err(WorldRefusal::Memory(_)) => return Err(AllocError),
+        }
+    }
+    Ok(false)
+}
+
+/// A hundred steps by random numbers. In how many blocks is anything heard?
+fn one_schedule(
+    rt: &impl Abort,
+    alloc: Global,
+    world: &mut World,
+    plain: &mut PlainCore,
+    seed: u32,
+) -> Result<u32, AllocError>
+    requires { IsFirst 3 world.old }
+    ensures { OnOk result (ends_of world.new ≡ 3) }
+{
+    let mut random = seed;
+    let mut heard = 0u32;
+    for turn in 0..100u32 {
+        random = random
+            .wrapping_mul(1_664_525)
+            .wrapping_add(1_013_904_223 + turn);
+        if one_step(rt, alloc, world, plain, random >> 8)? {
+            heard = heard.wrapping_add(1);
+        }
+    }
+    Ok(heard)
+}
+
+#[test]
+fn random_schedules(rt: HostRuntime) -> Result<(), Fail> {
+    let alloc = rt.alloc();
+    let mut heard = 0u32;
+    let mut refused = 0u32;
+    for seed in 0..20u32 {
+        let places = 1 + seed as usize % 4 * 12;
+        let mut world = World::new(alloc, places, 3, Engine::One)?;
+        let mut plain = PlainCore::new(alloc, places);
+        let blocks = one_schedule(&rt, alloc, &mut world, &mut plain, seed)?;
+        heard = heard.wrapping_add(blocks);
+        assert_eq!(rt; world.blocks(), plain.blocks);
+        for script in 0..3u32 {
+            assert_eq!(rt;
+                world.was_refused(script),
+                plain.was_refused[script as usize],
+                "seed {seed}"
+            );
+            if world.was_refused(script) {
+                refused = refused.wrapping_add(1);
+            }
+        }
+        assert_eq!(rt; world.journal().len(), plain.journal.len());
+        for (logged, (block, entry)) in world.journal().iter().zip(&plain.journal) {
+            assert_eq!(rt; logged.block, *block);
+            assert_eq!(rt; logged.entry.script, entry.script);
+            assert_eq!(rt; logged.entry.seq, entry.seq);
+            assert_eq!(rt; logged.entry.sent_at, entry.sent_at);
+        }
+    }
+    assert!(rt;
+        100 < heard && 30 < refused && refused < 60,
+        "{heard} {refused}"
+    );
+    Ok(())
+}
