@@ -172,7 +172,7 @@ one_kind a b journal blocks scripts text x y =
 
 -- ---- orders
 
-order_more : (journal : List LoggedData) (blocks scripts : ℕ) (rest : List ℕ) → order journal blocks scripts ++ rest ≡ order_header blocks scripts ++ (lines journal ++ rest)
+pub order_more : (journal : List LoggedData) (blocks scripts : ℕ) (rest : List ℕ) → order journal blocks scripts ++ rest ≡ order_header blocks scripts ++ (lines journal ++ rest)
 unfolding order
 order_more journal blocks scripts rest = append_assoc (order_header blocks scripts) (lines journal) rest
 
@@ -261,6 +261,10 @@ one_fault text line other kind second (inr x) (inl y) = absurd (has_header text 
 one_fault text line other kind second (inr x) (inr y) =
     let h = stops_same text kind second x.0 y.0 x.1 x.2 y.1 y.2 x.4 y.4 in
     (x.3 ∙ ap (λ (n : ℕ). n + 2) h.0 ∙ sym y.3, h.1)
+
+-- a text without a first line is no order
+pub no_first_line : (text : List ℕ) → HasNoHeader text → (o : OrderData) → IsOrder text o → Refused 1 Line ≡ Memory
+no_first_line text never o is = absurd (no_order text o 1 Line is (inl (refl, refl, never)))
 
 pub orders_unique : OrdersAreUnique
 orders_unique = record { journals = one_journal; orders = no_order; faults = one_fault }

@@ -22,6 +22,7 @@ use Rattle.command_set.proofs.Words.{voice_bytes, cartridge_bytes, known_small}
 use Rattle.command_set.proofs.Reading.{unique}
 use Rattle.take_files.specs.Files.{order_header, order_line}
 use Rattle.take_files.specs.Orders.{IsWritable, BeginsWith}
+use Rattle.take_files.specs.Reading.{entry_text, header_text}
 
 -- no byte of the word has this code
 abbrev pub HasNo : ℕ → List ℕ → Type 0
@@ -157,10 +158,6 @@ text_whole (TakesCartridge voices) h =
 
 -- ---- the line of an entry
 
--- the line of an entry, without its line feed
-abbrev pub entry_text : LoggedData → List ℕ
-entry_text l = spaced (decimal l.block) (decimal l.entry.sent_at ∷ decimal l.entry.script ∷ decimal l.entry.seq ∷ text l.entry.command ∷ [])
-
 pub line_more : (l : LoggedData) (more : List ℕ) → order_line l ++ more ≡ entry_text l ++ 10 ∷ more
 unfolding order_line
 line_more l more = append_assoc (entry_text l) (10 ∷ []) more
@@ -211,10 +208,6 @@ pub line_read : (whole front rest : List ℕ) (l : LoggedData) → parts 10 whol
 line_read whole front rest l e is = cut_text 10 whole front rest e ∙ ap (λ (bs : List ℕ). bs ++ 10 ∷ rest) (sym is) ∙ sym (line_more l rest)
 
 -- ---- the first line
-
--- the first line, without its line feed
-unfoldable pub header_text : ℕ → ℕ → List ℕ
-header_text blocks scripts = codes "order engine 1 blocks " ++ (decimal blocks ++ 32 ∷ (codes "scripts " ++ decimal scripts))
 
 tail_more : (b s more : List ℕ) → (b ++ (codes " scripts " ++ (s ++ 10 ∷ []))) ++ more ≡ (b ++ 32 ∷ (codes "scripts " ++ s)) ++ 10 ∷ more
 tail_more b s more = simp append_assoc
