@@ -56,9 +56,9 @@ count_more : (script : ℕ) (journal : List LoggedData) (l : LoggedData) → cou
 count_more script journal l =
     ap length (filter-append (λ x. x.entry.script == script) journal (l ∷ [])) ∙ length-append (filter (λ x. x.entry.script == script) journal) (filter (λ x. x.entry.script == script) (l ∷ []))
     ∙ ap (λ (n : ℕ). count_of script journal + n) (one (l.entry.script == script)) where
-  one : (t : Bool) → length (cond t (l ∷ []) []) ≡ cond t 1 0
-  one true = refl
-  one false = refl
+      one : (t : Bool) → length (cond t (l ∷ []) []) ≡ cond t 1 0
+      one true = refl
+      one false = refl
 
 count_same : (script : ℕ) (journal : List LoggedData) (l : LoggedData) → l.entry.script ≡ script → count_of script (journal ++ l ∷ []) ≡ count_of script journal + 1
 count_same script journal l same =
@@ -67,7 +67,7 @@ count_same script journal l same =
 count_other : (script : ℕ) (journal : List LoggedData) (l : LoggedData) → l.entry.script ≢ script → count_of script (journal ++ l ∷ []) ≡ count_of script journal
 count_other script journal l other =
     let e : count_of script (journal ++ l ∷ []) ≡ count_of script journal + 0 =
-        count_more script journal l ∙ ap (λ (t : Bool). count_of script journal + cond t 1 0) (ne_eqb l.entry.script script other) in
+    count_more script journal l ∙ ap (λ (t : Bool). count_of script journal + cond t 1 0) (ne_eqb l.entry.script script other) in
     omega (arith, e)
 
 pub tally_more : (journal : List LoggedData) (l : LoggedData) (scripts last : ℕ) (counts : List ℕ) → IsTally scripts last counts journal → l.entry.script < scripts
@@ -87,14 +87,15 @@ tally_more journal l scripts last counts h below = record {
 } where
   at_script : get_or (set counts l.entry.script (get_or counts l.entry.script 0 + 1)) l.entry.script 0 ≡ get_or counts l.entry.script 0 + 1
   at_script = let fits : l.entry.script < length counts = omega (arith, h.size) in rw get_or-set_same refl
+
   same_or_not : (a b : ℕ) → (a ≡ b) ⊎ (a ≢ b)
   same_or_not a b =
       elim (cases_lt a b) [
         | inl below ↦ inr (λ e. absurd (omega (arith, below, e)))
         | inr above ↦ elim (cases_lt b a) [
-            | inl more ↦ inr (λ e. absurd (omega (arith, more, e)))
-            | inr same ↦ inl (omega arith)
-          ]
+          | inl more ↦ inr (λ e. absurd (omega (arith, more, e)))
+          | inr same ↦ inl (omega arith)
+        ]
       ]
 
 pub count_few : (script : ℕ) (journal : List LoggedData) → count_of script journal ≤ length journal
@@ -109,8 +110,8 @@ pub lines_more : (journal : List LoggedData) (l : LoggedData) (text rest more : 
 lines_more journal l text rest more e next =
     e ∙ ap (λ (bs : List ℕ). lines journal ++ bs) (next ∙ one) ∙ sym (append_assoc (lines journal) (lines (l ∷ [])) more)
     ∙ ap (λ (bs : List ℕ). bs ++ more) (sym (flat_map-append order_line journal (l ∷ []))) where
-  one : order_line l ++ more ≡ lines (l ∷ []) ++ more
-  one = simp append_assoc
+      one : order_line l ++ more ≡ lines (l ∷ []) ++ more
+      one = simp append_assoc
 
 pub journal_more : (before after : List Logged) (l : Logged) → after ≡ before ++ l ∷ [] → journal_data after ≡ journal_data before ++ logged_data l ∷ []
 journal_more before after l e = ap journal_data e ∙ map-append logged_data before (l ∷ [])

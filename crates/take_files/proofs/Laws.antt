@@ -30,14 +30,14 @@ agree [] (k ∷ ks) r s wj wk e = inr (inr (k, ks, refl, e ∙ append_assoc (ord
 agree (j ∷ js) [] r s wj wk e = inl (j, js, refl, sym e ∙ append_assoc (order_line j) (lines js) r)
 agree (j ∷ js) (k ∷ ks) r s wj wk e =
     let h =
-        line_same j k (lines js ++ r) (lines ks ++ s) (All-head IsWritable j js wj) (All-head IsWritable k ks wk)
-        (sym (append_assoc (order_line j) (lines js) r) ∙ e ∙ append_assoc (order_line k) (lines ks) s) in
+    line_same j k (lines js ++ r) (lines ks ++ s) (All-head IsWritable j js wj) (All-head IsWritable k ks wk)
+    (sym (append_assoc (order_line j) (lines js) r) ∙ e ∙ append_assoc (order_line k) (lines ks) s) in
     elim (agree js ks r s (All-tail IsWritable j js wj) (All-tail IsWritable k ks wk) h.1) [
       | inl a ↦ inl (a.0, a.1, ap (λ (ls : List LoggedData). j ∷ ls) a.2 ∙ ap (λ (x : LoggedData). x ∷ (ks ++ a.0 ∷ a.1)) h.0, a.3)
       | inr b ↦ elim b [
-          | inl c ↦ inr (inl (ap (λ (ls : List LoggedData). j ∷ ls) c.0 ∙ ap (λ (x : LoggedData). x ∷ ks) h.0, c.1))
-          | inr d ↦ inr (inr (d.0, d.1, ap (λ (ls : List LoggedData). k ∷ ls) d.2 ∙ ap (λ (x : LoggedData). x ∷ (js ++ d.0 ∷ d.1)) (sym h.0), d.3))
-        ]
+        | inl c ↦ inr (inl (ap (λ (ls : List LoggedData). j ∷ ls) c.0 ∙ ap (λ (x : LoggedData). x ∷ ks) h.0, c.1))
+        | inr d ↦ inr (inr (d.0, d.1, ap (λ (ls : List LoggedData). k ∷ ls) d.2 ∙ ap (λ (x : LoggedData). x ∷ (js ++ d.0 ∷ d.1)) (sym h.0), d.3))
+      ]
     ]
 
 writable : (journal : List LoggedData) (blocks scripts : ℕ) → IsOrdered journal blocks scripts → All IsWritable journal
@@ -165,9 +165,9 @@ one_kind a b journal blocks scripts text x y =
     elim (either_first a b) [
       | inl same ↦ same
       | inr differ ↦ elim differ [
-          | inl first ↦ absurd (clash a b journal blocks scripts text first x y)
-          | inr second ↦ absurd (clash b a journal blocks scripts text second y x)
-        ]
+        | inl first ↦ absurd (clash a b journal blocks scripts text first x y)
+        | inr second ↦ absurd (clash b a journal blocks scripts text second y x)
+      ]
     ]
 
 -- ---- orders
@@ -187,8 +187,8 @@ fronts js ks a b c d r s hj hk e =
 no_fault : (kind : OrderKind) (js ks : List LoggedData) (a b c d : ℕ) (r s : List ℕ) → a ≡ c → b ≡ d → IsOrdered js a b → HasFault kind ks c d s → GoesOn ks js s r → ⊥
 no_fault kind js ks a b c d r s ea eb hj fault g =
     let whole : IsOrdered (ks ++ g.0 ∷ g.1) c d =
-        subst (λ (n : ℕ). IsOrdered (ks ++ g.0 ∷ g.1) c n) eb
-        (subst (λ (n : ℕ). IsOrdered (ks ++ g.0 ∷ g.1) n b) ea (subst (λ (ls : List LoggedData). IsOrdered ls a b) g.2 hj)) in
+    subst (λ (n : ℕ). IsOrdered (ks ++ g.0 ∷ g.1) c n) eb
+    (subst (λ (n : ℕ). IsOrdered (ks ++ g.0 ∷ g.1) n b) ea (subst (λ (ls : List LoggedData). IsOrdered ls a b) g.2 hj)) in
     sound kind ks c d s (lines g.1 ++ r) g.0 g.3 (behind ks g.1 g.0 c d whole) (fewer ks g.1 g.0 c d whole) fault
 
 -- nothing goes on behind an order
@@ -205,14 +205,14 @@ one_journal : (text : List ℕ) (a b : OrderData) → IsOrder text a → IsOrder
 unfolding made_order
 one_journal text a b x y =
     let f =
-        fronts a.journal b.journal a.blocks a.scripts b.blocks b.scripts [] [] x.ordered y.ordered
-        (append-nil (order a.journal a.blocks a.scripts) ∙ sym x.spelled ∙ y.spelled ∙ sym (append-nil (order b.journal b.blocks b.scripts))) in
+    fronts a.journal b.journal a.blocks a.scripts b.blocks b.scripts [] [] x.ordered y.ordered
+    (append-nil (order a.journal a.blocks a.scripts) ∙ sym x.spelled ∙ y.spelled ∙ sym (append-nil (order b.journal b.blocks b.scripts))) in
     elim (agree a.journal b.journal [] [] (writable a.journal a.blocks a.scripts x.ordered) (writable b.journal b.blocks b.scripts y.ordered) f.2) [
       | inl g ↦ absurd (no_more b.journal a.journal [] g)
       | inr h ↦ elim h [
-          | inl same ↦ made_order_same a.journal b.journal a.blocks a.scripts b.blocks b.scripts same.0 f.0 f.1
-          | inr g ↦ absurd (no_more a.journal b.journal [] g)
-        ]
+        | inl same ↦ made_order_same a.journal b.journal a.blocks a.scripts b.blocks b.scripts same.0 f.0 f.1
+        | inr g ↦ absurd (no_more a.journal b.journal [] g)
+      ]
     ]
 
 has_header : (text rest : List ℕ) (journal : List LoggedData) (blocks scripts : ℕ) → IsOrdered journal blocks scripts → text ≡ order journal blocks scripts ++ rest → ¬ HasNoHeader text
@@ -228,9 +228,9 @@ stopped text o kind journal blocks scripts x y =
     elim (agree o.journal journal [] y.rest (writable o.journal o.blocks o.scripts x.ordered) (writable journal blocks scripts y.ordered) f.2) [
       | inl g ↦ no_fault kind o.journal journal o.blocks o.scripts blocks scripts [] y.rest f.0 f.1 x.ordered y.fault g
       | inr h ↦ elim h [
-          | inl same ↦ y.some (sym same.1)
-          | inr g ↦ no_more o.journal journal y.rest g
-        ]
+        | inl same ↦ y.some (sym same.1)
+        | inr g ↦ no_more o.journal journal y.rest g
+      ]
     ]
 
 no_order : (text : List ℕ) (o : OrderData) (line : ℕ) (kind : OrderKind) → IsOrder text o → IsRefused text line kind → ⊥
@@ -244,14 +244,14 @@ stops_same text kind second js ks a b c d x y =
     elim (agree js ks x.rest y.rest (writable js a b x.ordered) (writable ks c d y.ordered) f.2) [
       | inl g ↦ absurd (no_fault second js ks a b c d x.rest y.rest f.0 f.1 x.ordered y.fault g)
       | inr h ↦ elim h [
-          | inl same ↦ (
-              ap length same.0,
-              one_kind kind second ks c d y.rest
+        | inl same ↦ (
+          ap length same.0,
+          one_kind kind second ks c d y.rest
               (subst (λ (bs : List ℕ). HasFault kind ks c d bs) same.1 (subst (λ (n : ℕ). HasFault kind ks c n x.rest) f.1
               (subst (λ (n : ℕ). HasFault kind ks n b x.rest) f.0 (subst (λ (ls : List LoggedData). HasFault kind ls a b x.rest) same.0 x.fault)))) y.fault,
-            )
-          | inr g ↦ absurd (no_fault kind ks js c d a b y.rest x.rest (sym f.0) (sym f.1) y.ordered x.fault g)
-        ]
+        )
+        | inr g ↦ absurd (no_fault kind ks js c d a b y.rest x.rest (sym f.0) (sym f.1) y.ordered x.fault g)
+      ]
     ]
 
 one_fault : (text : List ℕ) (line other : ℕ) (kind second : OrderKind) → IsRefused text line kind → IsRefused text other second → (line ≡ other) × (kind ≡ second)

@@ -55,6 +55,9 @@ pub refused_at : (bytes text rest : List ℕ) (journal : List LoggedData) (block
     → IsRefused bytes line kind
 refused_at bytes text rest journal blocks scripts line kind h e is some at fault =
     inr (
-      journal, blocks, scripts, at,
+      journal,
+      blocks,
+      scripts,
+      at,
       record { ordered = h; rest = rest; some = some; spelled = front_of bytes text rest journal blocks scripts e is; fault = fault },
     )

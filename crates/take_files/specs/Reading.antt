@@ -4,7 +4,8 @@ use Rattle.plain_text.specs.Parts.{spaced}
 use Rattle.command_set.specs.Entries.{EntryData, LoggedData, journal_data}
 use Rattle.command_set.specs.Text.{text}
 use Rattle.take_files.specs.Files.{order_line}
-use Rattle.take_files.specs.Orders.{IsOrdered, IsWritable, OrderData, count_of, last_block}
+use Rattle.take_files.specs.Orders.{Follows, HasFault, IsOrdered, OrderData, count_of, entry_limit, last_block}
+use Rattle.take_files.specs.declared.read.OrderKind.{OrderKind}
 use Rattle.take_files.specs.declared.listing.Listing.{Listing}
 
 -- the first line, without its line feed
@@ -41,6 +42,18 @@ listed l = record { journal = journal_data l.entries.items; blocks = l.blocks; s
 pub record IsListing (l : Listing) : Type 0 where
   pub ordered : IsOrdered (journal_data l.entries.items) l.blocks l.scripts
   pub tally : IsTally l.scripts l.last l.counts.items (journal_data l.entries.items)
+
+-- an entry may stand behind those of a listing
+abbrev pub CanFollow : Listing → LoggedData → Type 0
+CanFollow l entry = Follows (journal_data l.entries.items) l.blocks l.scripts entry
+
+-- a text that goes on behind a listing has this fault
+abbrev pub StopsAt : Listing → OrderKind → List ℕ → Type 0
+StopsAt l kind rest = HasFault kind (journal_data l.entries.items) l.blocks l.scripts rest
+
+-- a listing has room for an entry
+abbrev pub HasRoom : Listing → Type 0
+HasRoom l = length (journal_data l.entries.items) < entry_limit
 
 -- an order with one more entry
 abbrev pub with_entry : OrderData → LoggedData → OrderData

@@ -14,3 +14,6 @@ pub use order::{order_file, order_header, order_line};
 pub use read::{Order, OrderFault, OrderKind, orders_are_unique, read_order};
 pub use sound::sound_file;
 pub use wav::{wav_block, wav_header};
+
+#[cfg(test)]
+mod tests;

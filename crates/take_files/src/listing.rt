@@ -1,10 +1,10 @@
 //! The entries of an order, as they are read.
 
 ghost use Rattle.std.specs.Prelude.{ℕ, List, ◌≡◌, ◌≤◌, ◌<◌, ◌+◌, ◌↔◌, [], ◌∷◌, ◌++◌, IfOk, OnOk, IfNone, IsTrue, Some, length};
-ghost use Rattle.command_set.specs.Entries.{LoggedData, journal_data, logged_data};
+ghost use Rattle.command_set.specs.Entries.{logged_data};
 ghost use Rattle.take_files.specs.declared.read.OrderKind.{OrderKind};
-ghost use Rattle.take_files.specs.Orders.{BeginsWith, Follows, HasBlock, HasFault, IsWritable, OrderData, entry_limit};
-ghost use Rattle.take_files.specs.Reading.{IsListing, listed, with_entry};
+ghost use Rattle.take_files.specs.Orders.{BeginsWith, HasBlock, IsWritable};
+ghost use Rattle.take_files.specs.Reading.{CanFollow, HasRoom, IsListing, StopsAt, listed, with_entry};
 
 use crate::read::OrderKind;
 use command_set::Logged;
@@ -52,9 +52,9 @@ impl Listing {
     /// What is wrong with an entry behind these.
     pub(crate) fn fault(&self, logged: &Logged) -> Option<OrderKind>
         requires { IsListing self.now }
-        ensures none { IfNone result (IsWritable (logged_data logged.now) → Follows (listed self.now).journal self.now.blocks self.now.scripts (logged_data logged.now)) }
-        ensures few { IfNone result (length (listed self.now).journal < entry_limit) }
-        ensures some { (kind : OrderKind) (text : List ℕ) → result ≡ Some kind → BeginsWith text (logged_data logged.now) → HasFault kind (listed self.now).journal self.now.blocks self.now.scripts text }
+        ensures none { IfNone result (IsWritable (logged_data logged.now) → CanFollow self.now (logged_data logged.now)) }
+        ensures room { IfNone result (HasRoom self.now) }
+        ensures some { (kind : OrderKind) (text : List ℕ) → result ≡ Some kind → BeginsWith text (logged_data logged.now) → StopsAt self.now kind text }
     {
         let script = logged.entry.script as usize;
         if !self.has_block(logged) {
@@ -82,8 +82,8 @@ impl Listing {
     /// Adds an entry that may stand behind these.
     pub(crate) fn push(&mut self, logged: Logged) -> Result<(), AllocError>
         requires listing { IsListing self.old }
-        requires follows { Follows (listed self.old).journal self.old.blocks self.old.scripts (logged_data logged) }
-        requires few { length (listed self.old).journal < entry_limit }
+        requires follows { CanFollow self.old (logged_data logged) }
+        requires room { HasRoom self.old }
         ensures listing { OnOk result (IsListing self.new) }
         ensures listed { OnOk result (listed self.new ≡ with_entry (listed self.old) (logged_data logged)) }
     {

@@ -6,8 +6,8 @@ ghost use Rattle.command_set.specs.Entries.{LoggedData, journal_data};
 ghost use Rattle.take_files.specs.declared.read.OrderKind.{OrderKind};
 ghost use Rattle.take_files.specs.declared.read.OrderFault.TheVariants.{Refused, Memory};
 ghost use Rattle.take_files.specs.Files.{AreOrdered, order_header, order_line};
-ghost use Rattle.take_files.specs.Orders.{HasFault, IsOrder, IsRefused, OrderData, OrdersAreUnique};
-ghost use Rattle.take_files.specs.Reading.{IsListing, listed, with_entry};
+ghost use Rattle.take_files.specs.Orders.{IsOrder, IsRefused, OrderData, OrdersAreUnique};
+ghost use Rattle.take_files.specs.Reading.{IsListing, StopsAt, listed, with_entry};
 
 use crate::header::read_header;
 use crate::line::read_line;
@@ -143,7 +143,7 @@ fn read_next<'a>(
     ensures listing { OnOk result (IsListing listing.new) }
     ensures next { IfOk result (λ rest. (l : LoggedData) × (listed listing.new ≡ with_entry (listed listing.old) l) × (text.now ≡ order_line l ++ rest.now)) }
     ensures shorter { IfOk result (λ rest. length rest.now < length text.now) }
-    ensures refused { (line : ℕ) (kind : OrderKind) → result ≡ Err (Refused line kind) → (line ≡ length (listed listing.old).journal + 2) × HasFault kind (listed listing.old).journal listing.old.blocks listing.old.scripts text.now }
+    ensures refused { (line : ℕ) (kind : OrderKind) → result ≡ Err (Refused line kind) → (line ≡ length (listed listing.old).journal + 2) × StopsAt listing.old kind text.now }
 {
     let line = listing.next_line();
     let (logged, rest) = match read_line(alloc, text) {
