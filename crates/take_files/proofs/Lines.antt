@@ -1,22 +1,22 @@
 -- Texts cut at a byte of one code, and the lines of an order.
-use Rattle.std.proofs.Common.{◌≡◌, ◌≢◌, ℕ, suc, ◌+◌, ◌^◌, ◌/◌, ◌%◌, ◌<◌, ◌≤◌, ◌==◌, Bool, true, false, List, [], ◌∷◌, ◌++◌, length, get_or, refl, sym, ◌∙◌, ap, subst, arith, append_assoc}
+use Rattle.std.proofs.Common.{◌≡◌, ◌≢◌, ℕ, suc, ◌^◌, ◌/◌, ◌%◌, ◌<◌, ◌==◌, Bool, true, false, List, [], ◌∷◌, ◌++◌, length, get_or, refl, sym, ◌∙◌, ap, arith, append_assoc}
 use Rattle.std.specs.Prelude.{All, codes, decimal, not}
 use Rattle.std.specs.Int.{IsInRange as IsWithin}
 use Rattle.std.specs.Str.Parse.{digits_value}
-use Rattle.std.specs.List.{flat_map, slice_split, join_with_byte}
+use Rattle.std.specs.List.{flat_map, join_with_byte}
 use Rattle.std.proofs.lemmas.Bool.{ne_eqb, eq-eqb}
 use Rattle.std.proofs.lemmas.Fmt.{digits_decimal, digits_value-decimal}
 use Rattle.std.proofs.lemmas.Str.Parse.{IsNumeralModel, numerals_by_value, tells_by_index}
 use Rattle.std.proofs.lemmas.List.{append_cancel_left}
 use Rattle.std.proofs.lemmas.List.Elements.{All-from_get_or, All-cons, All-nil, All-head, All-tail, All-append}
-use Rattle.std.proofs.lemmas.List.Splits.{slice_split_at, slice_split_none, join_with_byte-slice_split}
+use Rattle.std.proofs.lemmas.List.Splits.{slice_split_at, join_with_byte-slice_split}
 use Rattle.hex.specs.Hex.{IsBytes, encode_lower, encode_with, lower_digits}
 use Rattle.voice_record.proofs.Every.{every, every_at}
 use Rattle.voice_record.proofs.Voices.{greatest_small}
 use Rattle.plain_text.specs.Parts.{parts, spaced}
 use Rattle.plain_text.proofs.Cuts.{parts_some}
 use Rattle.command_set.specs.Command.{CommandData, StartsNote, EndsNote, Bends, Controls, PicksProgram, SetsNumber, StoresVoice, TakesVoice, TakesCartridge, IsInRange}
-use Rattle.command_set.specs.Entries.{EntryData, LoggedData}
+use Rattle.command_set.specs.Entries.{LoggedData}
 use Rattle.command_set.specs.Text.{text, packed}
 use Rattle.command_set.proofs.Words.{voice_bytes, cartridge_bytes, known_small}
 use Rattle.command_set.proofs.Reading.{unique}

@@ -1,5 +1,5 @@
 -- The entries of an order are in order.
-use Rattle.std.proofs.Common.{◌≡◌, ℕ, zero, suc, ◌+◌, ◌≤◌, ◌<◌, List, [], ◌∷◌, length, take, get_or, arith}
+use Rattle.std.proofs.Common.{ℕ, suc, ◌≤◌, ◌<◌, List, [], ◌∷◌, length, take, get_or, arith}
 use Rattle.command_set.specs.Command.{IsInRange}
 use Rattle.command_set.specs.Entries.{LoggedData}
 use Rattle.take_files.specs.Files.{AreOrdered}

@@ -1,9 +1,7 @@
 -- What a reader of an order knows in the middle of it.
-use Rattle.std.specs.Prelude.{ℕ, ◌≡◌, ◌≢◌, ◌+◌, ◌<◌, ◌≤◌, List, [], ◌∷◌, ◌++◌, codes, decimal, length, slice_index}
-use Rattle.plain_text.specs.Parts.{spaced}
-use Rattle.command_set.specs.Entries.{EntryData, LoggedData, journal_data}
+use Rattle.std.specs.Prelude.{ℕ, ◌≡◌, ◌<◌, ◌≤◌, List, [], ◌∷◌, ◌++◌, codes, decimal, length, slice_index}
+use Rattle.command_set.specs.Entries.{LoggedData, journal_data}
 use Rattle.command_set.specs.Text.{text}
-use Rattle.take_files.specs.Files.{order_line}
 use Rattle.take_files.specs.Orders.{Follows, HasFault, IsOrdered, OrderData, count_of, entry_limit, last_block}
 use Rattle.take_files.specs.declared.read.OrderKind.{OrderKind}
 use Rattle.take_files.specs.declared.listing.Listing.{Listing}

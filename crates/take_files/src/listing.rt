@@ -1,6 +1,6 @@
 //! The entries of an order, as they are read.
 
-ghost use Rattle.std.specs.Prelude.{ℕ, List, ◌≡◌, ◌≤◌, ◌<◌, ◌+◌, ◌↔◌, [], ◌∷◌, ◌++◌, IfOk, OnOk, IfNone, IsTrue, Some, length};
+ghost use Rattle.std.specs.Prelude.{ℕ, List, ◌≡◌, ◌≤◌, ◌+◌, ◌↔◌, [], IfOk, OnOk, IfNone, IsTrue, Some, length};
 ghost use Rattle.command_set.specs.Entries.{logged_data};
 ghost use Rattle.take_files.specs.declared.read.OrderKind.{OrderKind};
 ghost use Rattle.take_files.specs.Orders.{BeginsWith, HasBlock, IsWritable};

@@ -1,6 +1,6 @@
 //! The fronts of a line: a text, or a number with a space behind it.
 
-ghost use Rattle.std.specs.Prelude.{ℕ, List, ◌≡◌, ◌≢◌, ◌≤◌, ◌<◌, ◌∷◌, ◌++◌, IfNone, IfSome, decimal, length};
+ghost use Rattle.std.specs.Prelude.{ℕ, List, ◌≡◌, ◌≢◌, ◌≤◌, ◌∷◌, ◌++◌, IfNone, IfSome, decimal};
 
 use plain_text::{cut, number_in};
 

@@ -1,4 +1,4 @@
-use Rattle.std.proofs.Common.{◌≡◌, ◌<◌, ◌≤◌, ◌++◌, ◌∷◌, ◌∙◌, ◌^◌, arith}
+use Rattle.std.proofs.Common.{◌++◌, ◌∷◌, ◌∙◌, arith}
 use Rattle.std.specs.Prelude.{codes, decimal}
 use Rattle.take_files.proofs.Fronts.{header_front, header_second, header_third, no_header, header_found}
 use Rattle.take_files.proofs.header.header_numbers.Goals as goal

@@ -1,4 +1,4 @@
-use Rattle.std.proofs.Common.{◌<◌, ◌≤◌, ◌^◌, arith}
+use Rattle.std.proofs.Common.{arith}
 use Rattle.take_files.proofs.Lines.{header_cut, header_uncut, header_read}
 use Rattle.take_files.proofs.header.read_header.Goals as goal
 

@@ -1,4 +1,4 @@
-use Rattle.std.proofs.Common.{◌++◌, ◌∷◌, ◌<◌, ◌≤◌, ◌^◌, arith}
+use Rattle.std.proofs.Common.{◌++◌, ◌∷◌, arith}
 use Rattle.std.specs.Prelude.{decimal}
 use Rattle.take_files.proofs.Fronts.{second_front, third_front, fourth_front}
 use Rattle.take_files.proofs.line.read_numbers.Goals as goal

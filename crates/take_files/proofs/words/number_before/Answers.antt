@@ -1,4 +1,4 @@
-use Rattle.std.proofs.Common.{◌+◌, ◌^◌, ◌<◌, ◌≤◌, arith}
+use Rattle.std.proofs.Common.{arith}
 use Rattle.take_files.proofs.Fronts.{no_space, no_number, number_found}
 use Rattle.take_files.proofs.words.number_before.Goals as goal
 

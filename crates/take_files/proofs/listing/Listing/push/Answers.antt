@@ -1,4 +1,4 @@
-use Rattle.std.proofs.Common.{ℕ, List, ◌≡◌, ◌≤◌, ◌<◌, ◌+◌, ◌++◌, [], ◌∷◌, length, sym, subst, arith}
+use Rattle.std.proofs.Common.{List, ◌≡◌, ◌≤◌, ◌+◌, ◌++◌, [], ◌∷◌, length, sym, subst, arith}
 use Rattle.std.proofs.Math.ListN.{set}
 use Rattle.command_set.specs.Entries.{LoggedData, journal_data, logged_data}
 use Rattle.take_files.specs.Orders.{IsOrdered}

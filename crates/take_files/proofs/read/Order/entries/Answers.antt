@@ -1,4 +1,3 @@
-use Rattle.std.proofs.Common.{List, subst, sym, ap}
 use Rattle.take_files.proofs.Ordered.{ordered}
 use Rattle.take_files.proofs.read.Order.entries.Goals as goal
 
