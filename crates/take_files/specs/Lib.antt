@@ -1,3 +1,4 @@
 pub mod Files
 pub mod Playback
 pub mod Orders
+pub mod Reading

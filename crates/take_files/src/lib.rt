@@ -1,14 +1,21 @@
 //! The two files of a run: the order of its commands, and its sound.
 #![tactic(auto)]
 
+mod header;
+mod line;
+mod listing;
 mod order;
 mod playback;
 mod read;
 mod sound;
 mod wav;
+mod words;
 
 pub use order::{order_file, order_header, order_line};
 pub use playback::{Piece, Playback};
-pub use read::{Order, OrderFault, OrderKind, read_order};
+pub use read::{Order, OrderFault, OrderKind, orders_are_unique, read_order};
 pub use sound::sound_file;
 pub use wav::{wav_block, wav_header};
+
+#[cfg(test)]
+mod tests;

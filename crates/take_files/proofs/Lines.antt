@@ -1,0 +1,253 @@
+-- Texts cut at a byte of one code, and the lines of an order.
+use Rattle.std.proofs.Common.{◌≡◌, ◌≢◌, ℕ, suc, ◌^◌, ◌/◌, ◌%◌, ◌<◌, ◌==◌, Bool, true, false, List, [], ◌∷◌, ◌++◌, length, get_or, refl, sym, ◌∙◌, ap, arith, append_assoc}
+use Rattle.std.specs.Prelude.{All, codes, decimal, not}
+use Rattle.std.specs.Int.{IsInRange as IsWithin}
+use Rattle.std.specs.Str.Parse.{digits_value}
+use Rattle.std.specs.List.{flat_map, join_with_byte}
+use Rattle.std.proofs.lemmas.Bool.{ne_eqb, eq-eqb}
+use Rattle.std.proofs.lemmas.Fmt.{digits_decimal, digits_value-decimal}
+use Rattle.std.proofs.lemmas.Str.Parse.{IsNumeralModel, numerals_by_value, tells_by_index}
+use Rattle.std.proofs.lemmas.List.{append_cancel_left}
+use Rattle.std.proofs.lemmas.List.Elements.{All-from_get_or, All-cons, All-nil, All-head, All-tail, All-append}
+use Rattle.std.proofs.lemmas.List.Splits.{slice_split_at, join_with_byte-slice_split}
+use Rattle.hex.specs.Hex.{IsBytes, encode_lower, encode_with, lower_digits}
+use Rattle.voice_record.proofs.Every.{every, every_at}
+use Rattle.voice_record.proofs.Voices.{greatest_small}
+use Rattle.plain_text.specs.Parts.{parts, spaced}
+use Rattle.plain_text.proofs.Cuts.{parts_some}
+use Rattle.command_set.specs.Command.{CommandData, StartsNote, EndsNote, Bends, Controls, PicksProgram, SetsNumber, StoresVoice, TakesVoice, TakesCartridge, IsInRange}
+use Rattle.command_set.specs.Entries.{LoggedData}
+use Rattle.command_set.specs.Text.{text, packed}
+use Rattle.command_set.proofs.Words.{voice_bytes, cartridge_bytes, known_small}
+use Rattle.command_set.proofs.Reading.{unique}
+use Rattle.take_files.specs.Files.{order_header, order_line}
+use Rattle.take_files.specs.Orders.{IsWritable, BeginsWith}
+use Rattle.take_files.specs.Reading.{entry_text, header_text}
+
+-- no byte of the word has this code
+abbrev pub HasNo : ℕ → List ℕ → Type 0
+HasNo code word = All (λ byte. (byte == code) ≡ false) word
+
+-- ---- texts and their cuts
+
+join_front : (code : ℕ) (front : List ℕ) (ps : List (List ℕ)) → ps ≢ [] → join_with_byte code (front ∷ ps) ≡ front ++ code ∷ join_with_byte code ps
+join_front code front [] some = absurd (some refl)
+join_front code front (p ∷ ps) some = refl
+
+-- a text that was cut is its front, the byte, and the rest
+pub cut_text : (code : ℕ) (whole front rest : List ℕ) → parts code whole ≡ front ∷ parts code rest → whole ≡ front ++ code ∷ rest
+cut_text code whole front rest e =
+    sym (join_with_byte-slice_split code whole) ∙ ap (join_with_byte code) e ∙ join_front code front (parts code rest) (parts_some code rest)
+    ∙ ap (λ (bs : List ℕ). front ++ code ∷ bs) (join_with_byte-slice_split code rest)
+
+heads : (a b : List ℕ) (xs ys : List (List ℕ)) → a ∷ xs ≡ b ∷ ys → (a ≡ b) × (xs ≡ ys)
+heads a b xs ys e = (cc, cc)
+
+same_parts : (code : ℕ) (a b xs ys : List ℕ) → a ∷ parts code xs ≡ b ∷ parts code ys → (a ≡ b) × (xs ≡ ys)
+same_parts code a b xs ys e =
+    let h = heads a b (parts code xs) (parts code ys) e in
+    (h.0, sym (join_with_byte-slice_split code xs) ∙ ap (join_with_byte code) h.1 ∙ join_with_byte-slice_split code ys)
+
+parts_at : (code : ℕ) (front rest : List ℕ) → HasNo code front → parts code (front ++ code ∷ rest) ≡ front ∷ parts code rest
+parts_at code front rest h = slice_split_at (λ byte. byte == code) front code rest h (eq-eqb code code refl)
+
+-- a text is cut at its first byte of the code
+pub cut_only : (code : ℕ) (whole front rest a b : List ℕ) → parts code whole ≡ front ∷ parts code rest → HasNo code a → whole ≡ a ++ code ∷ b
+    → (front ≡ a) × (rest ≡ b)
+cut_only code whole front rest a b e h is = same_parts code front a rest b (sym e ∙ ap (parts code) is ∙ parts_at code a b h)
+
+-- a text that was not cut has no byte of the code
+pub cut_none : (code : ℕ) (whole a b : List ℕ) → parts code whole ≡ whole ∷ [] → HasNo code a → whole ≢ a ++ code ∷ b
+cut_none code whole a b e h is =
+    let h2 = heads a whole (parts code b) [] (sym (parts_at code a b h) ∙ sym (ap (parts code) is) ∙ e) in
+    parts_some code b h2.1
+
+-- two texts with the same byte behind fronts without it
+pub front_same : (code : ℕ) (a b xs ys : List ℕ) → HasNo code a → HasNo code b → a ++ code ∷ xs ≡ b ++ code ∷ ys → (a ≡ b) × (xs ≡ ys)
+front_same code a b xs ys ha hb e = same_parts code a b xs ys (sym (parts_at code a xs ha) ∙ ap (parts code) e ∙ parts_at code b ys hb)
+
+-- ---- bytes of words
+
+own : IsNumeralModel (λ ds. (i : ℕ) → i < length ds → IsWithin 48 57 (get_or ds i 0)) (digits_value 10)
+own = numerals_by_value (λ ds. (i : ℕ) → i < length ds → IsWithin 48 57 (get_or ds i 0)) tells_by_index
+
+-- a number is digits
+pub decimal_whole : (code n : ℕ) → code < 48 → n < 2 ^ 32 → HasNo code (decimal n)
+decimal_whole code n low l =
+    let digits = digits_decimal own n (omega arith) in
+    All-from_get_or (λ byte. (byte == code) ≡ false) (decimal n) 0 (λ i below.
+    let digit : IsWithin 48 57 (get_or (decimal n) i 0) = digits i below in ne_eqb _ _ (λ e. absurd (omega (arith, digit.0))))
+
+pub decimal_same : (n m : ℕ) → n < 2 ^ 32 → m < 2 ^ 32 → decimal n ≡ decimal m → n ≡ m
+decimal_same n m ln lm e = sym (digits_value-decimal own n (omega arith)) ∙ ap (digits_value 10) e ∙ digits_value-decimal own m (omega arith)
+
+-- two texts that begin with numbers and spaces
+pub number_same : (n m : ℕ) (xs ys : List ℕ) → n < 2 ^ 32 → m < 2 ^ 32 → decimal n ++ 32 ∷ xs ≡ decimal m ++ 32 ∷ ys → (n ≡ m) × (xs ≡ ys)
+number_same n m xs ys ln lm e =
+    let h = front_same 32 (decimal n) (decimal m) xs ys (decimal_whole 32 n (omega arith) ln) (decimal_whole 32 m (omega arith) lm) e in
+    (decimal_same n m ln lm h.0, h.1)
+
+no_digit_is_feed : every (λ k. not (get_or lower_digits k 0 == 10)) 16 ≡ true
+unfolding every
+no_digit_is_feed = refl
+
+not_true : (t : Bool) → not t ≡ true → t ≡ false
+not_true true e = absurd (cc)
+not_true false e = refl
+
+digit_whole : (k : ℕ) → k < 16 → (get_or lower_digits k 0 == 10) ≡ false
+digit_whole k l = not_true _ (every_at (λ k. not (get_or lower_digits k 0 == 10)) 16 no_digit_is_feed k l)
+
+hex_whole : (bytes : List ℕ) → IsBytes bytes → HasNo 10 (encode_lower bytes)
+unfolding encode_with
+hex_whole [] h = All-nil (λ byte. (byte == 10) ≡ false)
+hex_whole (byte ∷ bytes) h =
+    let fits : byte < 256 = h 0 in
+    All-cons (λ byte. (byte == 10) ≡ false) (get_or lower_digits (byte / 16) 0) (get_or lower_digits (byte % 16) 0 ∷ encode_lower bytes) (digit_whole (byte / 16) (omega arith))
+    (All-cons (λ byte. (byte == 10) ≡ false) (get_or lower_digits (byte % 16) 0) (encode_lower bytes) (digit_whole (byte % 16) (omega arith)) (hex_whole bytes (λ k. h (suc k))))
+
+codes_whole : (word : List ℕ) → every (λ k. not (get_or word k 0 == 10)) (length word) ≡ true → HasNo 10 word
+codes_whole word h =
+    All-from_get_or (λ byte. (byte == 10) ≡ false) word 0 (λ i below. not_true _ (every_at (λ k. not (get_or word k 0 == 10)) (length word) h i below))
+
+spaced_whole : (word : List ℕ) (more : List (List ℕ)) → HasNo 10 word → All (HasNo 10) more → HasNo 10 (spaced word more)
+spaced_whole word [] h hs = h
+spaced_whole word (next ∷ more) h hs =
+    All-append (λ byte. (byte == 10) ≡ false) word (32 ∷ spaced next more) h
+    (All-cons (λ byte. (byte == 10) ≡ false) 32 (spaced next more) refl (spaced_whole next more (All-head (HasNo 10) next more hs) (All-tail (HasNo 10) next more hs)))
+
+number_whole : (n : ℕ) → n < 2 ^ 32 → HasNo 10 (decimal n)
+number_whole n l = decimal_whole 10 n (omega arith) l
+
+-- a word and one more
+one_whole : (kind word : List ℕ) → HasNo 10 kind → HasNo 10 word → HasNo 10 (spaced kind (word ∷ []))
+one_whole kind word hk h = spaced_whole kind (word ∷ []) hk (All-cons (HasNo 10) word [] h (All-nil (HasNo 10)))
+
+-- a word and two numbers
+two_whole : (kind : List ℕ) (a b : ℕ) → HasNo 10 kind → a < 2 ^ 32 → b < 2 ^ 32 → HasNo 10 (spaced kind (decimal a ∷ decimal b ∷ []))
+two_whole kind a b hk la lb =
+    spaced_whole kind (decimal a ∷ decimal b ∷ []) hk
+    (All-cons (HasNo 10) (decimal a) (decimal b ∷ []) (number_whole a la) (All-cons (HasNo 10) (decimal b) [] (number_whole b lb) (All-nil (HasNo 10))))
+
+-- a word and three numbers
+three_whole : (kind : List ℕ) (a b c : ℕ) → HasNo 10 kind → a < 2 ^ 32 → b < 2 ^ 32 → c < 2 ^ 32
+    → HasNo 10 (spaced kind (decimal a ∷ decimal b ∷ decimal c ∷ []))
+three_whole kind a b c hk la lb lc =
+    spaced_whole kind (decimal a ∷ decimal b ∷ decimal c ∷ []) hk
+    (All-cons (HasNo 10) (decimal a) (decimal b ∷ decimal c ∷ []) (number_whole a la)
+    (All-cons (HasNo 10) (decimal b) (decimal c ∷ []) (number_whole b lb) (All-cons (HasNo 10) (decimal c) [] (number_whole c lc) (All-nil (HasNo 10)))))
+
+-- the text of a command has no line feed
+text_whole : (command : CommandData) → IsInRange command → HasNo 10 (text command)
+unfolding text every
+text_whole (StartsNote channel key velocity) (a, b, low, high) =
+    three_whole (codes "on") channel key velocity (codes_whole (codes "on") refl) (omega arith) (omega arith) (omega arith)
+text_whole (EndsNote channel key) (a, b) = two_whole (codes "off") channel key (codes_whole (codes "off") refl) (omega arith) (omega arith)
+text_whole (Bends channel value) (a, b) = two_whole (codes "bend") channel value (codes_whole (codes "bend") refl) (omega arith) (omega arith)
+text_whole (Controls channel number value) (a, known, b) =
+    three_whole (codes "control") channel number value (codes_whole (codes "control") refl) (omega arith) (omega (arith, known_small number known)) (omega arith)
+text_whole (PicksProgram channel number) (a, b) =
+    two_whole (codes "program") channel number (codes_whole (codes "program") refl) (omega arith) (omega arith)
+text_whole (SetsNumber number value) (a, b) =
+    two_whole (codes "param") number value (codes_whole (codes "param") refl) (omega arith) (omega (arith, greatest_small number (omega arith)))
+text_whole (StoresVoice slot) a = one_whole (codes "store") (decimal slot) (codes_whole (codes "store") refl) (number_whole slot (omega arith))
+text_whole (TakesVoice voice) v = one_whole (codes "voice") (encode_lower voice) (codes_whole (codes "voice") refl) (hex_whole voice (voice_bytes voice v))
+text_whole (TakesCartridge voices) h =
+    one_whole (codes "cartridge") (encode_lower (flat_map packed voices)) (codes_whole (codes "cartridge") refl)
+    (hex_whole (flat_map packed voices) (cartridge_bytes voices h))
+
+-- ---- the line of an entry
+
+pub line_more : (l : LoggedData) (more : List ℕ) → order_line l ++ more ≡ entry_text l ++ 10 ∷ more
+unfolding order_line
+line_more l more = append_assoc (entry_text l) (10 ∷ []) more
+
+entry_whole : (l : LoggedData) → IsWritable l → HasNo 10 (entry_text l)
+entry_whole l w =
+    spaced_whole (decimal l.block) (decimal l.entry.sent_at ∷ decimal l.entry.script ∷ decimal l.entry.seq ∷ text l.entry.command ∷ []) (number_whole l.block w.block)
+    (All-cons (HasNo 10) (decimal l.entry.sent_at) (decimal l.entry.script ∷ decimal l.entry.seq ∷ text l.entry.command ∷ []) (number_whole l.entry.sent_at w.due)
+    (All-cons (HasNo 10) (decimal l.entry.script) (decimal l.entry.seq ∷ text l.entry.command ∷ []) (number_whole l.entry.script w.script)
+    (All-cons (HasNo 10) (decimal l.entry.seq) (text l.entry.command ∷ []) (number_whole l.entry.seq w.seq)
+    (All-cons (HasNo 10) (text l.entry.command) [] (text_whole l.entry.command w.command) (All-nil (HasNo 10))))))
+
+made : ℕ → ℕ → ℕ → ℕ → CommandData → LoggedData
+made block due script seq command = record { block = block; entry = record { script = script; seq = seq; sent_at = due; command = command } }
+
+made_same : (a b c d : ℕ) (e : CommandData) (a2 b2 c2 d2 : ℕ) (e2 : CommandData) → a ≡ a2 → b ≡ b2 → c ≡ c2 → d ≡ d2 → e ≡ e2 → made a b c d e ≡ made a2 b2 c2 d2 e2
+made_same a b c d e a2 b2 c2 d2 e2 ha hb hc hd he = cc
+
+entry_same : (l m : LoggedData) → IsWritable l → IsWritable m → entry_text l ≡ entry_text m → l ≡ m
+unfolding made
+entry_same l m w v e =
+    let one = number_same l.block m.block _ _ w.block v.block e in
+    let two = number_same l.entry.sent_at m.entry.sent_at _ _ w.due v.due one.1 in
+    let three = number_same l.entry.script m.entry.script _ _ w.script v.script two.1 in
+    let four = number_same l.entry.seq m.entry.seq _ _ w.seq v.seq three.1 in
+    made_same _ _ _ _ _ _ _ _ _ _ one.0 two.0 three.0 four.0 (unique l.entry.command m.entry.command w.command v.command four.1)
+
+-- texts that begin with lines of entries
+pub line_same : (l m : LoggedData) (xs ys : List ℕ) → IsWritable l → IsWritable m → order_line l ++ xs ≡ order_line m ++ ys → (l ≡ m) × (xs ≡ ys)
+line_same l m xs ys w v e =
+    let h = front_same 10 (entry_text l) (entry_text m) xs ys (entry_whole l w) (entry_whole m v) (sym (line_more l xs) ∙ e ∙ line_more m ys) in
+    (entry_same l m w v h.0, h.1)
+
+pub line_some : (l : LoggedData) (more : List ℕ) → order_line l ++ more ≢ []
+line_some l more e = let none : length (entry_text l ++ 10 ∷ more) ≡ 0 = ap length (sym (line_more l more) ∙ e) in ends (entry_text l) more none where
+  ends : (front more : List ℕ) → length (front ++ 10 ∷ more) ≡ 0 → ⊥
+  ends [] more none = absurd (omega arith)
+  ends (x ∷ front) more none = absurd (omega arith)
+
+-- a text that begins with the line of an entry is cut behind it
+pub line_cut : (whole front rest : List ℕ) (l : LoggedData) → parts 10 whole ≡ front ∷ parts 10 rest → BeginsWith whole l → entry_text l ≡ front
+line_cut whole front rest l e b = sym (cut_only 10 whole front rest (entry_text l) b.more e (entry_whole l b.writable) (b.spelled ∙ line_more l b.more)).0
+
+pub line_uncut : (whole : List ℕ) (l : LoggedData) → parts 10 whole ≡ whole ∷ [] → ¬ BeginsWith whole l
+line_uncut whole l e b = cut_none 10 whole (entry_text l) b.more e (entry_whole l b.writable) (b.spelled ∙ line_more l b.more)
+
+pub line_read : (whole front rest : List ℕ) (l : LoggedData) → parts 10 whole ≡ front ∷ parts 10 rest → entry_text l ≡ front → whole ≡ order_line l ++ rest
+line_read whole front rest l e is = cut_text 10 whole front rest e ∙ ap (λ (bs : List ℕ). bs ++ 10 ∷ rest) (sym is) ∙ sym (line_more l rest)
+
+-- ---- the first line
+
+tail_more : (b s more : List ℕ) → (b ++ (codes " scripts " ++ (s ++ 10 ∷ []))) ++ more ≡ (b ++ 32 ∷ (codes "scripts " ++ s)) ++ 10 ∷ more
+tail_more b s more = simp append_assoc
+
+pub header_more : (blocks scripts : ℕ) (more : List ℕ) → order_header blocks scripts ++ more ≡ header_text blocks scripts ++ 10 ∷ more
+unfolding order_header header_text
+header_more blocks scripts more =
+    append_assoc (codes "order engine 1 blocks ") _ more ∙ ap (λ (bs : List ℕ). codes "order engine 1 blocks " ++ bs) (tail_more (decimal blocks) (decimal scripts) more)
+    ∙ sym (append_assoc (codes "order engine 1 blocks ") _ (10 ∷ more))
+
+header_whole : (blocks scripts : ℕ) → blocks < 2 ^ 32 → scripts < 2 ^ 32 → HasNo 10 (header_text blocks scripts)
+unfolding header_text every
+header_whole blocks scripts lb ls =
+    All-append (λ byte. (byte == 10) ≡ false) (codes "order engine 1 blocks ") _ (codes_whole (codes "order engine 1 blocks ") refl)
+    (All-append (λ byte. (byte == 10) ≡ false) (decimal blocks) _ (number_whole blocks lb)
+    (All-append (λ byte. (byte == 10) ≡ false) (codes " scripts ") (decimal scripts) (codes_whole (codes " scripts ") refl) (number_whole scripts ls)))
+
+header_text_same : (a b c d : ℕ) → a < 2 ^ 32 → b < 2 ^ 32 → c < 2 ^ 32 → d < 2 ^ 32 → header_text a b ≡ header_text c d → (a ≡ c) × (b ≡ d)
+unfolding header_text
+header_text_same a b c d la lb lc ld e =
+    let first = number_same a c _ _ la lc (append_cancel_left (codes "order engine 1 blocks ") _ _ e) in
+    (first.0, decimal_same b d lb ld (append_cancel_left (codes "scripts ") _ _ first.1))
+
+-- texts that begin with first lines
+pub header_same : (a b c d : ℕ) (xs ys : List ℕ) → a < 2 ^ 32 → b < 2 ^ 32 → c < 2 ^ 32 → d < 2 ^ 32 → order_header a b ++ xs ≡ order_header c d ++ ys
+    → (a ≡ c) × (b ≡ d) × (xs ≡ ys)
+header_same a b c d xs ys la lb lc ld e =
+    let h = front_same 10 (header_text a b) (header_text c d) xs ys (header_whole a b la lb) (header_whole c d lc ld) (sym (header_more a b xs) ∙ e ∙ header_more c d ys) in
+    let n = header_text_same a b c d la lb lc ld h.0 in
+    (n.0, n.1, h.1)
+
+pub header_cut : (whole front rest more : List ℕ) (blocks scripts : ℕ) → parts 10 whole ≡ front ∷ parts 10 rest → blocks < 2 ^ 32 → scripts < 2 ^ 32
+    → whole ≡ order_header blocks scripts ++ more → front ≡ header_text blocks scripts
+header_cut whole front rest more blocks scripts e lb ls is =
+    (cut_only 10 whole front rest (header_text blocks scripts) more e (header_whole blocks scripts lb ls) (is ∙ header_more blocks scripts more)).0
+
+pub header_uncut : (whole more : List ℕ) (blocks scripts : ℕ) → parts 10 whole ≡ whole ∷ [] → blocks < 2 ^ 32 → scripts < 2 ^ 32 → whole ≢ order_header blocks scripts ++ more
+header_uncut whole more blocks scripts e lb ls is = cut_none 10 whole (header_text blocks scripts) more e (header_whole blocks scripts lb ls) (is ∙ header_more blocks scripts more)
+
+pub header_read : (whole front rest : List ℕ) (blocks scripts : ℕ) → parts 10 whole ≡ front ∷ parts 10 rest → front ≡ header_text blocks scripts
+    → whole ≡ order_header blocks scripts ++ rest
+header_read whole front rest blocks scripts e is =
+    cut_text 10 whole front rest e ∙ ap (λ (bs : List ℕ). bs ++ 10 ∷ rest) is ∙ sym (header_more blocks scripts rest)

@@ -1,0 +1,24 @@
+//! The fronts of a line: a text, or a number with a space behind it.
+
+ghost use Rattle.std.specs.Prelude.{ℕ, List, ◌≡◌, ◌≢◌, ◌≤◌, ◌∷◌, ◌++◌, IfNone, IfSome, decimal};
+
+use plain_text::{cut, number_in};
+
+/// What stands behind this front.
+pub(crate) fn behind<'a>(text: &'a [u8], front: &[u8]) -> Option<&'a [u8]>
+    ensures found { IfSome result (λ rest. text.now ≡ front.now ++ rest.now) }
+    ensures none { IfNone result ((rest : List ℕ) → text.now ≢ front.now ++ rest) }
+{
+    text.strip_prefix(front)
+}
+
+/// The number before the first space, from `least` to `most`, and what stands behind the space.
+pub(crate) fn number_before(text: &[u8], least: u32, most: u32) -> Option<(u32, &[u8])>
+    ensures found { IfSome result (λ r. text.now ≡ decimal r.0 ++ 32 ∷ r.1.now) }
+    ensures range { IfSome result (λ r. (least ≤ r.0) × (r.0 ≤ most)) }
+    ensures none { IfNone result ((n : ℕ) (rest : List ℕ) → least ≤ n → n ≤ most → text.now ≢ decimal n ++ 32 ∷ rest) }
+{
+    let (word, rest) = cut(text, b' ')?;
+    let number = number_in(word, least, most)?;
+    Some((number, rest))
+}
