@@ -43,6 +43,9 @@ refused_ends asked (trouble.Refused why) name before now status reason is line f
 refused_ends asked trouble.Memory name before now status reason is line files =
     inr (inr (inr (inr (inr (inr (is, record { files = files; line = line }))))))
 
+pub memory_ends : (asked : Asked) (before now : Moment) (status : ℕ) → status ≡ 8 → Tells (line_of trouble.Memory []) before now → now.files ≡ before.files → Ends asked status before now
+memory_ends asked before now status is line files = inr (inr (inr (inr (inr (inr (is, record { files = files; line = line }))))))
+
 pub done_ends : (asked : Asked) (before now : Moment) (status : ℕ) → status ≡ 0
     → IsDecided asked before.files Good → IfSome before.files (λ files. IsSame asked files) → IfSome before.files (λ files. AreWritten asked files now.files)
     → IfSome before.files (λ files. now.written ≡ option_map (said (report asked files)) before.written)

@@ -8,5 +8,6 @@ pub mod Judging
 pub mod Reports
 pub mod Endings
 pub mod Packs
+pub mod Fronts
 pub mod Sounds
-pub mod Comparing
+pub mod OrderEndings

@@ -2,11 +2,13 @@
 use Rattle.std.proofs.Common.{◌≡◌, ◌≢◌, inl, inr, ℕ, zero, suc, ◌+◌, ◌-◌, ◌<◌, ◌≤◌, min, List, [], ◌∷◌, ◌++◌, length, take, drop, get_or, refl, sym, ◌∙◌, ap, subst, arith, append_assoc, append-nil, length-append, length-drop}
 use Rattle.std.specs.Prelude.{Option, Some, None, IfSome, IsSomeAnd, unwrap_or, slice_get}
 use Rattle.std.specs.FinMap.{get}
-use Rattle.std.proofs.Math.Seq.{take-add, take-append-add, take-append_seam, drop-append_seam, drop-append-add}
+use Rattle.std.proofs.Math.Seq.{take-add, take-append-add, take-append_seam, drop-append_seam, drop-nil}
 use Rattle.std.proofs.lemmas.List.{take-append-drop, take-append-le, length-take, length-take-le, take_all}
 use Rattle.std.proofs.lemmas.Option.{slice_get_past, slice_get-get_or}
 use Rattle.outside.specs.Files.{Files, ReadsFrom, Lacks, file_of}
-use Rattle.tool_core.specs.Comparisons.{DiffersAt, IsCompared, IsFront}
+use Rattle.tool_core.specs.declared.comparing.Step.{Step}
+use Rattle.tool_core.specs.declared.comparing.Step.TheVariants.{Same, Differs}
+use Rattle.tool_core.specs.Comparisons.{DiffersAt, IsCompared, IsFront, IsStep, IsWithin}
 
 -- ---- bytes at a place
 get_behind : (front a : List ℕ) (i : ℕ) → slice_get (front ++ a) (length front + i) ≡ slice_get a i
@@ -90,11 +92,7 @@ read_end file buffer chunk at count reads fits room is none =
 -- ---- a piece, step by step
 drop_drop : (n m : ℕ) (a : List ℕ) → drop m (drop n a) ≡ drop (n + m) a
 drop_drop zero m a = ap (λ (k : ℕ). drop k a) (let e : m ≡ 0 + m = omega arith in e)
-drop_drop (suc n) m [] = drop_none m ∙ sym (drop_none (suc n + m))
-  where
-    drop_none : (k : ℕ) → drop k [] ≡ []
-    drop_none zero = refl
-    drop_none (suc k) = refl
+drop_drop (suc n) m [] = ap (drop m) (drop-nil {A = ℕ} (suc n)) ∙ drop-nil {A = ℕ} m ∙ sym (drop-nil {A = ℕ} (suc n + m))
 drop_drop (suc n) m (x ∷ a) = drop_drop n m a ∙ ap (λ (k : ℕ). drop k (x ∷ a)) (let e : suc (n + m) ≡ suc n + m = omega arith in e)
 
 -- the rest of a piece, as the code cuts it off
@@ -182,3 +180,19 @@ none (x ∷ rest) e = absurd (omega arith)
 pub ends_there : (file whole : List ℕ) (size count : ℕ) → size ≡ length whole → count ≡ length file → count ≤ size → IsFront file whole None → file ≡ whole
 ends_there file whole size count is ends low (rest, same) =
     same ∙ ap (λ (l : List ℕ). whole ++ l) (none rest (omega (arith, ap length same, length-append whole rest))) ∙ append-nil whole
+
+-- ---- what an answer says, where it is known which one it is
+pub front_at : (o : Option ℕ) (file front : List ℕ) (known : Option ℕ) → o ≡ known → IsFront file front o → IsFront file front known
+front_at o file front known is h = subst (λ (r : Option ℕ). IsFront file front r) is h
+
+pub step_same : (step : Step) (count : ℕ) (file front : List ℕ) → step ≡ Same count → IsStep step file front → take count file ≡ take count front
+step_same step count file front is h = let k : IsStep (Same count) file front = subst (λ (s : Step). IsStep s file front) is h in k
+
+pub step_differs : (step : Step) (place : ℕ) (file front : List ℕ) → step ≡ Differs place → IsStep step file front → DiffersAt file front place
+step_differs step place file front is h = let k : IsStep (Differs place) file front = subst (λ (s : Step). IsStep s file front) is h in k
+
+pub same_within : (step : Step) (count most : ℕ) → step ≡ Same count → IsWithin step most → count ≤ most
+same_within step count most is h = let k : IsWithin (Same count) most = subst (λ (s : Step). IsWithin s most) is h in k.1
+
+pub differs_within : (step : Step) (place most : ℕ) → step ≡ Differs place → IsWithin step most → place < most
+differs_within step place most is h = let k : IsWithin (Differs place) most = subst (λ (s : Step). IsWithin s most) is h in k
