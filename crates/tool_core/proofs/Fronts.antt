@@ -125,11 +125,10 @@ piece_differs file piece wanted at done place is low same step =
     (subst (λ (l : List ℕ). DiffersAt l (take done piece ++ wanted) (length (take done piece) + place)) left whole))
 
 pub piece_whole : (file piece : List ℕ) (at done : ℕ) → done ≡ length piece → take done (drop at file) ≡ take done piece → IsFront (drop at file) piece None
-piece_whole file piece at done is same =
-    (
-      drop done (drop at file),
-      sym (take-append-drop done (drop at file)) ∙ ap (λ (l : List ℕ). l ++ drop done (drop at file)) (same ∙ take_all done piece (omega arith)),
-    )
+piece_whole file piece at done is same = (
+  drop done (drop at file),
+  sym (take-append-drop done (drop at file)) ∙ ap (λ (l : List ℕ). l ++ drop done (drop at file)) (same ∙ take_all done piece (omega arith)),
+)
 
 -- ---- a file, piece by piece
 behind : (file front rest : List ℕ) (at : ℕ) → file ≡ front ++ rest → at ≡ length front → drop at file ≡ rest

@@ -148,8 +148,7 @@ module _ (order sound : List ℕ) (o : OrderData) where
       → ((file : List ℕ) → file_of files sound ≡ Some file → IsCompared file (wav o.journal o.blocks) (Some place)) → IfSome files (λ told. IsOther (Verify order sound) told place)
   other_both None place read has other = tt
   other_both (Some told) place read has other =
-      let t = there (get told sound) has in
-      (
+      let t = there (get told sound) has in (
         o,
         order_in (get told order) o read,
         subst (λ (g : Option (List ℕ)). IsCompared (unwrap_or g []) (wav o.journal o.blocks) (Some place)) (sym t.is) (other t.file t.is),

@@ -52,13 +52,7 @@ fn place_of(place: Option<u32>, size: u32, count: u32) -> Option<u32>
 {
     match place {
         Some(place) => Some(place),
-        None => {
-            if count > size {
-                Some(size)
-            } else {
-                None
-            }
-        }
+        None => { if count > size { Some(size) } else { None } }
     }
 }
 
@@ -134,12 +128,7 @@ pub enum Step {
 }
 
 /// Compares the bytes that one read of a file gives at a place with those that should stand there.
-fn compare_some<S: Shelf>(
-    shelf: &mut S,
-    name: &str,
-    at: u32,
-    wanted: &[u8],
-) -> Result<Step, Failed>
+fn compare_some<S: Shelf>(shelf: &mut S, name: &str, at: u32, wanted: &[u8]) -> Result<Step, Failed>
     requires { 0 < length wanted.now }
     ensures step { IfOk result (λ step. (file : List ℕ) → file_of (S.files shelf.old) name.now ≡ Some file → IsStep step (drop at file) wanted.now) }
     ensures within { IfOk result (λ step. IsWithin step (length wanted.now)) }

@@ -17,11 +17,7 @@ use take_files::{Order, OrderFault, OrderKind, read_order};
 const ORDER_LIMIT: u64 = 536_870_912;
 
 /// The order that a file holds.
-pub fn read_order_file<S: Shelf>(
-    alloc: Global,
-    shelf: &mut S,
-    name: &str,
-) -> Result<Order, Trouble>
+pub fn read_order_file<S: Shelf>(alloc: Global, shelf: &mut S, name: &str) -> Result<Order, Trouble>
     ensures good { IfOk result (λ o. IfSome (S.files shelf.old) (λ told.
         IsSomeAnd (get told name.now) (λ file. (length file ≤ order_limit) × IsOrder file o))) }
     ensures kept { OnOk result (S.reading shelf.new ≡ S.reading shelf.old) }

@@ -22,8 +22,7 @@ comparing-preserved g c =
 pub returns-in-Ok-Differs-clause-compared : goal.returns-in-Ok-Differs-clause-compared
 returns-in-Ok-Differs-clause-compared g c file is =
     let i = c.comparing.invariant in
-    let e = c.in-Ok-Differs.ensures in
-    (
+    let e = c.in-Ok-Differs.ensures in (
       omega (arith, differs_within _ _ _ c.in-Ok-Differs.field-0-is e.within, ap length (rest_whole c.args.piece.now c.comparing.done), length-drop c.comparing.done c.args.piece.now, c.comparing-test.true),
       piece_differs file c.args.piece.now (take (length c.args.piece.now - c.comparing.done) (drop c.comparing.done c.args.piece.now)) c.args.at c.comparing.done c.in-Ok-Differs.place refl
           i.within (i.same file is) (step_differs _ _ _ _ c.in-Ok-Differs.field-0-is (e.step file (ap (λ (o : Option Files). file_of o c.args.name.now) i.files ∙ is))),
