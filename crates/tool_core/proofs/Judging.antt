@@ -14,7 +14,7 @@ use Rattle.tool_core.specs.Exclusives.{exclusives}
 use Rattle.tool_core.specs.Refusals.{Wanted, AllMessages, OneVoice, OneCartridge, refusal, refusal_in, cut_refusal, missing_refusal, cartridge_in, voice_in, first_some, message_refusal, long_refusal}
 use Rattle.tool_core.specs.Surveys.{Surveys}
 use Rattle.tool_core.proofs.Surveying.{or_none, or_assoc}
-use Rattle.tool_core.specs.Verdicts.{Verdict, Lacking, TooLarge, Refused, Good, verdict, verdict_on, next_verdict, judged, AreJudged, file_limit}
+use Rattle.tool_core.specs.Verdicts.{Verdict, Lacking, TooLarge, TooMany, Refused, Good, verdict, verdict_on, next_verdict, judged, AreJudged, file_limit}
 use Rattle.tool_core.specs.Outcomes.{cartridge_of, voice_of}
 use Rattle.tool_core.specs.Troubles.{IsReadTrouble, IsContentTrouble, IsJudged, HasReason, HasReasonAmong}
 
@@ -37,6 +37,7 @@ pub content_reason : (why : Trouble) (wanted : Wanted) (files : Option Files) (n
     → IsContentTrouble why wanted file → HasReason why wanted files name before now
 content_reason trouble.Unread wanted files name file before now found within same reason = absurd reason
 content_reason trouble.TooLarge wanted files name file before now found within same reason = absurd reason
+content_reason trouble.TooMany wanted files name file before now found within same reason = absurd reason
 content_reason (trouble.Refused why) wanted files name file before now found within same reason =
     (same, subst (λ (r : Option Refusal). IsJudged wanted files name (judged r)) reason (found_judged wanted files name file found within))
 content_reason trouble.Memory wanted files name file before now found within same reason = same
@@ -52,9 +53,10 @@ files_large wanted None name h = tt
 files_large wanted (Some told) name h = large wanted (get told name) h
 
 pub read_reason : (why : Trouble) (wanted : Wanted) (files : Option Files) (name : List ℕ) (before now : ℕ)
-    → IsReadTrouble why files name before now → HasReason why wanted files name before now
+    → IsReadTrouble why file_limit files name before now → HasReason why wanted files name before now
 read_reason trouble.Unread wanted files name before now reason = reason
 read_reason trouble.TooLarge wanted files name before now reason = (reason.0, files_large wanted files name (reason.1))
+read_reason trouble.TooMany wanted files name before now reason = absurd reason
 read_reason (trouble.Refused why) wanted files name before now reason = absurd reason
 read_reason trouble.Memory wanted files name before now reason = reason
 
@@ -62,6 +64,7 @@ read_reason trouble.Memory wanted files name before now reason = reason
 next_good : (v : Verdict) → next_verdict v Good ≡ v
 next_good Lacking = refl
 next_good TooLarge = refl
+next_good TooMany = refl
 next_good (Refused why) = refl
 next_good Good = refl
 
@@ -84,6 +87,7 @@ pub one_reason : (why : Trouble) (wanted : Wanted) (files : Option Files) (name 
 one_reason trouble.Unread wanted files name before now reason =
     (inl refl, reason, λ lacks. one_judged wanted files name Lacking (lacking_judged wanted files name lacks))
 one_reason trouble.TooLarge wanted files name before now reason = (reason.0, one_judged wanted files name TooLarge (reason.1))
+one_reason trouble.TooMany wanted files name before now reason = absurd reason
 one_reason (trouble.Refused why) wanted files name before now reason = (reason.0, one_judged wanted files name (Refused why) (reason.1))
 one_reason trouble.Memory wanted files name before now reason = reason
 

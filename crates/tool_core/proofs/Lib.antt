@@ -1,6 +1,5 @@
 pub mod Streams
 pub mod Surveying
-pub mod Numbers
 pub mod Pieces
 pub mod Paging
 pub mod EachName
@@ -9,3 +8,6 @@ pub mod Judging
 pub mod Reports
 pub mod Endings
 pub mod Packs
+pub mod Fronts
+pub mod Sounds
+pub mod OrderEndings

@@ -13,8 +13,9 @@ use Rattle.tool_core.specs.declared.trouble.Trouble.{Trouble}
 use Rattle.tool_core.specs.declared.trouble.Trouble.TheVariants as trouble
 use Rattle.tool_core.specs.declared.packing.Stop.{Stop}
 use Rattle.tool_core.specs.Refusals.{Wanted}
-use Rattle.tool_core.specs.Verdicts.{Verdict, Lacking, TooLarge, Refused, Good, verdict, verdict_on, next_verdict, AreJudged}
-use Rattle.tool_core.specs.Outcomes.{IsAmong, voice_of, packed}
+use Rattle.tool_core.specs.Verdicts.{Verdict, Lacking, TooLarge, TooMany, Refused, Good, verdict, verdict_on, next_verdict, AreJudged}
+use Rattle.tool_core.specs.Decisions.{IsAmong}
+use Rattle.tool_core.specs.Outcomes.{voice_of, packed}
 use Rattle.tool_core.proofs.Judging.{lacking_judged}
 use Rattle.tool_core.specs.Troubles.{IsJudged, HasReason, HasReasonAmong}
 
@@ -25,6 +26,7 @@ record AreGood (a b : Verdict) : Type 0 where
 both_good : (a b : Verdict) → next_verdict a b ≡ Good → AreGood a b
 both_good Lacking b e = absurd (cc)
 both_good TooLarge b e = absurd (cc)
+both_good TooMany b e = absurd (cc)
 both_good (Refused why) b e = absurd (cc)
 both_good Good b e = record { first = refl; second = e }
 
@@ -89,6 +91,7 @@ stop_reason trouble.Unread wanted files names i before now below good reason =
     (among names i below, reason, λ lacks. stop_judged wanted files names i Lacking (λ later. refl) below good (lacking_judged wanted files (get_or names i []) lacks))
 stop_reason trouble.TooLarge wanted files names i before now below good reason =
     (reason.0, stop_judged wanted files names i TooLarge (λ later. refl) below good (reason.1))
+stop_reason trouble.TooMany wanted files names i before now below good reason = absurd reason
 stop_reason (trouble.Refused why) wanted files names i before now below good reason =
     (reason.0, stop_judged wanted files names i (Refused why) (λ later. refl) below good (reason.1))
 stop_reason trouble.Memory wanted files names i before now below good reason = reason

@@ -1,9 +1,11 @@
 -- The one file that is written.
-use Rattle.std.proofs.Common.{◌≡◌, inl, inr, ℕ, List, [], take, refl, ◌∙◌, ap}
+use Rattle.std.proofs.Common.{◌≡◌, inl, inr, ℕ, ◌+◌, List, [], ◌++◌, length, take, refl, sym, ◌∙◌, ap, append_assoc}
+use Rattle.std.proofs.Math.Seq.{take-append_seam, take-append-add}
+use Rattle.std.proofs.lemmas.List.{take-append-le}
 use Rattle.std.specs.Prelude.{Option, Some, None, option_map, is_some, IfSome, true, false}
 use Rattle.std.specs.FinMap.{get, insert}
 use Rattle.outside.specs.Files.{Files, created, appended, Lacks, AppendedSome}
-use Rattle.outside.proofs.Shelves.{get-insert_same, get-insert_other, appended_created, then_mapped, mapped_alike}
+use Rattle.outside.proofs.Shelves.{get-insert_same, get-insert_other, appended_created, appended_second, then_mapped, mapped_alike}
 use Rattle.tool_core.specs.Outcomes.{BeginsOut}
 
 -- the files with the bytes under the name
@@ -51,4 +53,30 @@ has_created None first out is lacks = rw is at lacks
 has_created (Some m) first out is lacks =
     let none : is_some (get (insert m out []) out) ≡ false = rw is at lacks in
     let some : is_some (get (insert m out []) out) ≡ true = ap is_some (get-insert_same m out []) in
+    cc
+
+-- ---- a file that is written piece by piece
+pub piece_written : (o before now : Option Files) (out front piece : List ℕ) → before ≡ option_map (with_out out front) o → now ≡ option_map (appended out piece) before
+    → now ≡ option_map (with_out out (front ++ piece)) o
+piece_written o before now out front piece was is =
+    is ∙ ap (option_map (appended out piece)) was ∙ then_mapped (with_out out front) (appended out piece) o
+    ∙ mapped_alike _ _ (λ m. appended_second m out front piece) o
+
+pub begun_at_piece : (o before now : Option Files) (out front piece more whole : List ℕ) → before ≡ option_map (with_out out front) o → whole ≡ (front ++ piece) ++ more
+    → AppendedSome out piece before now → IfSome o (λ m. BeginsOut m now out whole)
+begun_at_piece o before now out front piece more whole was is (inl same) =
+    front_begun o now out whole (length front)
+    (same ∙ was ∙ ap (λ (l : List ℕ). option_map (with_out out l) o)
+    (sym (ap (take (length front)) (is ∙ append_assoc front piece more) ∙ take-append_seam front (piece ++ more))))
+begun_at_piece o before now out front piece more whole was is (inr (count, fits, part)) =
+    front_begun o now out whole (length front + count)
+    (piece_written o before now out front (take count piece) was part ∙ ap (λ (l : List ℕ). option_map (with_out out l) o)
+    (sym (ap (take (length front + count)) (is ∙ append_assoc front piece more) ∙ take-append-add front (piece ++ more) count
+    ∙ ap (λ (l : List ℕ). front ++ l) (take-append-le count piece more fits))))
+
+pub has_written : (o now : Option Files) (out text : List ℕ) → now ≡ option_map (with_out out text) o → Lacks now out → ⊥
+has_written None now out text is lacks = rw is at lacks
+has_written (Some m) now out text is lacks =
+    let none : is_some (get (insert m out text) out) ≡ false = rw is at lacks in
+    let some : is_some (get (insert m out text) out) ≡ true = ap is_some (get-insert_same m out text) in
     cc

@@ -2,9 +2,11 @@ pub mod Exclusives
 pub mod Passes
 pub mod Refusals
 pub mod Surveys
-pub mod Number
 pub mod Words
 pub mod Verdicts
+pub mod Orders
+pub mod Comparisons
+pub mod Decisions
 pub mod Lines
 pub mod Outcomes
 pub mod Pages

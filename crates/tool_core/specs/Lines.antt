@@ -6,7 +6,9 @@ use Rattle.sysex_frame.specs.Frame.{Content, VoiceDump, CartridgeDump, ParamChan
 use Rattle.sysex_frame.specs.declared.frame.FrameFault.{FrameFault}
 use Rattle.sysex_frame.specs.declared.frame.FrameFault.TheVariants.{NotFramed, NotYamaha, DataByte, Short, UnknownSubstatus, UnknownFormat, CountBytes, Length, Checksum, ParamValue}
 use Rattle.tool_core.specs.declared.refusal.Refusal.{Refusal}
-use Rattle.tool_core.specs.declared.refusal.Refusal.TheVariants.{TooLong, Fault, Cut, NoVoice, NoCartridge}
+use Rattle.take_files.specs.declared.read.OrderKind.{OrderKind}
+use Rattle.take_files.specs.declared.read.OrderKind.TheVariants.{Line, Block, Script, Sequence, Many}
+use Rattle.tool_core.specs.declared.refusal.Refusal.TheVariants.{TooLong, Fault, Cut, NoVoice, NoCartridge, Order}
 use Rattle.tool_core.specs.Exclusives.{Exclusive, exclusives, exclusives_before}
 use Rattle.tool_core.specs.Refusals.{clamped_voice, message_content}
 
@@ -22,11 +24,29 @@ cannot_write name = codes "cannot write " ++ name ++ 10 ∷ []
 unfoldable pub limit_file : List ℕ
 limit_file = codes "limit file" ++ 10 ∷ []
 
+unfoldable pub limit_commands : List ℕ
+limit_commands = codes "limit commands" ++ 10 ∷ []
+
 unfoldable pub out_of_memory : List ℕ
 out_of_memory = codes "out of memory" ++ 10 ∷ []
 
 unfoldable pub ok_line : List ℕ
 ok_line = codes "ok" ++ 10 ∷ []
+
+unfoldable pub same_line : List ℕ
+same_line = codes "same" ++ 10 ∷ []
+
+-- the first place at which two files differ
+unfoldable pub differs_line : ℕ → List ℕ
+differs_line place = codes "differs at " ++ (decimal place ++ 10 ∷ [])
+
+-- what is wrong with a line of an order
+unfoldable pub kind_text : OrderKind → List ℕ
+kind_text Line = codes "line"
+kind_text Block = codes "block"
+kind_text Script = codes "script"
+kind_text Sequence = codes "sequence"
+kind_text Many = codes "many"
 
 -- the text of a fault
 unfoldable pub fault_text : FrameFault → List ℕ
@@ -48,6 +68,7 @@ refusal_line (Fault place fault) = codes "fault " ++ (decimal place ++ (32 ∷ (
 refusal_line Cut = codes "cut" ++ 10 ∷ []
 refusal_line NoVoice = codes "no voice" ++ 10 ∷ []
 refusal_line NoCartridge = codes "no cartridge" ++ 10 ∷ []
+refusal_line (Order line kind) = codes "order line " ++ (decimal line ++ (codes ": " ++ (kind_text kind ++ 10 ∷ [])))
 
 -- a byte of a name; one that can't be printed is shown as a point
 abbrev pub shown : ℕ → ℕ

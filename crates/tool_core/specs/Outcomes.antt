@@ -1,5 +1,5 @@
 -- What a command leaves, by its status.
-use Rattle.std.specs.Prelude.{◌≡◌, ◌≢◌, ◌⊎◌, ℕ, ◌-◌, ◌≤◌, List, [], ◌∷◌, ◌++◌, length, take, map, replicate, Option, Some, IfSome, option_map, unwrap_or}
+use Rattle.std.specs.Prelude.{◌≡◌, ◌≢◌, ◌⊎◌, ℕ, ◌-◌, ◌≤◌, List, [], ◌∷◌, ◌++◌, length, take, map, replicate, Option, Some, None, IfSome, option_map, unwrap_or}
 use Rattle.std.specs.FinMap.{get, insert}
 use Rattle.outside.specs.Files.{Files, Lacks, content, file_of, said, SaidSome}
 use Rattle.outside.specs.Faults.{Rose}
@@ -7,10 +7,14 @@ use Rattle.voice_record.specs.Voice.{opening_voice}
 use Rattle.cartridge.specs.Cartridge.{voice_at, IsMessageOf}
 use Rattle.sysex_frame.specs.Frame.{IsFrame, VoiceDump}
 use Rattle.tool_core.specs.declared.refusal.Refusal.{Refusal}
-use Rattle.tool_core.specs.Refusals.{Wanted, AllMessages, OneVoice, OneCartridge, voice_in, cartridge_in}
-use Rattle.tool_core.specs.Verdicts.{Lacking, TooLarge, Refused, Good, AreJudged}
-use Rattle.tool_core.specs.Words.{Asked, Check, Names, Pick, Pack}
-use Rattle.tool_core.specs.Lines.{cannot_read, cannot_write, limit_file, out_of_memory, ok_line, refusal_line, check_report, list_report}
+use Rattle.take_files.specs.Files.{wav}
+use Rattle.take_files.specs.Orders.{IsOrder, OrderData}
+use Rattle.tool_core.specs.Refusals.{voice_in, cartridge_in}
+use Rattle.tool_core.specs.Verdicts.{Lacking, TooLarge, TooMany, Refused, Good}
+use Rattle.tool_core.specs.Comparisons.{DiffersAt}
+use Rattle.tool_core.specs.Words.{Asked, Check, Names, Pick, Pack, Replay, Verify}
+use Rattle.tool_core.specs.Decisions.{IsAmong, Decides, IsDecided, read_by}
+use Rattle.tool_core.specs.Lines.{cannot_read, cannot_write, limit_file, limit_commands, out_of_memory, ok_line, same_line, differs_line, refusal_line, check_report, list_report}
 
 -- what a shelf and an output show at a moment
 pub record Moment : Type 0 where
@@ -34,24 +38,6 @@ Says line before now faults_before faults_now =
 abbrev pub Tells : List ℕ → Moment → Moment → Type 0
 Tells line before now = Says line before.written now.written before.faults now.faults
 
--- the name is one of these
-abbrev pub IsAmong : List ℕ → List (List ℕ) → Type 0
-IsAmong name [] = ⊥
-IsAmong name (one ∷ others) = (name ≡ one) ⊎ IsAmong name others
-
--- the names that a command reads, and what it wants of these files
-abbrev pub read_by : Asked → List (List ℕ)
-read_by (Check file) = file ∷ []
-read_by (Names file) = file ∷ []
-read_by (Pick file slot out) = file ∷ []
-read_by (Pack out files) = files
-
-abbrev pub wanted_by : Asked → Wanted
-wanted_by (Check file) = AllMessages
-wanted_by (Names file) = OneCartridge
-wanted_by (Pick file slot out) = OneCartridge
-wanted_by (Pack out files) = OneVoice
-
 -- the first cartridge of a file
 abbrev pub cartridge_of : Files → List ℕ → List (List ℕ)
 cartridge_of files name = unwrap_or (cartridge_in (content files name)) []
@@ -68,14 +54,38 @@ voice_of files name = unwrap_or (voice_in (content files name)) []
 abbrev pub packed : Files → List (List ℕ) → List (List ℕ)
 packed files names = map (voice_of files) names ++ replicate (32 - length names) opening_voice
 
--- what is printed
+-- of a sound file that is compared: it is the sound of the order
+abbrev pub IsSame : Asked → Files → Type 0
+IsSame (Check file) files = Unit {0}
+IsSame (Names file) files = Unit {0}
+IsSame (Pick file slot out) files = Unit {0}
+IsSame (Pack out names) files = Unit {0}
+IsSame (Replay order out) files = Unit {0}
+IsSame (Verify order sound) files = (o : OrderData) × IsOrder (content files order) o × (content files sound ≡ wav o.journal o.blocks)
+
+-- it differs from the sound of the order, at this place first
+abbrev pub IsOther : Asked → Files → ℕ → Type 0
+IsOther (Check file) files place = ⊥
+IsOther (Names file) files place = ⊥
+IsOther (Pick file slot out) files place = ⊥
+IsOther (Pack out names) files place = ⊥
+IsOther (Replay order out) files place = ⊥
+IsOther (Verify order sound) files place = (o : OrderData) × IsOrder (content files order) o × DiffersAt (content files sound) (wav o.journal o.blocks) place
+
+-- what is printed with status 0
 abbrev pub report : Asked → Files → List ℕ
 report (Check file) files = check_report (content files file)
 report (Names file) files = list_report (cartridge_of files file)
 report (Pick file slot out) files = ok_line
 report (Pack out files) told = ok_line
+report (Replay order out) files = ok_line
+report (Verify order sound) files = same_line
 
--- the files with OUT whole, its bytes a message with the device number 0
+-- what is printed: that, or where the sound file differs
+abbrev pub IsReport : Asked → Files → List ℕ → Type 0
+IsReport asked files text = (IsSame asked files × (text ≡ report asked files)) ⊎ ((place : ℕ) × IsOther asked files place × (text ≡ differs_line place))
+
+-- the files with OUT whole, its bytes a message with the device number 0, or the sound of the order
 abbrev pub AreWritten : Asked → Files → Option Files → Type 0
 AreWritten (Check file) files now = now ≡ Some files
 AreWritten (Names file) files now = now ≡ Some files
@@ -83,6 +93,9 @@ AreWritten (Pick file slot out) files now =
     (text : List ℕ) × IsFrame text (VoiceDump 0 (picked files file slot)) × (now ≡ Some (insert files out text))
 AreWritten (Pack out names) files now =
     (text : List ℕ) × IsMessageOf (packed files names) 0 text × (now ≡ Some (insert files out text))
+AreWritten (Replay order out) files now =
+    (o : OrderData) × IsOrder (content files order) o × (now ≡ Some (insert files out (wav o.journal o.blocks)))
+AreWritten (Verify order sound) files now = now ≡ Some files
 
 -- a file is as before, or the front of its whole bytes
 abbrev pub IsBegun : Option (List ℕ) → Option (List ℕ) → List ℕ → Type 0
@@ -101,16 +114,23 @@ AreBegun (Pick file slot out) files now =
     (text : List ℕ) × IsFrame text (VoiceDump 0 (picked files file slot)) × BeginsOut files now out text
 AreBegun (Pack out names) files now =
     (text : List ℕ) × IsMessageOf (packed files names) 0 text × BeginsOut files now out text
+AreBegun (Replay order out) files now =
+    (o : OrderData) × IsOrder (content files order) o × BeginsOut files now out (wav o.journal o.blocks)
+AreBegun (Verify order sound) files now = ⊥
 
 abbrev pub TellsOfWrite : Asked → Moment → Moment → Type 0
 TellsOfWrite (Check file) before now = ⊥
 TellsOfWrite (Names file) before now = ⊥
 TellsOfWrite (Pick file slot out) before now = Tells (cannot_write out) before now
 TellsOfWrite (Pack out names) before now = Tells (cannot_write out) before now
+TellsOfWrite (Replay order out) before now = Tells (cannot_write out) before now
+TellsOfWrite (Verify order sound) before now = ⊥
 
--- 0: every file that was read is good, OUT is whole, all other files are as before, and the report was added
+-- 0: every file that was read is good, a sound file that was compared is the sound of its order, OUT is whole, all other files are as
+-- before, and the report was added
 pub record IsDone (asked : Asked) (before now : Moment) : Type 0 where
-  pub good : AreJudged (wanted_by asked) before.files (read_by asked) Good
+  pub good : IsDecided asked before.files Good
+  pub same : IfSome before.files (λ files. IsSame asked files)
   pub files : IfSome before.files (λ files. AreWritten asked files now.files)
   pub report : IfSome before.files (λ files. now.written ≡ option_map (said (report asked files)) before.written)
 
@@ -119,7 +139,7 @@ pub record IsUnread (asked : Asked) (before now : Moment) : Type 0 where
   pub name : List ℕ
   pub named : IsAmong name (read_by asked)
   pub cause : Rose before.reading now.reading ⊎ Lacks before.files name
-  pub first : Lacks before.files name → AreJudged (wanted_by asked) before.files (read_by asked) Lacking
+  pub first : Lacks before.files name → IsDecided asked before.files Lacking
   pub files : now.files ≡ before.files
   pub line : Tells (cannot_read name) before now
 
@@ -133,26 +153,43 @@ pub record FailsReport (asked : Asked) (before now : Moment) : Type 0 where
   pub cause : Rose before.faults now.faults
   pub writing : now.writing ≡ before.writing
   pub files : IfSome before.files (λ files. AreWritten asked files now.files)
-  pub front : IfSome before.files (λ files. (now.written ≡ before.written) ⊎ SaidSome (report asked files) before.written now.written)
+  pub front : IfSome before.files (λ files. (text : List ℕ) × IsReport asked files text
+      × ((now.written ≡ before.written) ⊎ SaidSome text before.written now.written))
 
 -- 3: no read failed, every file that was read is good, and a write failed
 pub record IsUnwritten (asked : Asked) (before now : Moment) : Type 0 where
-  pub good : AreJudged (wanted_by asked) before.files (read_by asked) Good
+  pub good : IsDecided asked before.files Good
   pub reading : now.reading ≡ before.reading
   pub failed : FailsOut asked before now ⊎ FailsReport asked before now
 
 -- 4: the first file that isn't good is refused
 pub record IsRefused (asked : Asked) (before now : Moment) : Type 0 where
   pub why : Refusal
-  pub refused : AreJudged (wanted_by asked) before.files (read_by asked) (Refused why)
+  pub refused : IsDecided asked before.files (Refused why)
   pub files : now.files ≡ before.files
   pub line : Tells (refusal_line why) before now
 
--- 6: the first file that isn't good has too many bytes
+-- 6: the first file that isn't good has too many bytes, or too many entries
 pub record IsPastLimit (asked : Asked) (before now : Moment) : Type 0 where
-  pub large : AreJudged (wanted_by asked) before.files (read_by asked) TooLarge
+  pub limit : (IsDecided asked before.files TooLarge × Tells limit_file before now) ⊎ (IsDecided asked before.files TooMany × Tells limit_commands before now)
   pub files : now.files ≡ before.files
-  pub line : Tells limit_file before now
+
+abbrev pub IsVerify : Asked → Type 0
+IsVerify (Check file) = ⊥
+IsVerify (Names file) = ⊥
+IsVerify (Pick file slot out) = ⊥
+IsVerify (Pack out names) = ⊥
+IsVerify (Replay order out) = ⊥
+IsVerify (Verify order sound) = Unit {0}
+
+-- 7: both files are good, the sound file differs from the sound of the order, and the report was added
+pub record IsDifferent (asked : Asked) (before now : Moment) : Type 0 where
+  pub verify : IsVerify asked
+  pub good : IsDecided asked before.files Good
+  pub place : ℕ
+  pub differs : IfSome before.files (λ files. IsOther asked files place)
+  pub files : now.files ≡ before.files
+  pub report : now.written ≡ option_map (said (differs_line place)) before.written
 
 -- 8: memory was wanting
 pub record IsOutOfMemory (asked : Asked) (before now : Moment) : Type 0 where
@@ -163,19 +200,37 @@ pub record IsOutOfMemory (asked : Asked) (before now : Moment) : Type 0 where
 abbrev pub Ends : Asked → ℕ → Moment → Moment → Type 0
 Ends asked status before now =
     ((status ≡ 0) × IsDone asked before now) ⊎ (((status ≡ 2) × IsUnread asked before now) ⊎ (((status ≡ 3) × IsUnwritten asked before now)
-    ⊎ (((status ≡ 4) × IsRefused asked before now) ⊎ (((status ≡ 6) × IsPastLimit asked before now) ⊎ ((status ≡ 8) × IsOutOfMemory asked before now)))))
+    ⊎ (((status ≡ 4) × IsRefused asked before now) ⊎ (((status ≡ 6) × IsPastLimit asked before now) ⊎ (((status ≡ 7) × IsDifferent asked before now)
+    ⊎ ((status ≡ 8) × IsOutOfMemory asked before now))))))
+
+-- the statuses with which a command is done, or finds no memory
+abbrev pub done_by : Asked → List ℕ
+done_by (Check file) = 0 ∷ 8 ∷ []
+done_by (Names file) = 0 ∷ 8 ∷ []
+done_by (Pick file slot out) = 0 ∷ 8 ∷ []
+done_by (Pack out names) = 0 ∷ 8 ∷ []
+done_by (Replay order out) = 0 ∷ 8 ∷ []
+done_by (Verify order sound) = 0 ∷ 7 ∷ 8 ∷ []
 
 -- where every name is there, every file is good and no count of faults rises
 abbrev pub OnSuccess : Asked → Moment → Moment → Type 0 → Type 0
 OnSuccess asked before now P =
-    IfSome before.files (λ files. AreJudged (wanted_by asked) (Some files) (read_by asked) Good
+    IfSome before.files (λ files. Decides asked files Good
     → ¬ (Rose before.reading now.reading) → ¬ (Rose before.writing now.writing) → ¬ (Rose before.faults now.faults) → P)
 
--- a text was put, or the output failed and its front was
-abbrev pub Reports : List ℕ → ℕ → Option (List ℕ) → Option (List ℕ) → ℕ → ℕ → Type 0
-Reports text status before now faults_before faults_now =
-    ((status ≡ 0) × (now ≡ option_map (said text) before))
+-- a text was put, with this status, or the output failed and its front was
+abbrev pub Answers : ℕ → List ℕ → ℕ → Option (List ℕ) → Option (List ℕ) → ℕ → ℕ → Type 0
+Answers good text status before now faults_before faults_now =
+    ((status ≡ good) × (now ≡ option_map (said text) before))
     ⊎ ((status ≡ 3) × Rose faults_before faults_now × ((now ≡ before) ⊎ SaidSome text before now))
+
+abbrev pub Reports : List ℕ → ℕ → Option (List ℕ) → Option (List ℕ) → ℕ → ℕ → Type 0
+Reports text status before now faults_before faults_now = Answers 0 text status before now faults_before faults_now
+
+-- the report of a comparison
+abbrev pub Compares : Option ℕ → ℕ → Option (List ℕ) → Option (List ℕ) → ℕ → ℕ → Type 0
+Compares None status before now faults_before faults_now = Answers 0 same_line status before now faults_before faults_now
+Compares (Some place) status before now faults_before faults_now = Answers 7 (differs_line place) status before now faults_before faults_now
 
 -- a file could not be written
 pub record FailsFile (name text : List ℕ) (before now : Moment) : Type 0 where

@@ -6,22 +6,25 @@ use Rattle.outside.specs.Faults.{Rose}
 use Rattle.tool_core.specs.declared.trouble.Trouble.{Trouble}
 use Rattle.tool_core.specs.declared.trouble.Trouble.TheVariants as trouble
 use Rattle.tool_core.specs.Refusals.{Wanted, refusal}
-use Rattle.tool_core.specs.Verdicts.{Verdict, Lacking, TooLarge, Refused, verdict_on, AreJudged, file_limit}
-use Rattle.tool_core.specs.Lines.{cannot_read, limit_file, out_of_memory, refusal_line}
-use Rattle.tool_core.specs.Outcomes.{IsAmong}
+use Rattle.tool_core.specs.Words.{Asked}
+use Rattle.tool_core.specs.Verdicts.{Verdict, Lacking, TooLarge, TooMany, Refused, verdict_on, AreJudged}
+use Rattle.tool_core.specs.Decisions.{IsDecided, IsAmong, read_by}
+use Rattle.tool_core.specs.Lines.{cannot_read, limit_file, limit_commands, out_of_memory, refusal_line}
 
--- why a file was not read, with the count of reading faults before and after
-abbrev pub IsReadTrouble : Trouble → Option Files → List ℕ → ℕ → ℕ → Type 0
-IsReadTrouble trouble.Unread files name before now = Rose before now ⊎ Lacks files name
-IsReadTrouble trouble.TooLarge files name before now =
-    (now ≡ before) × IfSome files (λ told. IsSomeAnd (get told name) (λ file. file_limit < length file))
-IsReadTrouble (trouble.Refused why) files name before now = ⊥
-IsReadTrouble trouble.Memory files name before now = now ≡ before
+-- why a file of at most so many bytes was not read, with the count of reading faults before and after
+abbrev pub IsReadTrouble : Trouble → ℕ → Option Files → List ℕ → ℕ → ℕ → Type 0
+IsReadTrouble trouble.Unread limit files name before now = Rose before now ⊎ Lacks files name
+IsReadTrouble trouble.TooLarge limit files name before now =
+    (now ≡ before) × IfSome files (λ told. IsSomeAnd (get told name) (λ file. limit < length file))
+IsReadTrouble trouble.TooMany limit files name before now = ⊥
+IsReadTrouble (trouble.Refused why) limit files name before now = ⊥
+IsReadTrouble trouble.Memory limit files name before now = now ≡ before
 
 -- why the bytes of a file don't serve
 abbrev pub IsContentTrouble : Trouble → Wanted → List ℕ → Type 0
 IsContentTrouble trouble.Unread wanted file = ⊥
 IsContentTrouble trouble.TooLarge wanted file = ⊥
+IsContentTrouble trouble.TooMany wanted file = ⊥
 IsContentTrouble (trouble.Refused why) wanted file = refusal wanted file ≡ Some why
 IsContentTrouble trouble.Memory wanted file = Unit {0}
 
@@ -33,6 +36,7 @@ IsJudged wanted files name it = IfSome files (λ told. verdict_on wanted (get to
 abbrev pub HasReason : Trouble → Wanted → Option Files → List ℕ → ℕ → ℕ → Type 0
 HasReason trouble.Unread wanted files name before now = Rose before now ⊎ Lacks files name
 HasReason trouble.TooLarge wanted files name before now = (now ≡ before) × IsJudged wanted files name TooLarge
+HasReason trouble.TooMany wanted files name before now = ⊥
 HasReason (trouble.Refused why) wanted files name before now = (now ≡ before) × IsJudged wanted files name (Refused why)
 HasReason trouble.Memory wanted files name before now = now ≡ before
 
@@ -41,17 +45,29 @@ abbrev pub HasReasonAmong : Trouble → Wanted → Option Files → List (List �
 HasReasonAmong trouble.Unread wanted files names name before now =
     IsAmong name names × (Rose before now ⊎ Lacks files name) × (Lacks files name → AreJudged wanted files names Lacking)
 HasReasonAmong trouble.TooLarge wanted files names name before now = (now ≡ before) × AreJudged wanted files names TooLarge
+HasReasonAmong trouble.TooMany wanted files names name before now = ⊥
 HasReasonAmong (trouble.Refused why) wanted files names name before now = (now ≡ before) × AreJudged wanted files names (Refused why)
 HasReasonAmong trouble.Memory wanted files names name before now = now ≡ before
+
+-- why a command refuses, where the last file that was read is this
+abbrev pub Stops : Trouble → Asked → Option Files → List ℕ → ℕ → ℕ → Type 0
+Stops trouble.Unread asked files name before now =
+    IsAmong name (read_by asked) × (Rose before now ⊎ Lacks files name) × (Lacks files name → IsDecided asked files Lacking)
+Stops trouble.TooLarge asked files name before now = (now ≡ before) × IsDecided asked files TooLarge
+Stops trouble.TooMany asked files name before now = (now ≡ before) × IsDecided asked files TooMany
+Stops (trouble.Refused why) asked files name before now = (now ≡ before) × IsDecided asked files (Refused why)
+Stops trouble.Memory asked files name before now = now ≡ before
 
 abbrev pub status_of : Trouble → ℕ
 status_of trouble.Unread = 2
 status_of trouble.TooLarge = 6
+status_of trouble.TooMany = 6
 status_of (trouble.Refused why) = 4
 status_of trouble.Memory = 8
 
 abbrev pub line_of : Trouble → List ℕ → List ℕ
 line_of trouble.Unread name = cannot_read name
 line_of trouble.TooLarge name = limit_file
+line_of trouble.TooMany name = limit_commands
 line_of (trouble.Refused why) name = refusal_line why
 line_of trouble.Memory name = out_of_memory

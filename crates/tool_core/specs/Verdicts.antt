@@ -5,10 +5,11 @@ use Rattle.outside.specs.Files.{Files}
 use Rattle.tool_core.specs.declared.refusal.Refusal.{Refusal}
 use Rattle.tool_core.specs.Refusals.{Wanted, refusal}
 
--- there is no such file; it has too many bytes; it is refused; or it is good
+-- there is no such file; it has too many bytes, or too many entries; it is refused; or it is good
 pub data Verdict : Type 0 where
   Lacking : Verdict
   TooLarge : Verdict
+  TooMany : Verdict
   Refused : Refusal → Verdict
   Good : Verdict
 
@@ -28,6 +29,7 @@ verdict_on wanted (Some file) = if nat_lt file_limit (length file) then TooLarge
 abbrev pub next_verdict : Verdict → Verdict → Verdict
 next_verdict Lacking later = Lacking
 next_verdict TooLarge later = TooLarge
+next_verdict TooMany later = TooMany
 next_verdict (Refused why) later = Refused why
 next_verdict Good later = later
 

@@ -3,14 +3,16 @@ use Rattle.std.specs.Prelude.{ℕ, ◌<◌, ◌≤◌, List, [], ◌∷◌, map,
 use Rattle.std.specs.List.{list_all}
 use Rattle.tool_core.specs.declared.words.Request.{Request}
 use Rattle.tool_core.specs.declared.words.Request.TheVariants as request
-use Rattle.tool_core.specs.Number.{number}
+use Rattle.plain_text.specs.Number.{number}
 
--- what is asked for: `check FILE`, `list FILE`, `pick FILE SLOT OUT` or `pack OUT FILE...`
+-- what is asked for: `check FILE`, `list FILE`, `pick FILE SLOT OUT`, `pack OUT FILE...`, `replay ORDER OUT` or `verify ORDER WAV`
 pub data Asked : Type 0 where
   Check : List ℕ → Asked
   Names : List ℕ → Asked
   Pick : List ℕ → ℕ → List ℕ → Asked
   Pack : List ℕ → List (List ℕ) → Asked
+  Replay : List ℕ → List ℕ → Asked
+  Verify : List ℕ → List ℕ → Asked
 
 -- the same of a value of the program
 abbrev pub asked : Request → Asked
@@ -18,6 +20,8 @@ asked (request.Check file) = Check file.now
 asked (request.Names file) = Names file.now
 asked (request.Pick file slot out) = Pick file.now slot out.now
 asked (request.Pack out files) = Pack out.now (map string_bytes files.now)
+asked (request.Replay order out) = Replay order.now out.now
+asked (request.Verify order sound) = Verify order.now sound.now
 
 -- the commands
 unfoldable pub is_check : List ℕ → Bool
@@ -31,6 +35,12 @@ is_pick word = bytes_eq word (codes "pick")
 
 unfoldable pub is_pack : List ℕ → Bool
 is_pack word = bytes_eq word (codes "pack")
+
+unfoldable pub is_replay : List ℕ → Bool
+is_replay word = bytes_eq word (codes "replay")
+
+unfoldable pub is_verify : List ℕ → Bool
+is_verify word = bytes_eq word (codes "verify")
 
 -- no name is empty
 abbrev pub is_name : List ℕ → Bool
@@ -64,12 +74,28 @@ pack_of_words [] = None
 pack_of_words (out ∷ files) =
     if is_name out && (nat_lt 0 (length files) && (nat_le (length files) 32 && are_read out files)) then Some (Pack out files) else None
 
+-- ORDER OUT
+abbrev pub replay_of_words : List (List ℕ) → Option Asked
+replay_of_words (order ∷ out ∷ []) = if is_name out && is_read out order then Some (Replay order out) else None
+replay_of_words words = None
+
+-- ORDER WAV; the two may be one file
+abbrev pub verify_of_words : List (List ℕ) → Option Asked
+verify_of_words (order ∷ sound ∷ []) = if is_name order && is_name sound then Some (Verify order sound) else None
+verify_of_words words = None
+
+-- a command that reads an order, and its words
+abbrev pub asked_of_order : List ℕ → List (List ℕ) → Option Asked
+asked_of_order command words =
+    if is_replay command then replay_of_words words else (if is_verify command then verify_of_words words else None)
+
 -- a command and its words
 abbrev pub asked_of : List ℕ → List (List ℕ) → Option Asked
 asked_of command words =
     if is_check command then option_map (λ file. Check file) (file_of_words words)
     else (if is_list command then option_map (λ file. Names file) (file_of_words words)
-    else (if is_pick command then pick_of_words words else (if is_pack command then pack_of_words words else None)))
+    else (if is_pick command then pick_of_words words
+    else (if is_pack command then pack_of_words words else asked_of_order command words)))
 
 abbrev pub asked_by : List (List ℕ) → Option Asked
 asked_by [] = None
@@ -81,3 +107,5 @@ IsInRange (request.Check file) = Unit {0}
 IsInRange (request.Names file) = Unit {0}
 IsInRange (request.Pick file slot out) = slot ≤ 31
 IsInRange (request.Pack out files) = (0 < length files.now) × (length files.now ≤ 32)
+IsInRange (request.Replay order out) = Unit {0}
+IsInRange (request.Verify order sound) = Unit {0}

@@ -9,7 +9,9 @@ use crate::listing::list_page;
 use crate::packing::{name_at, read_pack};
 use crate::printing::put_check;
 use crate::reading::{read_cartridge, read_messages};
-use crate::saying::{say_cannot_read, say_limit_file, say_out_of_memory, say_refusal};
+use crate::saying::{
+    say_cannot_read, say_limit_commands, say_limit_file, say_out_of_memory, say_refusal,
+};
 use crate::trouble::Trouble;
 use crate::writing::{finish, put_report};
 use outside::{Out, Shelf};
@@ -17,7 +19,7 @@ use std::alloc::Global;
 use sysex_frame::write_voice;
 
 /// Puts the line of a refusal, and answers its status.
-fn refuse<O: Out>(out: &mut O, name: &str, why: Trouble) -> u8
+pub fn refuse<O: Out>(out: &mut O, name: &str, why: Trouble) -> u8
     ensures status { result ≡ status_of why }
     ensures line { Says (line_of why name.now) (O.written out.old) (O.written out.new) (O.faults out.old) (O.faults out.new) }
 {
@@ -28,6 +30,10 @@ fn refuse<O: Out>(out: &mut O, name: &str, why: Trouble) -> u8
         }
         Trouble::TooLarge => {
             say_limit_file(out);
+            6
+        }
+        Trouble::TooMany => {
+            say_limit_commands(out);
             6
         }
         Trouble::Refused(why) => {

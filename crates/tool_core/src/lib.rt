@@ -1,22 +1,27 @@
-//! What the program `tool` does: it looks at files of MIDI bytes with DX7 voices, and writes such files.
+//! What the program `tool` does: it looks at files of MIDI bytes with DX7 voices, and writes such files; it plays the order of a run
+//! again, and compares a sound file with an order.
 #![tactic(auto)]
 
 mod commands;
+mod comparing;
 mod ending;
 mod line;
 mod listing;
 mod looking;
+mod order;
 mod packing;
 mod page;
 mod pass;
 mod printing;
 mod reading;
 mod refusal;
+mod replaying;
 mod saying;
 mod surely;
 mod survey;
 mod top;
 mod trouble;
+mod verifying;
 mod words;
 mod writing;
 

@@ -9,6 +9,7 @@ use crate::refusal::Refusal;
 use arrayvec::ArrayVec;
 use itoa::Buffer;
 use sysex_frame::FrameFault;
+use take_files::OrderKind;
 use voice_record::Voice;
 
 /// A line of text. The longest is that of a fault.
@@ -113,7 +114,46 @@ pub fn refusal_line(why: Refusal) -> Line
         Refusal::Cut => line_of(b"cut\n"),
         Refusal::NoVoice => line_of(b"no voice\n"),
         Refusal::NoCartridge => line_of(b"no cartridge\n"),
+        Refusal::Order { line, kind } => order_line(line, kind),
     }
+}
+
+#[tactic(auto, unfolding(crate::specs::Lines::refusal_line))]
+fn order_line(number: u32, kind: OrderKind) -> Line
+    ensures { result.items ≡ lines.refusal_line (Refusal.Order number kind) }
+{
+    let mut line = Line::new();
+    push_one(&mut line, b"order line ", number);
+    push_text(&mut line, b": ");
+    push_kind(&mut line, kind);
+    push_text(&mut line, b"\n");
+    line
+}
+
+#[tactic(auto, unfolding(crate::specs::Lines::kind_text))]
+fn push_kind(line: &mut Line, kind: OrderKind)
+    requires { length line.old.items ≤ 40 }
+    ensures text { line.new.items ≡ line.old.items ++ lines.kind_text kind }
+    ensures room { length line.new.items ≤ length line.old.items + 10 }
+{
+    match kind {
+        OrderKind::Line => push_text(line, b"line"),
+        OrderKind::Block => push_text(line, b"block"),
+        OrderKind::Script => push_text(line, b"script"),
+        OrderKind::Sequence => push_text(line, b"sequence"),
+        OrderKind::Many => push_text(line, b"many"),
+    }
+}
+
+/// The line that names the first place at which two files differ.
+#[tactic(auto, unfolding(crate::specs::Lines::differs_line))]
+pub fn differs_line(place: u32) -> Line
+    ensures { result.items ≡ lines.differs_line place }
+{
+    let mut line = Line::new();
+    push_one(&mut line, b"differs at ", place);
+    push_text(&mut line, b"\n");
+    line
 }
 
 #[tactic(auto, unfolding(crate::specs::Lines::refusal_line))]

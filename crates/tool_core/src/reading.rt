@@ -33,16 +33,21 @@ pub struct Checked {
     pub pass: Pass,
 }
 
-/// The bytes of a file.
-fn read_file<S: Shelf>(alloc: Global, shelf: &mut S, name: &str) -> Result<Vec<u8>, Trouble>
+/// The bytes of a file, `limit` at most.
+pub fn read_file<S: Shelf>(
+    alloc: Global,
+    shelf: &mut S,
+    name: &str,
+    limit: u64,
+) -> Result<Vec<u8>, Trouble>
     ensures found { IfOk result (λ file. IfSome (S.files shelf.old) (λ told. get told name.now ≡ Some file.items)) }
-    ensures within { IfOk result (λ file. length file.items ≤ 16777216) }
+    ensures within { IfOk result (λ file. length file.items ≤ limit) }
     ensures kept { OnOk result (S.reading shelf.new ≡ S.reading shelf.old) }
-    ensures refused { IfErr result (λ why. IsReadTrouble why (S.files shelf.old) name.now (S.reading shelf.old) (S.reading shelf.new)) }
+    ensures refused { IfErr result (λ why. IsReadTrouble why limit (S.files shelf.old) name.now (S.reading shelf.old) (S.reading shelf.new)) }
     ensures files { S.files shelf.new ≡ S.files shelf.old }
     ensures writing { S.writing shelf.new ≡ S.writing shelf.old }
 {
-    match read_all(alloc, shelf, name, FILE_LIMIT) {
+    match read_all(alloc, shelf, name, limit) {
         Ok(file) => Ok(file),
         Err(ReadFault::Failed) => Err(Trouble::Unread),
         Err(ReadFault::TooLong) => Err(Trouble::TooLarge),
@@ -115,7 +120,7 @@ pub fn read_messages<S: Shelf>(alloc: Global, shelf: &mut S, name: &str) -> Resu
     ensures files { S.files shelf.new ≡ S.files shelf.old }
     ensures writing { S.writing shelf.new ≡ S.writing shelf.old }
 {
-    match read_file(alloc, shelf, name) {
+    match read_file(alloc, shelf, name, FILE_LIMIT) {
         Ok(file) => check_file(alloc, file),
         Err(why) => Err(why),
     }
@@ -147,7 +152,7 @@ pub fn read_cartridge<S: Shelf>(
     ensures files { S.files shelf.new ≡ S.files shelf.old }
     ensures writing { S.writing shelf.new ≡ S.writing shelf.old }
 {
-    match read_file(alloc, shelf, name) {
+    match read_file(alloc, shelf, name, FILE_LIMIT) {
         Ok(file) => find_cartridge(alloc, file.as_slice()),
         Err(why) => Err(why),
     }
@@ -162,7 +167,7 @@ pub fn read_voice<S: Shelf>(alloc: Global, shelf: &mut S, name: &str) -> Result<
     ensures files { S.files shelf.new ≡ S.files shelf.old }
     ensures writing { S.writing shelf.new ≡ S.writing shelf.old }
 {
-    match read_file(alloc, shelf, name) {
+    match read_file(alloc, shelf, name, FILE_LIMIT) {
         Ok(file) => find_voice(alloc, file.as_slice()),
         Err(why) => Err(why),
     }

@@ -1,6 +1,7 @@
 //! Why a file is refused.
 
 use sysex_frame::FrameFault;
+use take_files::OrderKind;
 
 /// Why a file is refused. A place is that of the `F0` of a message, counted over all bytes from 0.
 #[derive(Clone, Copy, Debug, PartialEq, Eq)]
@@ -15,4 +16,6 @@ pub enum Refusal {
     NoVoice,
     /// It holds no cartridge.
     NoCartridge,
+    /// A line of an order, counted from 1, has this fault.
+    Order { line: u32, kind: OrderKind },
 }

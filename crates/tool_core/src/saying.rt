@@ -31,6 +31,13 @@ pub fn say_limit_file<O: Out>(out: &mut O)
     say(out, b"limit file\n");
 }
 
+#[tactic(auto, unfolding(crate::specs::Lines::limit_commands))]
+pub fn say_limit_commands<O: Out>(out: &mut O)
+    ensures { Says lines.limit_commands (O.written out.old) (O.written out.new) (O.faults out.old) (O.faults out.new) }
+{
+    say(out, b"limit commands\n");
+}
+
 #[tactic(auto, unfolding(crate::specs::Lines::out_of_memory))]
 pub fn say_out_of_memory<O: Out>(out: &mut O)
     ensures { Says lines.out_of_memory (O.written out.old) (O.written out.new) (O.faults out.old) (O.faults out.new) }

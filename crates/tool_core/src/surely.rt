@@ -15,7 +15,7 @@ pub fn tool_surely<O: Out>(
     shelf: &mut SureShelf,
     out: &mut O,
 ) -> u8
-    ensures status { IsOneOf result (0 ∷ 1 ∷ 2 ∷ 3 ∷ 4 ∷ 6 ∷ 8 ∷ []) }
+    ensures status { IsOneOf result (0 ∷ 1 ∷ 2 ∷ 3 ∷ 4 ∷ 6 ∷ 7 ∷ 8 ∷ []) }
     ensures words { result ≡ 1 ↔ asked_by (map string_bytes words.now) ≡ None }
     ensures usage { result ≡ 1 → Says usage (O.written out.old) (O.written out.new) (O.faults out.old) (O.faults out.new) }
     ensures read { result ≢ 2 }

@@ -208,3 +208,281 @@ fn failures_are_told(rt: HostRuntime) -> Result<(), Fail> {
     assert_eq!(rt; shelf.file("o"), Some(voice_message(3).as_slice()));
     Ok(())
 }
+
+/// An order of one note over 100 blocks.
+const NOTE: &[u8] =
+    b"order engine 1 blocks 100 scripts 1\n0 0 0 0 on 0 69 100\n50 50 0 1 off 0 69\n";
+
+/// The header of its sound and the samples 0, 8, 24, 47, 79, 118, 164, 217.
+const FRONT: &[u8] =
+    b"RIFF\x24\x32\0\0WAVEfmt \x10\0\0\0\x01\0\x01\0\x44\xAC\0\0\x88\x58\x01\0\x02\0\x10\0data\0\x32\0\0\0\0\x08\0\x18\0\x2F\0\x4F\0\x76\0\xA4\0\xD9\0";
+
+/// The bytes of the file to which an order is replayed, and none where it isn't.
+fn replayed(alloc: Global, order: &[u8]) -> Result<Vec<u8>, AllocError> {
+    let mut shelf = MemShelf::new(alloc, &[])?;
+    shelf.put_file(alloc, "f", order)?;
+    let mut out = MemOut::new(alloc, &[])?;
+    let words = words_of(alloc, &["replay", "f", "w"])?;
+    let status = tool_main(alloc, &words, &mut shelf, &mut out);
+    match shelf.file("w") {
+        Some(sound) if status == 0 => sound.to_vec(alloc),
+        _ => Ok(Vec::new(alloc)),
+    }
+}
+
+/// The status of a comparison of an order and a sound file.
+fn verified(alloc: Global, order: &[u8], sound: &[u8], out: &mut MemOut) -> Result<u8, AllocError> {
+    let mut shelf = MemShelf::new(alloc, &[])?;
+    shelf.put_file(alloc, "f", order)?;
+    shelf.put_file(alloc, "w", sound)?;
+    let words = words_of(alloc, &["verify", "f", "w"])?;
+    Ok(tool_main(alloc, &words, &mut shelf, out))
+}
+
+/// The bytes with one of them changed.
+fn changed(alloc: Global, bytes: &[u8], at: usize) -> Result<Vec<u8>, AllocError> {
+    let mut all = bytes.to_vec(alloc)?;
+    if let Some(byte) = all.get_mut(at) {
+        *byte ^= 1;
+    }
+    Ok(all)
+}
+
+#[test]
+fn an_order_is_replayed_and_verified(rt: HostRuntime) -> Result<(), Fail> {
+    let alloc = rt.alloc();
+    let sound = replayed(alloc, NOTE)?;
+    assert_eq!(rt; sound.len(), 12844);
+    assert!(rt; sound.as_slice().starts_with(FRONT));
+    let mut longer = sound.as_slice().to_vec(alloc)?;
+    longer.push(0)?;
+    let mut shorter = sound.as_slice().to_vec(alloc)?;
+    let _ = shorter.pop();
+    let size = changed(alloc, sound.as_slice(), 4)?;
+    let last = changed(alloc, sound.as_slice(), 12843)?;
+    let rows: [(&[u8], u8, &[u8]); 7] = [
+        (sound.as_slice(), 0, b"same\n"),
+        (last.as_slice(), 7, b"differs at 12843\n"),
+        (longer.as_slice(), 7, b"differs at 12844\n"),
+        (shorter.as_slice(), 7, b"differs at 12843\n"),
+        (size.as_slice(), 7, b"differs at 4\n"),
+        (b"", 7, b"differs at 0\n"),
+        (FRONT, 7, b"differs at 60\n"),
+    ];
+    for (file, status, printed) in rows {
+        let mut out = MemOut::new(alloc, &[])?;
+        assert_eq!(rt; verified(alloc, NOTE, file, &mut out)?, status);
+        assert_eq!(rt; out.bytes(), printed);
+    }
+    Ok(())
+}
+
+#[test]
+fn orders_are_judged(rt: HostRuntime) -> Result<(), Fail> {
+    let alloc = rt.alloc();
+    let usage = b"usage: tool COMMAND WORDS...\n";
+    let rows: [(&[&str], &[u8], u8, &[u8]); 14] = [
+        (&["replay", "f", "o"], NOTE, 0, b"ok\n"),
+        (&["verify", "f", "f"], NOTE, 7, b"differs at 0\n"),
+        (&["replay", "f", "o"], b"", 4, b"order line 1: line\n"),
+        (
+            &["replay", "f", "o"],
+            b"order engine 1 blocks 9 scripts 1\n0 0 0 0 on 0 69 0\n",
+            4,
+            b"order line 2: line\n",
+        ),
+        (
+            &["verify", "f", "g"],
+            b"order engine 1 blocks 9 scripts 1\n5 5 0 0 on 0 69 100\n4 4 0 1 off 0 69\n",
+            4,
+            b"order line 3: block\n",
+        ),
+        (
+            &["replay", "f", "o"],
+            b"order engine 1 blocks 9 scripts 1\n0 0 1 0 on 0 69 100\n",
+            4,
+            b"order line 2: script\n",
+        ),
+        (
+            &["replay", "f", "o"],
+            b"order engine 1 blocks 9 scripts 1\n0 0 0 1 on 0 69 100\n",
+            4,
+            b"order line 2: sequence\n",
+        ),
+        (&["replay", "g", "o"], NOTE, 2, b"cannot read g\n"),
+        (&["verify", "g", "f"], NOTE, 2, b"cannot read g\n"),
+        (&["verify", "f", "g"], NOTE, 2, b"cannot read g\n"),
+        (&["replay", "f", "f"], NOTE, 1, usage),
+        (&["replay", "f", ""], NOTE, 1, usage),
+        (&["verify", "f"], NOTE, 1, usage),
+        (&["gen", "1", "1", "1"], NOTE, 1, usage),
+    ];
+    for (words, file, status, printed) in rows {
+        let mut out = MemOut::new(alloc, &[])?;
+        assert_eq!(rt; status_on(alloc, words, file, &mut out)?, status);
+        assert_eq!(rt; out.bytes(), printed);
+    }
+    Ok(())
+}
+
+/// Adds the two lower-case digits of each byte.
+fn push_hex(text: &mut Vec<u8>, bytes: &[u8]) -> Result<(), AllocError> {
+    for byte in bytes {
+        text.push(hex_digit(*byte / 16))?;
+        text.push(hex_digit(*byte % 16))?;
+    }
+    Ok(())
+}
+
+fn hex_digit(value: u8) -> u8 {
+    if value < 10 {
+        b'0' + value
+    } else {
+        b'W'.saturating_add(value)
+    }
+}
+
+/// A voice whose second operator sounds through the first.
+fn other_voice() -> Voice {
+    let mut voice = Voice::init();
+    let _ = voice.set(100, 99);
+    voice
+}
+
+/// An order over two blocks: some entries, and then a line with bytes in hex and some entries behind it.
+fn order_with(
+    alloc: Global,
+    before: &[u8],
+    bytes: &[u8],
+    behind: &[u8],
+) -> Result<Vec<u8>, AllocError> {
+    let mut text = Vec::new(alloc);
+    text.extend_from_slice(b"order engine 1 blocks 2 scripts 1\n")?;
+    text.extend_from_slice(before)?;
+    push_hex(&mut text, bytes)?;
+    text.extend_from_slice(behind)?;
+    Ok(text)
+}
+
+#[test]
+fn a_program_takes_a_voice_of_the_cartridge(rt: HostRuntime) -> Result<(), Fail> {
+    let alloc = rt.alloc();
+    let voice = other_voice();
+    let mut cartridge = Cartridge::blank(alloc)?;
+    cartridge.store(1, &voice);
+    let program = order_with(
+        alloc,
+        b"0 0 0 0 cartridge ",
+        cartridge.payload(),
+        b"\n0 0 0 1 program 0 33\n0 0 0 2 on 0 69 100\n",
+    )?;
+    let taken = order_with(
+        alloc,
+        b"0 0 0 0 voice ",
+        &voice.bytes(),
+        b"\n0 0 0 1 on 0 69 100\n",
+    )?;
+    let other = order_with(
+        alloc,
+        b"0 0 0 0 cartridge ",
+        cartridge.payload(),
+        b"\n0 0 0 1 program 0 34\n0 0 0 2 on 0 69 100\n",
+    )?;
+    let sound = replayed(alloc, program.as_slice())?;
+    assert_eq!(rt; sound.len(), 300);
+    let mut out = MemOut::new(alloc, &[])?;
+    assert_eq!(rt;
+        verified(alloc, taken.as_slice(), sound.as_slice(), &mut out)?,
+        0
+    );
+    assert_eq!(rt;
+        verified(alloc, other.as_slice(), sound.as_slice(), &mut out)?,
+        7
+    );
+    assert!(rt; out.bytes().starts_with(b"same\ndiffers at "));
+    Ok(())
+}
+
+#[test]
+fn a_pedal_holds_a_note(rt: HostRuntime) -> Result<(), Fail> {
+    let alloc = rt.alloc();
+    let held = replayed(
+        alloc,
+        b"order engine 1 blocks 2 scripts 1\n0 0 0 0 control 0 64 127\n0 0 0 1 on 0 69 100\n1 0 0 2 off 0 69\n",
+    )?;
+    let released = replayed(
+        alloc,
+        b"order engine 1 blocks 2 scripts 1\n0 0 0 0 on 0 69 100\n1 0 0 1 off 0 69\n",
+    )?;
+    let place = held.iter().zip(released.iter()).position(|(a, b)| *a != *b);
+    assert_eq!(rt; (held.len(), released.len()), (300, 300));
+    assert!(rt; matches!(place, Some(at) if at >= 172));
+    Ok(())
+}
+
+#[test]
+fn every_command_is_replayed(rt: HostRuntime) -> Result<(), Fail> {
+    let alloc = rt.alloc();
+    let mut text = order_with(
+        alloc,
+        b"0 0 0 0 voice ",
+        &other_voice().bytes(),
+        b"\n0 0 0 1 param 135 6\n0 0 0 2 store 31\n0 0 0 3 cartridge ",
+    )?;
+    push_hex(&mut text, Cartridge::blank(alloc)?.payload())?;
+    text.extend_from_slice(
+        b"\n0 0 0 4 bend 0 9000\n0 0 0 5 control 0 1 20\n0 0 0 6 control 0 64 64\n0 0 0 7 on 0 60 90\n1 0 0 8 off 0 60\n1 1 0 9 control 0 64 0\n1 1 0 10 program 0 0\n1 1 0 11 on 0 64 1\n1 1 0 12 control 0 123 0\n",
+    )?;
+    let sound = replayed(alloc, text.as_slice())?;
+    assert_eq!(rt; sound.len(), 300);
+    let other = changed(alloc, sound.as_slice(), 200)?;
+    let mut out = MemOut::new(alloc, &[])?;
+    assert_eq!(rt;
+        verified(alloc, text.as_slice(), sound.as_slice(), &mut out)?,
+        0
+    );
+    assert_eq!(rt;
+        verified(alloc, text.as_slice(), other.as_slice(), &mut out)?,
+        7
+    );
+    assert_eq!(rt; out.bytes(), b"same\ndiffers at 200\n".as_slice());
+    Ok(())
+}
+
+#[test]
+fn failures_of_replay_and_verify_are_told(rt: HostRuntime) -> Result<(), Fail> {
+    let alloc = rt.alloc();
+    let replay = words_of(alloc, &["replay", "f", "w"])?;
+    let verify = words_of(alloc, &["verify", "f", "w"])?;
+    let cases: [(&[u64], u8, &[u8], usize); 5] = [
+        (&[], 0, b"ok\n", 12844),
+        (&[1], 2, b"cannot read f\n", 0),
+        (&[2], 3, b"cannot write w\n", 0),
+        (&[3], 3, b"cannot write w\n", 0),
+        (&[4], 3, b"cannot write w\n", 44),
+    ];
+    for (fails, status, printed, size) in cases {
+        let mut shelf = MemShelf::new(alloc, fails)?;
+        shelf.put_file(alloc, "f", NOTE)?;
+        let mut out = MemOut::new(alloc, &[])?;
+        assert_eq!(rt; tool_main(alloc, &replay, &mut shelf, &mut out), status);
+        assert_eq!(rt; out.bytes(), printed);
+        assert_eq!(rt; shelf.file("w").map_or(0, |file| file.len()), size);
+    }
+    let sound = replayed(alloc, NOTE)?;
+    for (fail, status, printed) in [
+        (2u64, 2u8, b"cannot read w\n".as_slice()),
+        (9, 0, b"same\n"),
+    ] {
+        let mut shelf = MemShelf::new(alloc, &[fail])?;
+        shelf.put_file(alloc, "f", NOTE)?;
+        shelf.put_file(alloc, "w", sound.as_slice())?;
+        let mut out = MemOut::new(alloc, &[])?;
+        assert_eq!(rt; tool_main(alloc, &verify, &mut shelf, &mut out), status);
+        assert_eq!(rt; out.bytes(), printed);
+    }
+    let mut out = MemOut::new(alloc, &[0])?;
+    assert_eq!(rt; verified(alloc, NOTE, sound.as_slice(), &mut out)?, 3);
+    assert_eq!(rt; out.bytes(), b"".as_slice());
+    Ok(())
+}

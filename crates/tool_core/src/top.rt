@@ -1,24 +1,26 @@
 ghost use Rattle.std.specs.Prelude.{◌≡◌, ◌↔◌, [], ◌∷◌, IfSome, None, map, string_bytes};
 ghost use Rattle.tool_core.specs.Lines.{usage};
-ghost use Rattle.tool_core.specs.Outcomes.{moment, Ends, IsDone, IsOneOf, IsOutOfMemory, IsPastLimit, IsRefused, IsUnread, IsUnwritten, OnSuccess, Says};
+ghost use Rattle.tool_core.specs.Outcomes.{done_by, moment, Ends, IsDifferent, IsDone, IsOneOf, IsOutOfMemory, IsPastLimit, IsRefused, IsUnread, IsUnwritten, OnSuccess, Says};
 ghost use Rattle.tool_core.specs.Words.{asked, asked_by, IsInRange};
 
 use crate::commands::{check, list, pack, pick};
+use crate::replaying::replay;
 use crate::saying::say_usage;
+use crate::verifying::verify;
 use crate::words::{Request, read_words};
 use outside::{Out, Shelf};
 use std::alloc::Global;
 
 /// Does what the words ask for, and answers the status.
 ///
-/// The words are `check FILE`, `list FILE`, `pick FILE SLOT OUT` or `pack OUT FILE...`.
+/// The words are `check FILE`, `list FILE`, `pick FILE SLOT OUT`, `pack OUT FILE...`, `replay ORDER OUT` or `verify ORDER WAV`.
 pub fn tool_main<S: Shelf, O: Out>(
     alloc: Global,
     words: &[String],
     shelf: &mut S,
     out: &mut O,
 ) -> u8
-    ensures status { IsOneOf result (0 ∷ 1 ∷ 2 ∷ 3 ∷ 4 ∷ 6 ∷ 8 ∷ []) }
+    ensures status { IsOneOf result (0 ∷ 1 ∷ 2 ∷ 3 ∷ 4 ∷ 6 ∷ 7 ∷ 8 ∷ []) }
 
     // 1 exactly where the words are not of the grammar; then no file has changed, and the line was put.
     ensures words { result ≡ 1 ↔ asked_by (map string_bytes words.now) ≡ None }
@@ -41,15 +43,18 @@ pub fn tool_main<S: Shelf, O: Out>(
     ensures past_limit { result ≡ 6 → IfSome (asked_by (map string_bytes words.now)) (λ asked. IsPastLimit asked
         (moment (S.files shelf.old) (S.reading shelf.old) (S.writing shelf.old) (O.written out.old) (O.faults out.old))
         (moment (S.files shelf.new) (S.reading shelf.new) (S.writing shelf.new) (O.written out.new) (O.faults out.new))) }
+    ensures different { result ≡ 7 → IfSome (asked_by (map string_bytes words.now)) (λ asked. IsDifferent asked
+        (moment (S.files shelf.old) (S.reading shelf.old) (S.writing shelf.old) (O.written out.old) (O.faults out.old))
+        (moment (S.files shelf.new) (S.reading shelf.new) (S.writing shelf.new) (O.written out.new) (O.faults out.new))) }
     ensures memory { result ≡ 8 → IfSome (asked_by (map string_bytes words.now)) (λ asked. IsOutOfMemory asked
         (moment (S.files shelf.old) (S.reading shelf.old) (S.writing shelf.old) (O.written out.old) (O.faults out.old))
         (moment (S.files shelf.new) (S.reading shelf.new) (S.writing shelf.new) (O.written out.new) (O.faults out.new))) }
 
-    // Where all is right and nothing fails, it is done, unless memory runs out.
+    // Where all is right and nothing fails, it is done, unless memory runs out; a comparison is done with 0 or 7.
     ensures complete { IfSome (asked_by (map string_bytes words.now)) (λ asked. OnSuccess asked
         (moment (S.files shelf.old) (S.reading shelf.old) (S.writing shelf.old) (O.written out.old) (O.faults out.old))
         (moment (S.files shelf.new) (S.reading shelf.new) (S.writing shelf.new) (O.written out.new) (O.faults out.new))
-        (IsOneOf result (0 ∷ 8 ∷ []))) }
+        (IsOneOf result (done_by asked))) }
 {
     match read_words(words) {
         Some(request) => run(alloc, request, shelf, out),
@@ -76,5 +81,7 @@ fn run<S: Shelf, O: Out>(alloc: Global, request: Request<'_>, shelf: &mut S, out
             out: name,
         } => pick(alloc, file, slot, name, shelf, out),
         Request::Pack { out: name, files } => pack(alloc, name, files, shelf, out),
+        Request::Replay { order, out: name } => replay(alloc, order, name, shelf, out),
+        Request::Verify { order, sound } => verify(alloc, order, sound, shelf, out),
     }
 }

@@ -13,6 +13,8 @@ pub enum Trouble {
     Unread,
     /// It has too many bytes.
     TooLarge,
+    /// It has too many entries.
+    TooMany,
     /// It is refused for what it holds.
     Refused(Refusal),
     /// Memory is wanting.

@@ -1,9 +1,10 @@
 //! The words that the program takes.
 
-ghost use Rattle.std.specs.Prelude.{◌≡◌, ◌≤◌, ◌&&◌, ◌∷◌, IfSome, nat_le, if◌then◌else◌, Option, map, option_map, string_bytes};
-ghost use Rattle.tool_core.specs.Number.{is_padded, number};
+ghost use Rattle.std.specs.Prelude.{◌≡◌, ◌∷◌, IfSome, Option, map, option_map, string_bytes};
 ghost use Rattle.tool_core.specs.Words as spec;
-ghost use Rattle.tool_core.specs.Words.{asked, asked_by, asked_of, file_of_words, pack_of_words, pick_of, pick_of_words, IsInRange};
+ghost use Rattle.tool_core.specs.Words.{asked, asked_by, asked_of, asked_of_order, file_of_words, pack_of_words, pick_of, pick_of_words, replay_of_words, verify_of_words, IsInRange};
+
+use plain_text::number_in;
 
 /// What the words ask for.
 #[derive(Clone, Copy)]
@@ -26,6 +27,16 @@ pub enum Request<'a> {
     Pack {
         out: &'a str,
         files: &'a [String],
+    },
+    /// The sound of an order.
+    Replay {
+        order: &'a str,
+        out: &'a str,
+    },
+    /// Whether a file is the sound of an order.
+    Verify {
+        order: &'a str,
+        sound: &'a str,
     },
 }
 
@@ -56,6 +67,19 @@ fn read_command<'a>(command: &str, words: &'a [String]) -> Option<Request<'a>>
     if is_pack(command) {
         return read_pack(words);
     }
+    read_order_command(command, words)
+}
+
+fn read_order_command<'a>(command: &str, words: &'a [String]) -> Option<Request<'a>>
+    ensures asked { option_map asked result ≡ asked_of_order command.now (map string_bytes words.entry.now) }
+    ensures range { IfSome result IsInRange }
+{
+    if is_replay(command) {
+        return read_replay(words);
+    }
+    if is_verify(command) {
+        return read_verify(words);
+    }
     None
 }
 
@@ -85,6 +109,20 @@ fn is_pack(word: &str) -> bool
     ensures { result ≡ spec.is_pack word.now }
 {
     word == "pack"
+}
+
+#[tactic(auto, unfolding(crate::specs::Words::is_replay))]
+fn is_replay(word: &str) -> bool
+    ensures { result ≡ spec.is_replay word.now }
+{
+    word == "replay"
+}
+
+#[tactic(auto, unfolding(crate::specs::Words::is_verify))]
+fn is_verify(word: &str) -> bool
+    ensures { result ≡ spec.is_verify word.now }
+{
+    word == "verify"
 }
 
 fn read_check(words: &[String]) -> Option<Request<'_>>
@@ -134,7 +172,7 @@ fn read_three<'a>(file: &'a str, slot: &str, out: &'a str) -> Option<Request<'a>
     if out.is_empty() || !is_read(out, file) {
         return None;
     }
-    match number_of(slot, 0, 31) {
+    match number_in(slot.as_bytes(), 0, 31) {
         Some(slot) => Some(Request::Pick {
             file,
             slot: slot as u8,
@@ -181,37 +219,32 @@ fn is_read(out: &str, file: &str) -> bool
     !file.is_empty() && file != out
 }
 
-/// The number that the text writes in decimal digits without a leading zero, where it is in the range.
-fn number_of(text: &str, least: u32, most: u32) -> Option<u32>
-    ensures value { result ≡ number least most text.now }
-    ensures most { IfSome result (λ value. value ≤ most) }
+fn read_replay(words: &[String]) -> Option<Request<'_>>
+    ensures asked { option_map asked result ≡ replay_of_words (map string_bytes words.entry.now) }
+    ensures range { IfSome result IsInRange }
 {
-    let bytes = text.as_bytes();
-    if bytes.is_empty() || bytes[0] == b'+' {
+    if words.len() != 2 {
         return None;
     }
-    if has_padding(bytes) {
+    let order = words[0].as_str();
+    let out = words[1].as_str();
+    if out.is_empty() || !is_read(out, order) {
         return None;
     }
-    match text.parse::<u32>() {
-        Ok(value) => kept(value, least, most),
-        Err(_) => None,
-    }
+    Some(Request::Replay { order, out })
 }
 
-fn kept(value: u32, least: u32, most: u32) -> Option<u32>
-    ensures most { IfSome result (λ value. value ≤ most) }
-    ensures value { result ≡ (if nat_le least value && nat_le value most then Some value else None) }
+fn read_verify(words: &[String]) -> Option<Request<'_>>
+    ensures asked { option_map asked result ≡ verify_of_words (map string_bytes words.entry.now) }
+    ensures range { IfSome result IsInRange }
 {
-    if least <= value && value <= most {
-        Some(value)
-    } else {
-        None
+    if words.len() != 2 {
+        return None;
     }
-}
-
-fn has_padding(text: &[u8]) -> bool
-    ensures { result ≡ is_padded text.now }
-{
-    text.len() > 1 && text[0] == b'0'
+    let order = words[0].as_str();
+    let sound = words[1].as_str();
+    if order.is_empty() || sound.is_empty() {
+        return None;
+    }
+    Some(Request::Verify { order, sound })
 }

@@ -36,7 +36,7 @@ pub fn put_report<O: Out>(out: &mut O, text: &[u8]) -> u8
 }
 
 #[tactic(auto, unfolding(crate::specs::Lines::ok_line))]
-fn put_ok<O: Out>(out: &mut O) -> u8
+pub fn put_ok<O: Out>(out: &mut O) -> u8
     ensures { Reports ok_line result (O.written out.old) (O.written out.new) (O.faults out.old) (O.faults out.new) }
 {
     put_report(out, b"ok\n")

@@ -2,7 +2,7 @@ use Rattle.std.proofs.Common.{ℕ, List, map, string_bytes, subst, sym}
 use Rattle.tool_core.specs.Refusals.{OneVoice}
 use Rattle.tool_core.specs.Words.{Pack}
 use Rattle.tool_core.specs.Troubles.{HasReasonAmong}
-use Rattle.tool_core.proofs.Endings.{finished_ends, finishes_first, refused_ends, pack_out}
+use Rattle.tool_core.proofs.Endings.{finished_ends, finishes_first, refused_ends, stops_among, pack_out}
 use Rattle.tool_core.proofs.commands.pack.Goals as goal
 
 pub returns-in-Ok : goal.returns-in-Ok
@@ -16,6 +16,7 @@ returns-in-Ok g c =
 pub returns-in-Err : goal.returns-in-Err
 returns-in-Err g c =
     refused_ends (Pack c.args.name.now (map string_bytes c.args.files.now)) c.in-Err.stop.why c.name_at-file.result.now _ _ _
+    (stops_among c.in-Err.stop.why (Pack c.args.name.now (map string_bytes c.args.files.now)) OneVoice (g.S.Shelf.files c.args.shelf.now) (map string_bytes c.args.files.now) c.name_at-file.result.now _ _ (λ it judged. judged) (λ among. among)
     (subst (λ (n : List ℕ). HasReasonAmong c.in-Err.stop.why OneVoice (g.S.Shelf.files c.args.shelf.now) (map string_bytes c.args.files.now) n (g.S.Shelf.reading c.args.shelf.now) (g.S.Shelf.reading c.read_pack.new.shelf))
-    (sym c.name_at-file.ensures) c.in-Err.ensures.refused)
+    (sym c.name_at-file.ensures) c.in-Err.ensures.refused))
     c.refuse.ensures.status c.refuse.ensures.line c.read_pack.ensures.files

@@ -1,8 +1,9 @@
+use Rattle.std.proofs.Common.{[], ◌∷◌}
 use Rattle.tool_core.specs.Refusals.{OneCartridge}
 use Rattle.tool_core.specs.Verdicts.{Good}
 use Rattle.tool_core.specs.Words.{Pick}
 use Rattle.tool_core.proofs.Judging.{one_judged, one_reason}
-use Rattle.tool_core.proofs.Endings.{finished_ends, finishes_first, refused_ends, pick_out}
+use Rattle.tool_core.proofs.Endings.{finished_ends, finishes_first, refused_ends, stops_among, pick_out}
 use Rattle.tool_core.proofs.commands.pick.Goals as goal
 
 pub returns-in-Ok : goal.returns-in-Ok
@@ -17,5 +18,6 @@ returns-in-Ok g c =
 pub returns-in-Err : goal.returns-in-Err
 returns-in-Err g c =
     refused_ends (Pick c.args.file.now c.args.slot c.args.name.now) c.in-Err.why c.args.file.now _ _ _
-    (one_reason c.in-Err.why OneCartridge (g.S.Shelf.files c.args.shelf.now) c.args.file.now _ _ c.in-Err.ensures.refused)
+    (stops_among c.in-Err.why (Pick c.args.file.now c.args.slot c.args.name.now) OneCartridge (g.S.Shelf.files c.args.shelf.now) (c.args.file.now ∷ []) c.args.file.now _ _ (λ it judged. judged) (λ among. among)
+    (one_reason c.in-Err.why OneCartridge (g.S.Shelf.files c.args.shelf.now) c.args.file.now _ _ c.in-Err.ensures.refused))
     c.refuse.ensures.status c.refuse.ensures.line c.read_cartridge.ensures.files

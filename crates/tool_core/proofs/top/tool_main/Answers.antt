@@ -1,5 +1,5 @@
 use Rattle.tool_core.specs.Words.{asked}
-use Rattle.tool_core.proofs.Endings.{ends_0, ends_1, ends_2, ends_3, ends_4, ends_6, ends_8, one_of, completes, known, not_none, if_none}
+use Rattle.tool_core.proofs.Endings.{ends_0, ends_1, ends_2, ends_3, ends_4, ends_6, ends_7, ends_8, one_of, completes, known, not_none, if_none}
 use Rattle.tool_core.proofs.top.tool_main.Goals as goal
 
 pub returns-in-Some-clause-status : goal.returns-in-Some-clause-status
@@ -28,6 +28,9 @@ returns-in-Some-clause-refused g c = λ is. known _ (asked c.in-Some.request) _ 
 
 pub returns-in-Some-clause-past_limit : goal.returns-in-Some-clause-past_limit
 returns-in-Some-clause-past_limit g c = λ is. known _ (asked c.in-Some.request) _ c.in-Some.ensures.asked (ends_6 _ _ _ _ c.run.ensures is)
+
+pub returns-in-Some-clause-different : goal.returns-in-Some-clause-different
+returns-in-Some-clause-different g c = λ is. known _ (asked c.in-Some.request) _ c.in-Some.ensures.asked (ends_7 _ _ _ _ c.run.ensures is)
 
 pub returns-in-Some-clause-memory : goal.returns-in-Some-clause-memory
 returns-in-Some-clause-memory g c = λ is. known _ (asked c.in-Some.request) _ c.in-Some.ensures.asked (ends_8 _ _ _ _ c.run.ensures is)

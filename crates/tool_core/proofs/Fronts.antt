@@ -1,0 +1,197 @@
+-- Files compared piece by piece.
+use Rattle.std.proofs.Common.{◌≡◌, ◌≢◌, inl, inr, ℕ, zero, suc, ◌+◌, ◌-◌, ◌<◌, ◌≤◌, min, List, [], ◌∷◌, ◌++◌, length, take, drop, get_or, refl, sym, ◌∙◌, ap, subst, arith, append_assoc, append-nil, length-append, length-drop}
+use Rattle.std.specs.Prelude.{Option, Some, None, IfSome, IsSomeAnd, unwrap_or, slice_get}
+use Rattle.std.specs.FinMap.{get}
+use Rattle.std.proofs.Math.Seq.{take-add, take-append-add, take-append_seam, drop-append_seam, drop-nil}
+use Rattle.std.proofs.lemmas.List.{take-append-drop, take-append-le, length-take, length-take-le, take_all}
+use Rattle.std.proofs.lemmas.Option.{slice_get_past, slice_get-get_or}
+use Rattle.outside.specs.Files.{Files, ReadsFrom, Lacks, file_of}
+use Rattle.tool_core.specs.declared.comparing.Step.{Step}
+use Rattle.tool_core.specs.declared.comparing.Step.TheVariants.{Same, Differs}
+use Rattle.tool_core.specs.Comparisons.{DiffersAt, IsCompared, IsFront, IsStep, IsWithin}
+
+-- ---- bytes at a place
+get_behind : (front a : List ℕ) (i : ℕ) → slice_get (front ++ a) (length front + i) ≡ slice_get a i
+get_behind [] a i = ap (slice_get a) (let e : length {A = ℕ} [] + i ≡ i = omega arith in e)
+get_behind (x ∷ front) a i =
+    ap (slice_get (x ∷ (front ++ a))) (let e : length (x ∷ front) + i ≡ suc (length front + i) = omega arith in e) ∙ get_behind front a i
+
+get_front : (a more : List ℕ) (i : ℕ) → i < length a → slice_get (a ++ more) i ≡ slice_get a i
+get_front [] more i below = absurd (omega arith)
+get_front (x ∷ a) more zero below = refl
+get_front (x ∷ a) more (suc i) below = get_front a more i (omega arith)
+
+get_taken : (n : ℕ) (a : List ℕ) (i : ℕ) → i < n → slice_get (take n a) i ≡ slice_get a i
+get_taken zero a i below = absurd (omega arith)
+get_taken (suc n) [] i below = refl
+get_taken (suc n) (x ∷ a) zero below = refl
+get_taken (suc n) (x ∷ a) (suc i) below = get_taken n a i (omega arith)
+
+take_taken : (n : ℕ) (a : List ℕ) (i : ℕ) → i ≤ n → take i (take n a) ≡ take i a
+take_taken n a zero below = refl
+take_taken zero a (suc i) below = absurd (omega arith)
+take_taken (suc n) [] (suc i) below = refl
+take_taken (suc n) (x ∷ a) (suc i) below = ap (λ (l : List ℕ). x ∷ l) (take_taken n a i (omega arith))
+
+-- ---- behind a front, and before more
+pub differs_behind : (front a b : List ℕ) (i : ℕ) → DiffersAt a b i → DiffersAt (front ++ a) (front ++ b) (length front + i)
+differs_behind front a b i d = record {
+  front = take-append-add front a i ∙ ap (λ (l : List ℕ). front ++ l) d.front ∙ sym (take-append-add front b i);
+  differs = λ e. d.differs (sym (get_behind front a i) ∙ e ∙ get_behind front b i);
+}
+
+pub differs_before : (a b more : List ℕ) (i : ℕ) → i < length b → DiffersAt a b i → DiffersAt a (b ++ more) i
+differs_before a b more i below d = record {
+  front = d.front ∙ sym (take-append-le i b more (omega arith));
+  differs = λ e. d.differs (e ∙ get_front b more i below);
+}
+
+-- ---- the bytes that one read gives
+pub chunk_differs : (chunk rest wanted : List ℕ) (i x y : ℕ) → take (length chunk) rest ≡ chunk → take i chunk ≡ take i wanted
+    → i < length chunk → i < length wanted → x ≡ get_or chunk i x → y ≡ get_or wanted i y → x ≢ y → DiffersAt rest wanted i
+chunk_differs chunk rest wanted i x y is same low below at_x at_y other = record {
+  front = sym (take_taken (length chunk) rest i (omega arith)) ∙ ap (take i) is ∙ same;
+  differs = λ e.
+      let left : slice_get rest i ≡ Some (get_or chunk i x) =
+      sym (get_taken (length chunk) rest i low) ∙ ap (λ (l : List ℕ). slice_get l i) is ∙ slice_get-get_or chunk i x low in
+      let right : slice_get wanted i ≡ Some (get_or wanted i y) = slice_get-get_or wanted i y below in
+      other (cc);
+}
+
+pub chunk_same : (chunk rest wanted : List ℕ) (size : ℕ) → take (length chunk) rest ≡ chunk → size ≤ length chunk → take size chunk ≡ take size wanted
+    → take size rest ≡ take size wanted
+chunk_same chunk rest wanted size is low same = sym (take_taken (length chunk) rest size low) ∙ ap (take size) is ∙ same
+
+pub ended_differs : (rest wanted : List ℕ) → length rest ≡ 0 → 0 < length wanted → DiffersAt rest wanted 0
+ended_differs rest wanted none some = record {
+  front = refl;
+  differs = λ e.
+      let left : slice_get rest 0 ≡ None = slice_get_past rest 0 (omega arith) in
+      let right : slice_get wanted 0 ≡ Some (get_or wanted 0 0) = slice_get-get_or wanted 0 0 some in
+      cc;
+}
+
+pub read_known : (o : Option Files) (name file buffer : List ℕ) (at count : ℕ) → file_of o name ≡ Some file
+    → IfSome o (λ told. IsSomeAnd (get told name) (λ f. ReadsFrom f at count buffer)) → ReadsFrom file at count buffer
+read_known None name file buffer at count is reads = absurd (cc)
+read_known (Some told) name file buffer at count is reads =
+    let h : IsSomeAnd (Some file) (λ f. ReadsFrom f at count buffer) = subst (λ (o : Option (List ℕ)). IsSomeAnd o (λ f. ReadsFrom f at count buffer)) is reads in h
+
+pub read_bytes : (file buffer chunk : List ℕ) (at count : ℕ) → ReadsFrom file at count buffer → count ≤ length buffer → chunk ≡ take count buffer
+    → take (length chunk) (drop at file) ≡ chunk
+read_bytes file buffer chunk at count reads fits is =
+    let size : length chunk ≡ count = ap length is ∙ length-take-le count buffer fits in
+    ap (λ (n : ℕ). take n (drop at file)) size ∙ sym reads.bytes ∙ sym is
+
+pub read_end : (file buffer chunk : List ℕ) (at count : ℕ) → ReadsFrom file at count buffer → count ≤ length buffer → 0 < length buffer → chunk ≡ take count buffer
+    → length chunk ≡ 0 → length (drop at file) ≡ 0
+read_end file buffer chunk at count reads fits room is none =
+    let size : length chunk ≡ count = ap length is ∙ length-take-le count buffer fits in
+    elim (reads.ended.0 (sym size ∙ none)) [ inl no_room ↦ absurd (omega arith) | inr past ↦ (let h : length (drop at file) ≡ 0 = omega (arith, length-drop at file) in h) ]
+
+-- ---- a piece, step by step
+drop_drop : (n m : ℕ) (a : List ℕ) → drop m (drop n a) ≡ drop (n + m) a
+drop_drop zero m a = ap (λ (k : ℕ). drop k a) (let e : m ≡ 0 + m = omega arith in e)
+drop_drop (suc n) m [] = ap (drop m) (drop-nil {A = ℕ} (suc n)) ∙ drop-nil {A = ℕ} m ∙ sym (drop-nil {A = ℕ} (suc n + m))
+drop_drop (suc n) m (x ∷ a) = drop_drop n m a ∙ ap (λ (k : ℕ). drop k (x ∷ a)) (let e : suc (n + m) ≡ suc n + m = omega arith in e)
+
+-- the rest of a piece, as the code cuts it off
+rest_of : (piece wanted : List ℕ) (done : ℕ) → wanted ≡ take (length piece - done) (drop done piece) → wanted ≡ drop done piece
+rest_of piece wanted done is = is ∙ take_all (length piece - done) (drop done piece) (omega (arith, length-drop done piece))
+
+pub piece_more : (file piece wanted : List ℕ) (at done count : ℕ) → wanted ≡ take (length piece - done) (drop done piece)
+    → take done (drop at file) ≡ take done piece → take count (drop (at + done) file) ≡ take count wanted
+    → take (done + count) (drop at file) ≡ take (done + count) piece
+piece_more file piece wanted at done count is same step =
+    take-add done count (drop at file)
+    ∙ ap (λ (l : List ℕ). take done (drop at file) ++ take count l) (drop_drop at done file)
+    ∙ ap (λ (l : List ℕ). take done (drop at file) ++ l) (step ∙ ap (take count) (rest_of piece wanted done is))
+    ∙ ap (λ (l : List ℕ). l ++ take count (drop done piece)) same
+    ∙ sym (take-add done count piece)
+
+pub piece_differs : (file piece wanted : List ℕ) (at done place : ℕ) → wanted ≡ take (length piece - done) (drop done piece) → done ≤ length piece
+    → take done (drop at file) ≡ take done piece → DiffersAt (drop (at + done) file) wanted place
+    → DiffersAt (drop at file) piece (done + place)
+piece_differs file piece wanted at done place is low same step =
+    let size : length (take done piece) ≡ done = length-take-le done piece low in
+    let left : take done piece ++ drop (at + done) file ≡ drop at file =
+    ap (λ (l : List ℕ). l ++ drop (at + done) file) (sym same) ∙ ap (λ (l : List ℕ). take done (drop at file) ++ l) (sym (drop_drop at done file)) ∙ take-append-drop done (drop at file) in
+    let right : take done piece ++ wanted ≡ piece =
+    ap (λ (l : List ℕ). take done piece ++ l) (rest_of piece wanted done is) ∙ take-append-drop done piece in
+    let whole : DiffersAt (take done piece ++ drop (at + done) file) (take done piece ++ wanted) (length (take done piece) + place) =
+    differs_behind (take done piece) (drop (at + done) file) wanted place step in
+    subst (λ (n : ℕ). DiffersAt (drop at file) piece (n + place)) size
+    (subst (λ (l : List ℕ). DiffersAt (drop at file) l (length (take done piece) + place)) right
+    (subst (λ (l : List ℕ). DiffersAt l (take done piece ++ wanted) (length (take done piece) + place)) left whole))
+
+pub piece_whole : (file piece : List ℕ) (at done : ℕ) → done ≡ length piece → take done (drop at file) ≡ take done piece → IsFront (drop at file) piece None
+piece_whole file piece at done is same = (
+  drop done (drop at file),
+  sym (take-append-drop done (drop at file)) ∙ ap (λ (l : List ℕ). l ++ drop done (drop at file)) (same ∙ take_all done piece (omega arith)),
+)
+
+-- ---- a file, piece by piece
+behind : (file front rest : List ℕ) (at : ℕ) → file ≡ front ++ rest → at ≡ length front → drop at file ≡ rest
+behind file front rest at is size = ap (λ (n : ℕ). drop n file) size ∙ ap (drop (length front)) is ∙ drop-append_seam front rest
+
+pub front_more : (file front piece : List ℕ) (at : ℕ) → IsFront file front None → at ≡ length front → IsFront (drop at file) piece None
+    → IsFront file (front ++ piece) None
+front_more file front piece at (rest, is) size (more, next) =
+    (more, is ∙ ap (λ (l : List ℕ). front ++ l) (sym (behind file front rest at is size) ∙ next) ∙ sym (append_assoc front piece more))
+
+pub front_differs : (file front piece more : List ℕ) (at place : ℕ) → IsFront file front None → at ≡ length front → IsFront (drop at file) piece (Some place)
+    → IsFront file ((front ++ piece) ++ more) (Some (at + place))
+front_differs file front piece more at place (rest, is) size (below, d) =
+    let left : front ++ drop at file ≡ file = ap (λ (l : List ℕ). front ++ l) (behind file front rest at is size) ∙ sym is in
+    let whole : DiffersAt (front ++ drop at file) (front ++ piece) (length front + place) = differs_behind front (drop at file) piece place d in
+    let at_it : DiffersAt file (front ++ piece) (at + place) =
+    subst (λ (n : ℕ). DiffersAt file (front ++ piece) (n + place)) (sym size)
+    (subst (λ (l : List ℕ). DiffersAt l (front ++ piece) (length front + place)) left whole) in
+    let low : at + place < length (front ++ piece) = omega (arith, length-append front piece) in
+    (let l : at + place < length ((front ++ piece) ++ more) = omega (arith, length-append (front ++ piece) more) in l, differs_before file (front ++ piece) more (at + place) low at_it)
+
+pub first_differs : (file piece more : List ℕ) (place : ℕ) → IsFront (drop 0 file) piece (Some place) → IsFront file (piece ++ more) (Some place)
+first_differs file piece more place (below, d) =
+    (let l : place < length (piece ++ more) = omega (arith, length-append piece more) in l, differs_before file piece more place below d)
+
+-- ---- the whole file
+pub known_within : (file whole : List ℕ) (place : Option ℕ) (size : ℕ) → size ≡ length whole → IsFront file whole place → unwrap_or place size ≤ length file
+known_within file whole None size is (rest, same) = omega (arith, ap length same, length-append whole rest)
+known_within file whole (Some place) size is (below, d) =
+    let left : length (take place file) ≡ min place (length file) = length-take place file in
+    let right : length (take place whole) ≡ place = length-take-le place whole (omega arith) in
+    let e : length (take place file) ≡ length (take place whole) = ap length d.front in
+    omega arith
+
+pub goes_past : (file whole : List ℕ) (size count : ℕ) → size ≡ length whole → count ≡ length file → size < count → IsFront file whole None → DiffersAt file whole size
+goes_past file whole size count is ends past (rest, same) = record {
+  front = ap (λ (n : ℕ). take n file) is ∙ ap (take (length whole)) same ∙ take-append_seam whole rest ∙ sym (take_all size whole (omega arith));
+  differs = λ e.
+      let left : slice_get file size ≡ Some (get_or file size 0) = slice_get-get_or file size 0 (omega arith) in
+      let right : slice_get whole size ≡ None = slice_get_past whole size (omega arith) in
+      cc;
+}
+
+none : (rest : List ℕ) → length rest ≡ 0 → rest ≡ []
+none [] e = refl
+none (x ∷ rest) e = absurd (omega arith)
+
+pub ends_there : (file whole : List ℕ) (size count : ℕ) → size ≡ length whole → count ≡ length file → count ≤ size → IsFront file whole None → file ≡ whole
+ends_there file whole size count is ends low (rest, same) =
+    same ∙ ap (λ (l : List ℕ). whole ++ l) (none rest (omega (arith, ap length same, length-append whole rest))) ∙ append-nil whole
+
+-- ---- what an answer says, where it is known which one it is
+pub front_at : (o : Option ℕ) (file front : List ℕ) (known : Option ℕ) → o ≡ known → IsFront file front o → IsFront file front known
+front_at o file front known is h = subst (λ (r : Option ℕ). IsFront file front r) is h
+
+pub step_same : (step : Step) (count : ℕ) (file front : List ℕ) → step ≡ Same count → IsStep step file front → take count file ≡ take count front
+step_same step count file front is h = let k : IsStep (Same count) file front = subst (λ (s : Step). IsStep s file front) is h in k
+
+pub step_differs : (step : Step) (place : ℕ) (file front : List ℕ) → step ≡ Differs place → IsStep step file front → DiffersAt file front place
+step_differs step place file front is h = let k : IsStep (Differs place) file front = subst (λ (s : Step). IsStep s file front) is h in k
+
+pub same_within : (step : Step) (count most : ℕ) → step ≡ Same count → IsWithin step most → count ≤ most
+same_within step count most is h = let k : IsWithin (Same count) most = subst (λ (s : Step). IsWithin s most) is h in k.1
+
+pub differs_within : (step : Step) (place most : ℕ) → step ≡ Differs place → IsWithin step most → place < most
+differs_within step place most is h = let k : IsWithin (Differs place) most = subst (λ (s : Step). IsWithin s most) is h in k

@@ -1,0 +1,140 @@
+-- The bytes of a sound file, piece by piece.
+use Rattle.std.proofs.Common.{◌≡◌, ℕ, zero, suc, ◌+◌, ◌*◌, ◌≤◌, ◌-◌, List, [], ◌∷◌, ◌++◌, length, drop, refl, sym, ◌∙◌, ap, subst, arith, add-one, append_assoc, append-nil, length-append}
+use Rattle.std.specs.Prelude.{ℤ, Option, Some, None, option_map}
+use Rattle.outside.specs.Files.{Files}
+use Rattle.std.specs.List.{flat_map}
+use Rattle.std.proofs.lemmas.List.FromFn.{length-map-range_with_len}
+use Rattle.command_set.specs.Entries.{LoggedData}
+use Rattle.instrument.specs.State.{State, samples, modulation, mix_of, output_of}
+use Rattle.instrument.specs.Journal.{sound, state_at}
+use Rattle.take_files.specs.Files.{wav, wav_header, wav_block, wav_blocks, sample_bytes}
+use Rattle.tool_core.specs.Comparisons.{IsFront}
+use Rattle.tool_core.proofs.Writings.{with_out}
+use Rattle.tool_core.proofs.Fronts.{first_differs, front_more, front_differs}
+
+-- the header and the first blocks
+abbrev pub begun : List LoggedData → ℕ → ℕ → List ℕ
+begun journal blocks b = wav_header blocks ++ wav_blocks journal b
+
+length-header : (blocks : ℕ) → length (wav_header blocks) ≡ 44
+unfolding wav_header
+length-header blocks = refl
+
+length-samples : (s : State) → length (samples s) ≡ 64
+unfolding samples
+length-samples s = length-map-range_with_len {X = ℤ} (λ j. output_of (mix_of (modulation s) s.slots 16 j)) 0 64
+
+length-bytes : (xs : List ℤ) → length (flat_map sample_bytes xs) ≡ 2 * length xs
+length-bytes [] = refl
+length-bytes (x ∷ xs) = let two : length (sample_bytes x) ≡ 2 = refl in omega (arith, length-append (sample_bytes x) (flat_map sample_bytes xs), length-bytes xs, two)
+
+length-block : (journal : List LoggedData) (b : ℕ) → length (wav_block (sound journal b)) ≡ 128
+unfolding wav_block sound
+length-block journal b = omega (arith, length-bytes (samples (state_at journal b)), length-samples (state_at journal b))
+
+length-blocks : (journal : List LoggedData) (b : ℕ) → length (wav_blocks journal b) ≡ 128 * b
+unfolding wav_blocks
+length-blocks journal zero = refl
+length-blocks journal (suc b) = omega (arith, length-append (wav_blocks journal b) (wav_block (sound journal b)), length-blocks journal b, length-block journal b)
+
+pub length-begun : (journal : List LoggedData) (blocks b : ℕ) → length (begun journal blocks b) ≡ 44 + 128 * b
+length-begun journal blocks b = omega (arith, length-append (wav_header blocks) (wav_blocks journal b), length-header blocks, length-blocks journal b)
+
+-- no block yet, and all of them
+pub begun_none : (journal : List LoggedData) (blocks : ℕ) → begun journal blocks 0 ≡ wav_header blocks
+unfolding wav_blocks
+begun_none journal blocks = append-nil (wav_header blocks)
+
+pub begun_all : (journal : List LoggedData) (blocks b : ℕ) → b ≡ blocks → begun journal blocks b ≡ wav journal blocks
+unfolding wav
+begun_all journal blocks b is = ap (begun journal blocks) is
+
+pub length-wav : (journal : List LoggedData) (blocks : ℕ) → length (wav journal blocks) ≡ 44 + 128 * blocks
+length-wav journal blocks = ap length (sym (begun_all journal blocks blocks refl)) ∙ length-begun journal blocks blocks
+
+-- a piece more
+pub begun_more : (journal : List LoggedData) (blocks from to : ℕ) (piece : List ℕ) → wav_blocks journal to ≡ wav_blocks journal from ++ piece
+    → begun journal blocks to ≡ begun journal blocks from ++ piece
+begun_more journal blocks from to piece is =
+    ap (λ (l : List ℕ). wav_header blocks ++ l) is ∙ sym (append_assoc (wav_header blocks) (wav_blocks journal from) piece)
+
+-- what is begun is a front of the whole
+pub record Begins (front whole : List ℕ) : Type 0 where
+  pub more : List ℕ
+  pub is : whole ≡ front ++ more
+
+further : (journal : List LoggedData) (b more : ℕ) → Begins (wav_blocks journal b) (wav_blocks journal (b + more))
+unfolding wav_blocks
+further journal b zero = record { more = []; is = ap (wav_blocks journal) (let e : b + 0 ≡ b = omega arith in e) ∙ sym (append-nil (wav_blocks journal b)) }
+further journal b (suc more) =
+    let before = further journal b more in
+    let e : b + suc more ≡ suc (b + more) = omega arith in
+    record {
+      more = before.more ++ wav_block (sound journal (b + more));
+      is = ap (wav_blocks journal) e ∙ ap (λ (l : List ℕ). l ++ wav_block (sound journal (b + more))) before.is
+          ∙ append_assoc (wav_blocks journal b) before.more (wav_block (sound journal (b + more)));
+    }
+
+pub begins : (journal : List LoggedData) (blocks b : ℕ) → b ≤ blocks → Begins (begun journal blocks b) (wav journal blocks)
+begins journal blocks b within =
+    let rest = further journal b (blocks - b) in
+    let e : b + (blocks - b) ≡ blocks = omega arith in
+    record {
+      more = rest.more;
+      is = sym (begun_all journal blocks (b + (blocks - b)) e) ∙ ap (λ (l : List ℕ). wav_header blocks ++ l) rest.is
+          ∙ sym (append_assoc (wav_header blocks) (wav_blocks journal b) rest.more);
+    }
+
+-- ---- a file that is compared with it
+pub header_differs : (journal : List LoggedData) (file header : List ℕ) (blocks place : ℕ) → header ≡ wav_header blocks → IsFront (drop 0 file) header (Some place)
+    → IsFront file (wav journal blocks) (Some place)
+header_differs journal file header blocks place is differs =
+    let b = begins journal blocks 0 (omega arith) in
+    subst (λ (w : List ℕ). IsFront file w (Some place))
+    (ap (λ (h : List ℕ). h ++ b.more) (is ∙ sym (begun_none journal blocks)) ∙ sym b.is)
+    (first_differs file header b.more place differs)
+
+pub header_front : (journal : List LoggedData) (file header : List ℕ) (blocks : ℕ) → header ≡ wav_header blocks → IsFront (drop 0 file) header None
+    → IsFront file (begun journal blocks 0) None
+header_front journal file header blocks is (rest, same) = (rest, same ∙ ap (λ (h : List ℕ). h ++ rest) (is ∙ sym (begun_none journal blocks)))
+
+module _ (journal : List LoggedData) (file piece : List ℕ) (blocks from to at : ℕ) (is_at : at ≡ 44 + 128 * from)
+    (is : wav_blocks journal to ≡ wav_blocks journal from ++ piece) (front : IsFront file (begun journal blocks from) None) where
+  pub piece_front : IsFront (drop at file) piece None → IsFront file (begun journal blocks to) None
+  piece_front next =
+      subst (λ (l : List ℕ). IsFront file l None) (sym (begun_more journal blocks from to piece is))
+      (front_more file (begun journal blocks from) piece at front (is_at ∙ sym (length-begun journal blocks from)) next)
+
+  pub sound_differs : (place : ℕ) → to ≤ blocks → IsFront (drop at file) piece (Some place) → IsFront file (wav journal blocks) (Some (at + place))
+  sound_differs place within differs =
+      let b = begins journal blocks to within in
+      subst (λ (w : List ℕ). IsFront file w (Some (at + place)))
+      (ap (λ (l : List ℕ). l ++ b.more) (sym (begun_more journal blocks from to piece is)) ∙ sym b.is)
+      (front_differs file (begun journal blocks from) piece b.more at place front (is_at ∙ sym (length-begun journal blocks from)) differs)
+
+pub sound_front : (journal : List LoggedData) (file : List ℕ) (blocks b : ℕ) → b ≡ blocks → IsFront file (begun journal blocks b) None → IsFront file (wav journal blocks) None
+sound_front journal file blocks b is front = subst (λ (l : List ℕ). IsFront file l None) (begun_all journal blocks b is) front
+
+-- ---- a file that is written with it
+pub header_begins : (journal : List LoggedData) (blocks : ℕ) (header : List ℕ) → header ≡ wav_header blocks → Begins header (wav journal blocks)
+header_begins journal blocks header is =
+    let b = begins journal blocks 0 (omega arith) in
+    record { more = b.more; is = b.is ∙ ap (λ (h : List ℕ). h ++ b.more) (begun_none journal blocks ∙ sym is) }
+
+pub piece_begins : (journal : List LoggedData) (blocks from to : ℕ) (piece : List ℕ) → to ≤ blocks → wav_blocks journal to ≡ wav_blocks journal from ++ piece
+    → Begins (begun journal blocks from ++ piece) (wav journal blocks)
+piece_begins journal blocks from to piece within is =
+    let b = begins journal blocks to within in
+    record { more = b.more; is = b.is ∙ ap (λ (l : List ℕ). l ++ b.more) (begun_more journal blocks from to piece is) }
+
+pub header_begun : (journal : List LoggedData) (blocks : ℕ) (header : List ℕ) → header ≡ wav_header blocks → (out : List ℕ) (o : Option Files)
+    → option_map (with_out out header) o ≡ option_map (with_out out (begun journal blocks 0)) o
+header_begun journal blocks header is out o = ap (λ (l : List ℕ). option_map (with_out out l) o) (is ∙ sym (begun_none journal blocks))
+
+pub piece_begun : (journal : List LoggedData) (blocks from to : ℕ) (piece : List ℕ) → wav_blocks journal to ≡ wav_blocks journal from ++ piece → (out : List ℕ) (o : Option Files)
+    → option_map (with_out out (begun journal blocks from ++ piece)) o ≡ option_map (with_out out (begun journal blocks to)) o
+piece_begun journal blocks from to piece is out o = ap (λ (l : List ℕ). option_map (with_out out l) o) (sym (begun_more journal blocks from to piece is))
+
+pub sound_written : (journal : List LoggedData) (blocks b : ℕ) → b ≡ blocks → (out : List ℕ) (o : Option Files)
+    → option_map (with_out out (begun journal blocks b)) o ≡ option_map (with_out out (wav journal blocks)) o
+sound_written journal blocks b is out o = ap (λ (l : List ℕ). option_map (with_out out l) o) (begun_all journal blocks b is)

@@ -1,0 +1,31 @@
+use Rattle.std.proofs.Common.{◌≡◌, ◌∙◌, ap, sym, subst, true, false}
+use Rattle.std.specs.Prelude.{Option}
+use Rattle.outside.specs.Files.{Files, Lacks, file_of}
+use Rattle.tool_core.specs.Words.{Verify}
+use Rattle.tool_core.proofs.Endings.{refused_ends}
+use Rattle.tool_core.proofs.OrderEndings.{verify_stops, sound_stops_then, verify_ends}
+use Rattle.tool_core.proofs.verifying.verify.Goals as goal
+
+pub returns-in-Ok-compare_order : goal.returns-in-Ok-compare_order
+returns-in-Ok-compare_order g c =
+    let same = c.read_order_file.ensures.files in
+    let e = c.in-Ok-compare_order.ensures in
+    verify_ends c.args.file.now c.args.sound.now c.in-Ok.order c.in-Ok-compare_order.place _ _ _ c.in-Ok.ensures.good
+    (λ lacks. let f : false ≡ true = e.lacks (subst (λ (o : Option Files). Lacks o c.args.sound.now) (sym same) lacks) in absurd (cc))
+    (λ file is. e.compared file (ap (λ (o : Option Files). file_of o c.args.sound.now) same ∙ is))
+    (λ file is. e.within file (ap (λ (o : Option Files). file_of o c.args.sound.now) same ∙ is))
+    (e.kept ∙ c.in-Ok.ensures.kept) (e.writing ∙ c.read_order_file.ensures.writing) (e.files ∙ same)
+    c.put_comparison.ensures
+
+pub returns-in-Ok : goal.returns-in-Ok
+returns-in-Ok g c =
+    refused_ends (Verify c.args.file.now c.args.sound.now) c.in-Err-compare_order.why c.args.sound.now _ _ _
+    (sound_stops_then c.in-Err-compare_order.why c.args.file.now c.args.sound.now c.in-Ok.order _ _ _ _ _ c.read_order_file.ensures.files c.in-Ok.ensures.kept c.in-Ok.ensures.good
+    c.in-Err-compare_order.ensures.refused)
+    c.refuse.ensures.status c.refuse.ensures.line (c.compare_order.ensures.files ∙ c.read_order_file.ensures.files)
+
+pub returns : goal.returns
+returns g c =
+    refused_ends (Verify c.args.file.now c.args.sound.now) c.in-Err.why c.args.file.now _ _ _
+    (verify_stops c.in-Err.why c.args.file.now c.args.sound.now _ _ _ c.in-Err.ensures.refused)
+    c.refuse-in-Err.ensures.status c.refuse-in-Err.ensures.line c.read_order_file.ensures.files
