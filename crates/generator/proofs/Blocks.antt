@@ -3,7 +3,7 @@ use Rattle.std.proofs.Common.{◌≡◌, ◌≢◌, ℕ, zero, suc, ◌+◌, ◌
 use Rattle.std.specs.Prelude.{◌⊎◌}
 use Rattle.std.specs.List.{range_with_len, sum_by}
 use Rattle.std.proofs.lemmas.Bool.{cases_eq, cases_lt}
-use Rattle.std.proofs.lemmas.List.{length-map, get_or-set_same, get_or-set_other, get_or_read}
+use Rattle.std.proofs.lemmas.List.{length-map, get_or-set_same, get_or-set_other, length-set}
 use Rattle.std.proofs.lemmas.List.FromFn.{length-map-range_with_len}
 use Rattle.std.proofs.lemmas.List.Sums.{sum_by-cons, sum_by-set}
 use Rattle.command_set.specs.Entries.{EntryData, LoggedData}
@@ -64,38 +64,36 @@ few_of h j e below (inr behind) = (h.next j e behind below).count
 pub all_few : {seed n b k : ℕ} {scripts : List DrawnScript} {w : World} → IsInBlock seed n b k scripts w → (j : ℕ) (e : DrawnScript) → j < 4 → (get_or scripts j e).count ≤ n
 all_few {k} h j e below = few_of h j e below (cases_lt j k)
 
-pub may_send : (seed n b k : ℕ) (scripts : List DrawnScript) (script : DrawnScript) (w : World) → n ≤ 25000 → length scripts ≡ 4 → k < 4 → script ≡ get_or scripts k script
-    → (h : IsInBlock seed n b k scripts w) → CanSend k (script_seed seed k) n script w h.core
-may_send seed n b k scripts script w small four below is h =
-    let room : drawn_of scripts + (n - (get_or scripts k script).count) ≤ length scripts * n =
-    drawn_room n scripts k script (omega (arith, below, four)) (λ j e inside. all_few h j e (omega (arith, inside, four))) in
-    let same : (get_or scripts k script).count ≡ script.count = ap count_of (sym is) in
-    let wide : length scripts * n ≡ 4 * n = ap (λ (m : ℕ). m * n) four in
+pub may_send : (seed n b k : ℕ) (scripts : List DrawnScript) (e : DrawnScript) (w : World) → n ≤ 25000 → k < 4
+    → (h : IsInBlock seed n b k scripts w) → CanSend k (script_seed seed k) n (get_or scripts k e) w h.core
+may_send seed n b k scripts e w small below h =
+    let room : drawn_of scripts + (n - (get_or scripts k e).count) ≤ length scripts * n =
+    drawn_room n scripts k e (omega (arith, below, h.four)) (λ j d inside. all_few h j d (omega (arith, inside, h.four))) in
+    let wide : length scripts * n ≡ 4 * n = ap (λ (m : ℕ). m * n) h.four in
     record {
       stands = h.stands;
-      drawn = subst (IsDrawn (script_seed seed k)) (sym is) (h.drawn k script below);
+      drawn = h.drawn k e below;
       made = omega (arith, below, h.ends);
-      accepted = h.accepted k script below ∙ same;
-      few = omega (arith, all_few h k script below, same);
-      room = omega (arith, room, same, wide, small, h.all, h.places);
+      accepted = h.accepted k e below;
+      few = all_few h k e below;
+      room = omega (arith, room, wide, small, h.all, h.places);
     }
 
-pub next_script : (seed n b k : ℕ) (scripts : List DrawnScript) (before script : DrawnScript) (old new : World) → length scripts ≡ 4 → k < 4 → before ≡ get_or scripts k before
-    → (h : IsInBlock seed n b k scripts old) → HasSentTo h.core k (script_seed seed k) n before.count script new → AreBefore (script_seed seed k) n (b + 1) script.count
-    → before.count ≤ script.count → IsInBlock seed n b (k + 1) (set scripts k script) new
-next_script seed n b k scripts before script old new four below is h g last up =
+pub next_script : (seed n b k : ℕ) (scripts : List DrawnScript) (e script : DrawnScript) (old new : World) → k < 4
+    → (h : IsInBlock seed n b k scripts old) → HasSentTo h.core k (script_seed seed k) n (get_or scripts k e).count script new → AreBefore (script_seed seed k) n (b + 1) script.count
+    → (get_or scripts k e).count ≤ script.count → IsInBlock seed n b (k + 1) (set scripts k script) new
+next_script seed n b k scripts before script old new below h g last up =
     let d : Core = g.core in
     let s = g.sent in
     let own : ℕ = script_seed seed k in
-    let inside : k < length scripts = omega (arith, below, four) in
-    let count : (get_or scripts k before).count ≡ before.count = ap count_of (sym is) in
-    let first : AreBefore own n b before.count = subst (AreBefore own n b) count (h.next k before (omega arith) below) in
-    let more : List EntryData = map (entry own k) (range_with_len before.count (script.count - before.count)) in
-    let run : due_of own k b n ≡ more = due_run own k b n before.count script.count up first last in
-    let long : length d.waiting ≡ length h.core.waiting + (script.count - before.count) =
+    let from : ℕ = (get_or scripts k before).count in
+    let inside : k < length scripts = omega (arith, below, h.four) in
+    let more : List EntryData = map (entry own k) (range_with_len from (script.count - from)) in
+    let run : due_of own k b n ≡ more = due_run own k b n from script.count up (h.next k before (omega arith) below) last in
+    let long : length d.waiting ≡ length h.core.waiting + (script.count - from) =
     ap length s.waiting ∙ length-append h.core.waiting more
-    ∙ ap (λ (m : ℕ). length h.core.waiting + m) (length-map-range_with_len (entry own k) before.count (script.count - before.count)) in
-    let sums : drawn_of (set scripts k script) + (get_or scripts k before).count ≡ drawn_of scripts + script.count = sum_by-set count_of scripts k script before inside in
+    ∙ ap (λ (m : ℕ). length h.core.waiting + m) (length-map-range_with_len (entry own k) from (script.count - from)) in
+    let sums : drawn_of (set scripts k script) + from ≡ drawn_of scripts + script.count = sum_by-set count_of scripts k script before inside in
     record {
       core = d;
       stands = g.can.stands;
@@ -108,7 +106,8 @@ next_script seed n b k scripts before script old new four below is h g last up =
           ∙ ap (λ (front : List EntryData). front ++ more) h.waiting
           ∙ ap (λ (back : List EntryData). all_due_at seed n k b ++ back) (sym run)
           ∙ sym (flat_more (due_at seed n b) k);
-      all = omega (arith, ap length s.journal, long, sums, count, h.all, up);
+      four = length-set scripts k script ∙ h.four;
+      all = omega (arith, ap length s.journal, long, sums, h.all, up);
       accepted = λ j e low.
           changed (λ (i : ℕ) (x : DrawnScript). length (d.accepted i) ≡ x.count) scripts k j script e inside
           (λ same. s.own) (λ ne. ap length (s.others j ne) ∙ h.accepted j e low);
@@ -138,6 +137,7 @@ first_block seed n scripts w four stands none drawn =
       blocks = refl;
       journal = refl;
       waiting = refl;
+      four = four;
       all = omega (arith, sum);
       accepted = λ k d below. sym (none k d below);
       drawn = drawn;
@@ -165,9 +165,25 @@ next_block seed n b scripts old new h stands =
       blocks = ap (λ (now : ℕ). now + 1) h.blocks;
       journal = settled_is seed n b scripts old h;
       waiting = refl;
+      four = h.four;
       all = omega (arith, length-append c.journal (map (logged_at c.blocks) c.waiting), length-map c.waiting (logged_at c.blocks), h.all);
       accepted = h.accepted;
       drawn = h.drawn;
       past = λ k d below. absurd (omega (arith, below));
       next = λ k d high below. h.past k d below;
     }
+
+-- how many commands were played
+pub more_played : (seed n b : ℕ) (scripts : List DrawnScript) (w : World) (h : IsInBlock seed n b 4 scripts w)
+    → length (journal_below seed n (b + 1)) ≡ length (journal_below seed n b) + length h.core.waiting
+more_played seed n b scripts w h =
+    sym (ap length (settled_is seed n b scripts w h))
+    ∙ length-append h.core.journal (map (logged_at h.core.blocks) h.core.waiting)
+    ∙ omega (arith, ap length h.journal, length-map h.core.waiting (logged_at h.core.blocks))
+
+-- they are as many as were drawn, at most
+pub few_played : (seed n b : ℕ) (scripts : List DrawnScript) (w : World) → n ≤ 25000 → (h : IsInBlock seed n b 4 scripts w) → length (journal_below seed n b) + length h.core.waiting ≤ 100000
+few_played seed n b scripts w small h =
+    let most : drawn_of scripts ≤ length scripts * n = drawn_most n scripts (λ j e inside. all_few h j e (omega (arith, inside, h.four))) in
+    let wide : length scripts * n ≡ 4 * n = ap (λ (m : ℕ). m * n) h.four in
+    omega (arith, most, wide, small, h.all, ap length h.journal)

@@ -32,11 +32,12 @@ note_is seed p x0 x1 x2 x3 k key velocity at is1 isk low is2 iskey is3 isvelocit
     let same : k ≡ kind seed p = isk ∙ ap (below 8) s1 in
     let test : nat_lt (kind seed p) 4 ≡ true = lt-ltb (kind seed p) 4 (omega (arith, same, low)) in
     let keys : key ≡ draw seed (p + 3) 60 = iskey ∙ ap (below 60) s2 in
-    let velocities : velocity ≡ draw seed (p + 4) 127 = isvelocity ∙ ap (below 127) s3 in
-    (ap (λ (n : ℕ). StartsNote 0 (36 + n) (1 + velocity)) keys
-      ∙ ap (λ (n : ℕ). StartsNote 0 (36 + draw seed (p + 3) 60) (1 + n)) velocities
-      ∙ sym (cond-true (nat_lt (kind seed p) 4) _ _ test),
-    s3 ∙ ap (λ (n : ℕ). state seed (p + n)) (sym (cond-true (nat_lt (kind seed p) 4) 4 3 test)))
+    let velocities : velocity ≡ draw seed (p + 4) 127 = isvelocity ∙ ap (below 127) s3 in (
+      ap (λ (n : ℕ). StartsNote 0 (36 + n) (1 + velocity)) keys
+          ∙ ap (λ (n : ℕ). StartsNote 0 (36 + draw seed (p + 3) 60) (1 + n)) velocities
+          ∙ sym (cond-true (nat_lt (kind seed p) 4) _ _ test),
+      s3 ∙ ap (λ (n : ℕ). state seed (p + n)) (sym (cond-true (nat_lt (kind seed p) 4) 4 3 test)),
+    )
 
 -- a release
 
@@ -49,11 +50,12 @@ release_is seed p x0 x1 x2 k key at is1 isk high low is2 iskey =
     let s2 : x2 ≡ state seed (p + 3) = drawn_on seed (p + 2) (p + 3) x1 x2 s1 (omega arith) is2 in
     let same : k ≡ kind seed p = isk ∙ ap (below 8) s1 in
     let first : nat_lt (kind seed p) 4 ≡ false = le-ltb (kind seed p) 4 (omega (arith, same, high)) in
-    let second : nat_lt (kind seed p) 7 ≡ true = lt-ltb (kind seed p) 7 (omega (arith, same, low)) in
-    (ap (λ (n : ℕ). EndsNote 0 (36 + n)) (iskey ∙ ap (below 60) s2)
-      ∙ sym (cond-true (nat_lt (kind seed p) 7) _ _ second)
-      ∙ sym (cond-false (nat_lt (kind seed p) 4) _ _ first),
-    s2 ∙ ap (λ (n : ℕ). state seed (p + n)) (sym (cond-false (nat_lt (kind seed p) 4) 4 3 first)))
+    let second : nat_lt (kind seed p) 7 ≡ true = lt-ltb (kind seed p) 7 (omega (arith, same, low)) in (
+      ap (λ (n : ℕ). EndsNote 0 (36 + n)) (iskey ∙ ap (below 60) s2)
+          ∙ sym (cond-true (nat_lt (kind seed p) 7) _ _ second)
+          ∙ sym (cond-false (nat_lt (kind seed p) 4) _ _ first),
+      s2 ∙ ap (λ (n : ℕ). state seed (p + n)) (sym (cond-false (nat_lt (kind seed p) 4) 4 3 first)),
+    )
 
 -- an algorithm
 
@@ -66,11 +68,12 @@ algorithm_is seed p x0 x1 x2 k number at is1 isk high is2 isnumber =
     let s2 : x2 ≡ state seed (p + 3) = drawn_on seed (p + 2) (p + 3) x1 x2 s1 (omega arith) is2 in
     let same : k ≡ kind seed p = isk ∙ ap (below 8) s1 in
     let first : nat_lt (kind seed p) 4 ≡ false = le-ltb (kind seed p) 4 (omega (arith, same, high)) in
-    let second : nat_lt (kind seed p) 7 ≡ false = le-ltb (kind seed p) 7 (omega (arith, same, high)) in
-    (ap (λ (n : ℕ). SetsNumber 134 n) (isnumber ∙ ap (below 32) s2)
-      ∙ sym (cond-false (nat_lt (kind seed p) 7) _ _ second)
-      ∙ sym (cond-false (nat_lt (kind seed p) 4) _ _ first),
-    s2 ∙ ap (λ (n : ℕ). state seed (p + n)) (sym (cond-false (nat_lt (kind seed p) 4) 4 3 first)))
+    let second : nat_lt (kind seed p) 7 ≡ false = le-ltb (kind seed p) 7 (omega (arith, same, high)) in (
+      ap (λ (n : ℕ). SetsNumber 134 n) (isnumber ∙ ap (below 32) s2)
+          ∙ sym (cond-false (nat_lt (kind seed p) 7) _ _ second)
+          ∙ sym (cond-false (nat_lt (kind seed p) 4) _ _ first),
+      s2 ∙ ap (λ (n : ℕ). state seed (p + n)) (sym (cond-false (nat_lt (kind seed p) 4) 4 3 first)),
+    )
 
 pub algorithm_fits : (number : ℕ) → number < 32 → number ≤ greatest_value 134
 unfolding greatest_value

@@ -8,18 +8,16 @@ use Rattle.std.proofs.lemmas.List.FromFn.{map-range_with_len_more}
 use Rattle.command_set.specs.Command.{CommandData}
 use Rattle.command_set.specs.Entries.{EntryData}
 use Rattle.schedule_core.specs.Core.{Core, Send, step, queued, refused, next_entry}
-use Rattle.schedule_core.specs.World.{IsWorld, ends_of, accepted_of}
+use Rattle.schedule_core.specs.World.{IsWorld, ends_of, waiting_of, accepted_of}
 use Rattle.schedule_core.specs.declared.world.World.{World}
+use Rattle.schedule_core.proofs.Worlds.{how_many}
 use Rattle.generator.specs.Drawn.{command, due, entry}
 use Rattle.generator.specs.Scripts.{IsDrawn, AreBefore}
 use Rattle.generator.specs.Playing.{CanSend, IsSent, HasSentTo}
 use Rattle.generator.specs.declared.script.DrawnScript.{DrawnScript}
 
-pub ends_are : (w : World) (c : Core) → IsWorld w c → ends_of w ≡ c.scripts
-ends_are w c h = omega (arith, w.marks.ok, h.ends)
-
-pub accepted_are : (w : World) (c : Core) → IsWorld w c → (script : ℕ) → script < c.scripts → accepted_of w script ≡ length (c.accepted script)
-accepted_are w c h script below = ap (λ (m : _). m.accepted) (h.counts script (record { accepted = 0; refusals = 0; first = 0 }) below)
+pub waiting_are : (w : World) (c : Core) → IsWorld w c → waiting_of w ≡ length c.waiting
+waiting_are w c h = omega (arith, w.waiting.ok, how_many h)
 
 -- the core after a script's next command
 abbrev pub after_send : Core → ℕ → ℕ → ℕ → Core
@@ -40,21 +38,6 @@ others_stay : (c : Core) (number seed i k : ℕ) → k ≢ number → (grown c n
 others_stay c number seed i k ne =
     let e : EntryData = next_entry c number (due seed i) (command seed i) in
     cond-false (number == k) (c.accepted k ++ e ∷ []) (c.accepted k) (ne_eqb number k (λ same. ne (sym same)))
-
-pub can_go_on : (number seed commands : ℕ) (before now : DrawnScript) (world new : World) (c : Core) → CanSend number seed commands before world c → before.count < commands
-    → now.count ≡ before.count + 1 → IsDrawn seed now → IsWorld new (after_send c number seed before.count) → CanSend number seed commands now new (after_send c number seed before.count)
-can_go_on number seed commands before now world new c h more up drawn stands =
-    let room : length c.waiting < c.places = omega (arith, h.room, more) in
-    let is : after_send c number seed before.count ≡ grown c number seed before.count = send_is c number seed before.count room in
-    let e : EntryData = next_entry c number (due seed before.count) (command seed before.count) in
-    subst (λ (d : Core). CanSend number seed commands now new d) (sym is) (record {
-      stands = subst (λ (d : Core). IsWorld new d) is stands;
-      drawn = drawn;
-      made = h.made;
-      accepted = own_grows c number seed before.count ∙ omega (arith, h.accepted, up);
-      few = omega (arith, more, up);
-      room = omega (arith, h.room, more, up, length_push c.waiting e);
-    })
 
 pub none_sent : (c : Core) (number seed from : ℕ) → length (c.accepted number) ≡ from → IsSent c number seed from from c
 none_sent c number seed from own = record {

@@ -47,6 +47,7 @@ pub record IsInBlock (seed commands block sent : ℕ) (scripts : List DrawnScrip
   pub blocks : core.blocks ≡ block
   pub journal : core.journal ≡ journal_below seed commands block
   pub waiting : core.waiting ≡ all_due_at seed commands sent block
+  pub four : length scripts ≡ 4
   pub all : length core.journal + length core.waiting ≡ drawn_of scripts
   pub accepted : (k : ℕ) (d : DrawnScript) → k < 4 → length (core.accepted k) ≡ (slice_index_or scripts k d).count
   pub drawn : (k : ℕ) (d : DrawnScript) → k < 4 → IsDrawn (script_seed seed k) (slice_index_or scripts k d)

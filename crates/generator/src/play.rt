@@ -16,12 +16,12 @@ pub struct Played {
     pub sum: i64,
 }
 
-/// Plays four drawn scripts for 1 to 100,000 blocks on one thread, through a world of 100,000 places. Each script has a quarter as many
+/// Plays four drawn scripts for up to 100,000 blocks on one thread, through a world of 100,000 places. Each script has a quarter as many
 /// commands as there are blocks, and each block takes those that are due at it, in order of scripts.
 ///
 /// The one error is want of memory.
 pub fn play_drawn(alloc: Global, seed: u64, blocks: u32) -> Result<Played, AllocError>
-    requires blocks { (1 ≤ blocks) × (blocks ≤ 100000) }
+    requires { blocks ≤ 100000 }
     ensures commands { IfOk result (λ played. played.commands ≡ length (drawn_journal seed blocks)) }
     ensures sum { IfOk result (λ played. played.sum ≡ sum_of_samples (drawn_journal seed blocks) blocks) }
 {
