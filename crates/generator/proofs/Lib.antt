@@ -1,0 +1,7 @@
+pub mod Ranges
+pub mod Drawing
+pub mod Dues
+pub mod Lines
+pub mod Sends
+pub mod Blocks
+pub mod Sounds

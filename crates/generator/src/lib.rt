@@ -1,0 +1,15 @@
+//! Scripts of commands that are drawn from a number, and the sound of four of them through a world.
+#![tactic(auto)]
+
+mod draws;
+mod play;
+mod samples;
+mod script;
+mod send;
+mod text;
+
+pub use play::{Played, play_drawn};
+pub use text::script_text;
+
+#[cfg(test)]
+mod tests;
