@@ -1,7 +1,7 @@
 -- A block of the four scripts, script after script.
 use Rattle.std.proofs.Common.{◌≡◌, ◌≢◌, ℕ, zero, suc, ◌+◌, ◌-◌, ◌*◌, ◌<◌, ◌≤◌, List, [], ◌∷◌, ◌++◌, length, get_or, set, map, refl, sym, ◌∙◌, ap, subst, arith, inl, inr, length-append}
 use Rattle.std.specs.Prelude.{◌⊎◌}
-use Rattle.std.specs.List.{range_with_len, sum_by}
+use Rattle.std.specs.List.{range_with_len}
 use Rattle.std.proofs.lemmas.Bool.{cases_eq, cases_lt}
 use Rattle.std.proofs.lemmas.List.{length-map, get_or-set_same, get_or-set_other, length-set}
 use Rattle.std.proofs.lemmas.List.FromFn.{length-map-range_with_len}
@@ -12,7 +12,7 @@ use Rattle.schedule_core.specs.World.{IsWorld}
 use Rattle.schedule_core.specs.declared.world.World.{World}
 use Rattle.generator.specs.Drawn.{script_seed, entry, due_at, all_due_at, block_entries, journal_below}
 use Rattle.generator.specs.Scripts.{IsDrawn, AreBefore}
-use Rattle.generator.specs.Playing.{CanSend, IsSent, HasSentTo, IsInBlock, drawn_of}
+use Rattle.generator.specs.Playing.{CanSend, HasSentTo, IsInBlock, drawn_of}
 use Rattle.generator.specs.declared.script.DrawnScript.{DrawnScript}
 use Rattle.generator.proofs.Ranges.{flat_more}
 use Rattle.generator.proofs.Dues.{due_of, due_run, none_before}

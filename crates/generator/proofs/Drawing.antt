@@ -1,9 +1,9 @@
 -- What the numbers of a generator make of the next command.
-use Rattle.std.proofs.Common.{◌≡◌, ℕ, zero, suc, ◌+◌, ◌<◌, ◌≤◌, refl, sym, ◌∙◌, ap, arith, add-one}
+use Rattle.std.proofs.Common.{◌≡◌, ℕ, ◌+◌, ◌<◌, ◌≤◌, refl, sym, ◌∙◌, ap, arith, add-one}
 use Rattle.std.specs.Prelude.{nat_lt, true, false}
 use Rattle.std.proofs.lemmas.Bool.{lt-ltb, le-ltb, cond-true, cond-false}
 use Rattle.voice_record.specs.Voice.{greatest_value}
-use Rattle.command_set.specs.Command.{CommandData, StartsNote, EndsNote, SetsNumber}
+use Rattle.command_set.specs.Command.{StartsNote, EndsNote, SetsNumber}
 use Rattle.generator.specs.Draws.{next, state, below, draw}
 use Rattle.generator.specs.Drawn.{kind, command_at, draws_at, place, due}
 

@@ -1,20 +1,17 @@
 -- A script's commands are sent, one after the other.
 use Rattle.std.proofs.Common.{◌≡◌, ◌≢◌, ℕ, ◌+◌, ◌-◌, ◌<◌, ◌≤◌, List, [], ◌∷◌, ◌++◌, length, map, refl, sym, ◌∙◌, ap, subst, arith, append_assoc}
-use Rattle.std.specs.Prelude.{◌==◌, Bool, true, false, cond, nat_lt, vec_len}
+use Rattle.std.specs.Prelude.{◌==◌, nat_lt}
 use Rattle.std.specs.List.{range_with_len}
 use Rattle.std.proofs.lemmas.Bool.{eq-eqb, ne_eqb, lt-ltb, cond-true, cond-false}
 use Rattle.std.proofs.lemmas.List.{append-nil, length_push}
 use Rattle.std.proofs.lemmas.List.FromFn.{map-range_with_len_more}
-use Rattle.command_set.specs.Command.{CommandData}
 use Rattle.command_set.specs.Entries.{EntryData}
 use Rattle.schedule_core.specs.Core.{Core, Send, step, queued, refused, next_entry}
-use Rattle.schedule_core.specs.World.{IsWorld, ends_of, waiting_of, accepted_of}
+use Rattle.schedule_core.specs.World.{IsWorld, waiting_of}
 use Rattle.schedule_core.specs.declared.world.World.{World}
 use Rattle.schedule_core.proofs.Worlds.{how_many}
 use Rattle.generator.specs.Drawn.{command, due, entry}
-use Rattle.generator.specs.Scripts.{IsDrawn, AreBefore}
-use Rattle.generator.specs.Playing.{CanSend, IsSent, HasSentTo}
-use Rattle.generator.specs.declared.script.DrawnScript.{DrawnScript}
+use Rattle.generator.specs.Playing.{IsSent}
 
 pub waiting_are : (w : World) (c : Core) → IsWorld w c → waiting_of w ≡ length c.waiting
 waiting_are w c h = omega (arith, w.waiting.ok, how_many h)

@@ -1,5 +1,5 @@
 -- The sum of all samples, block after block.
-use Rattle.std.proofs.Common.{◌≡◌, ℕ, zero, suc, ◌+◌, ◌-◌, ◌/◌, ◌<◌, ◌≤◌, List, refl, sym, ◌∙◌, ap, subst, arith, ◌+ℤ◌, pos, fold}
+use Rattle.std.proofs.Common.{◌≡◌, ℕ, zero, suc, ◌+◌, ◌-◌, ◌/◌, ◌<◌, List, refl, sym, ◌∙◌, ap, subst, arith, ◌+ℤ◌, pos, fold}
 use Rattle.std.specs.List.{range_with_len, flat_map}
 use Rattle.std.proofs.lemmas.List.Sums.{fold-append}
 use Rattle.command_set.specs.Entries.{LoggedData}

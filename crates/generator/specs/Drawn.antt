@@ -13,18 +13,18 @@ use Rattle.generator.specs.Draws.{draw}
 unfoldable pub script_seed : ℕ → ℕ → ℕ
 script_seed seed script = (seed + 1000003 * script) % 2 ^ 64
 
--- Behind so many draws a command takes three or four: how many blocks pass, which of eight kinds it is, and its numbers. Four kinds are notes, three are releases,
--- and one sets the algorithm.
+-- Behind so many draws a command begins: the first draw says how many blocks pass, the second which of eight kinds it is.
 abbrev pub kind : ℕ → ℕ → ℕ
 kind seed place = draw seed (place + 2) 8
 
+-- that command with the numbers that are drawn for it: four kinds of eight are notes, three are releases, and one sets the algorithm
 unfoldable pub command_at : ℕ → ℕ → CommandData
 command_at seed place =
     if nat_lt (kind seed place) 4 then StartsNote 0 (36 + draw seed (place + 3) 60) (1 + draw seed (place + 4) 127)
     else if nat_lt (kind seed place) 7 then EndsNote 0 (36 + draw seed (place + 3) 60)
     else SetsNumber 134 (draw seed (place + 3) 32)
 
--- how many draws that command takes
+-- how many draws it takes
 unfoldable pub draws_at : ℕ → ℕ → ℕ
 draws_at seed place = if nat_lt (kind seed place) 4 then 4 else 3
 
@@ -42,7 +42,7 @@ unfoldable pub due : ℕ → ℕ → ℕ
 due seed zero = draw seed 1 8
 due seed (suc i) = due seed i + draw seed (place seed (suc i) + 1) 8
 
--- the line of command i
+-- the line `BLOCK TEXT` of command i
 abbrev pub line : ℕ → ℕ → List ℕ
 line seed i = spaced (decimal (due seed i)) (text (command seed i) ∷ []) ++ 10 ∷ []
 

@@ -1,7 +1,6 @@
 -- How a world and four drawn scripts stand for the journal so far.
-use Rattle.std.specs.Prelude.{ℕ, ◌≡◌, ◌≢◌, ◌+◌, ◌-◌, ◌<◌, ◌≤◌, List, [], ◌∷◌, ◌++◌, length, map, slice_index_or}
+use Rattle.std.specs.Prelude.{ℕ, ◌≡◌, ◌≢◌, ◌+◌, ◌-◌, ◌<◌, ◌≤◌, List, ◌++◌, length, map, slice_index_or}
 use Rattle.std.specs.List.{range_with_len, sum_by}
-use Rattle.command_set.specs.Entries.{EntryData}
 use Rattle.schedule_core.specs.Core.{Core}
 use Rattle.schedule_core.specs.World.{IsWorld}
 use Rattle.schedule_core.specs.declared.world.World.{World}

@@ -52,6 +52,12 @@ impl DrawnScript {
     }
 }
 
+/// Of eight kinds those below this one are notes.
+const FIRST_RELEASE: u8 = 4;
+
+/// Those from the first release on and below this one are releases, and the others set the algorithm.
+const FIRST_ALGORITHM: u8 = 7;
+
 /// Draws a command's kind and its numbers.
 fn draw_command(draws: &mut Draws) -> Command
     ensures range { IsInRange (content result) }
@@ -59,7 +65,7 @@ fn draw_command(draws: &mut Draws) -> Command
     ensures state { (seed place : ℕ) → draws.old.state ≡ state seed (place + 1) → draws.new.state ≡ state seed (place + draws_at seed place) }
 {
     let kind = draws.draw(8);
-    if kind < 4 {
+    if kind < FIRST_RELEASE {
         let key = draws.draw(60);
         let velocity = draws.draw(127);
         Command::NoteOn {
@@ -67,7 +73,7 @@ fn draw_command(draws: &mut Draws) -> Command
             key: 36 + key,
             velocity: 1 + velocity,
         }
-    } else if kind < 7 {
+    } else if kind < FIRST_ALGORITHM {
         let key = draws.draw(60);
         Command::NoteOff {
             channel: 0,

@@ -1,9 +1,9 @@
-use Rattle.std.proofs.Common.{◌≡◌, ℕ, ◌+◌, ◌/◌, ◌<◌, ◌≤◌, ◌≤ℤ◌, List, length, refl, sym, ◌∙◌, ap, arith, ℤ, pos, ◌+ℤ◌, fold, w64, SFits, rules}
+use Rattle.std.proofs.Common.{◌≡◌, ℕ, ◌+◌, ◌/◌, ◌≤◌, List, length, refl, sym, ◌∙◌, ap, arith, ℤ, ◌+ℤ◌, fold, w64, SFits, rules}
 use Rattle.std.proofs.lemmas.Int.{ints, to_z-of_z}
 use Rattle.command_set.specs.Entries.{LoggedData}
 use Rattle.instrument.specs.Journal.{sound}
 use Rattle.schedule_core.specs.Core.{Core, step, Settle}
-use Rattle.schedule_core.specs.World.{IsWorld, waiting_of}
+use Rattle.schedule_core.specs.World.{IsWorld}
 use Rattle.generator.specs.Drawn.{drawn_journal, journal_below}
 use Rattle.generator.proofs.Sends.{waiting_are}
 use Rattle.generator.proofs.Blocks.{first_block, next_block, settled_is, more_played, few_played}

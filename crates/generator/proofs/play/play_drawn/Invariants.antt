@@ -1,4 +1,4 @@
-use Rattle.std.proofs.Common.{◌≡◌, ◌*◌, ◌/◌, length, pos, ◌-ℤ◌, ◌≤ℤ◌}
+use Rattle.std.proofs.Common.{◌≡◌, ◌*◌, length, pos, ◌-ℤ◌, ◌≤ℤ◌}
 use Rattle.generator.specs.Drawn.{drawn_journal, journal_below, sum_of_samples}
 use Rattle.generator.specs.Playing.{IsInBlock}
 use Rattle.generator.proofs.play.play_drawn.Given as goal

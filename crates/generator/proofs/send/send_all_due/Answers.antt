@@ -1,4 +1,4 @@
-use Rattle.std.proofs.Common.{◌≡◌, ℕ, ◌<◌, arith}
+use Rattle.std.proofs.Common.{ℕ, arith}
 use Rattle.generator.specs.Drawn.{script_seed}
 use Rattle.generator.proofs.Blocks.{may_send, next_script}
 use Rattle.generator.proofs.send.send_all_due.Goals as goal

@@ -1,11 +1,10 @@
 use Rattle.std.proofs.Common.{◌≡◌, ℕ, ◌+◌, ◌<◌, ◌≤◌, sym, subst, arith, inl, inr, ap}
-use Rattle.std.specs.Prelude.{◌⊎◌, length}
+use Rattle.std.specs.Prelude.{◌⊎◌}
 use Rattle.std.proofs.lemmas.Bool.{cases_lt}
 use Rattle.schedule_core.specs.Core.{Core}
 use Rattle.generator.specs.Drawn.{due}
-use Rattle.generator.specs.Scripts.{IsDrawn}
 use Rattle.generator.specs.Playing.{IsSent}
-use Rattle.generator.proofs.Sends.{after_send, one_sent, none_sent}
+use Rattle.generator.proofs.Sends.{after_send, one_sent}
 use Rattle.generator.proofs.send.send_due.Goals as goal
 
 pub send_next-requires-clause-ready : goal.send_next-requires-clause-ready

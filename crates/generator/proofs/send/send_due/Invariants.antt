@@ -1,4 +1,4 @@
-use Rattle.std.proofs.Common.{◌≡◌, ℕ, ◌+◌, ◌-◌, ◌<◌, ◌≤◌}
+use Rattle.std.proofs.Common.{ℕ, ◌+◌, ◌-◌, ◌<◌, ◌≤◌}
 use Rattle.schedule_core.specs.Core.{Core}
 use Rattle.generator.specs.Drawn.{due}
 use Rattle.generator.specs.Scripts.{IsDrawn}

@@ -1,4 +1,4 @@
-use Rattle.std.proofs.Common.{◌≡◌, ℕ, ◌∙◌, ap}
+use Rattle.std.proofs.Common.{◌∙◌, ap}
 use Rattle.generator.specs.Draws.{next}
 use Rattle.generator.proofs.Drawing.{begins}
 use Rattle.generator.proofs.script.DrawnScript.new.Goals as goal
