@@ -391,3 +391,10 @@ only_put None s reading now_reading written now_written faults now_faults words 
     let one : s ≡ 1 = words.1 refl in absurd (omega arith)
 only_put (Some asked) s reading now_reading written now_written faults now_faults words unwritten is =
     elim (unwritten is).failed [ inl out ↦ absurd (omega (arith, out.cause)) | inr rep ↦ rep.cause ]
+
+pub only_verify : (o : Option Asked) (s reading now_reading writing now_writing : ℕ) (now_files : Option Files) (written now_written : Option (List ℕ)) (faults now_faults : ℕ)
+    → (s ≡ 7 → IfSome o (λ asked. IsDifferent asked (record { files = None; reading = reading; writing = writing; written = written; faults = faults })
+    (record { files = now_files; reading = now_reading; writing = now_writing; written = now_written; faults = now_faults })))
+    → s ≡ 7 → IfSome o IsVerify
+only_verify None s reading now_reading writing now_writing now_files written now_written faults now_faults different is = tt
+only_verify (Some asked) s reading now_reading writing now_writing now_files written now_written faults now_faults different is = (different is).verify

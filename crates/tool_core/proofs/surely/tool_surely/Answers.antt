@@ -1,4 +1,4 @@
-use Rattle.tool_core.proofs.Endings.{never_unread, only_put}
+use Rattle.tool_core.proofs.Endings.{never_unread, only_put, only_verify}
 use Rattle.tool_core.proofs.surely.tool_surely.Goals as goal
 
 pub returns-clause-read : goal.returns-clause-read
@@ -6,3 +6,6 @@ returns-clause-read g c = never_unread _ _ _ _ _ _ _ _ _ c.tool_main.ensures.wor
 
 pub returns-clause-write : goal.returns-clause-write
 returns-clause-write g c = only_put _ _ _ _ _ _ _ _ c.tool_main.ensures.words c.tool_main.ensures.unwritten
+
+pub returns-clause-different : goal.returns-clause-different
+returns-clause-different g c = only_verify _ _ _ _ _ _ _ _ _ _ _ c.tool_main.ensures.different
