@@ -1,8 +1,8 @@
 -- How commands end.
 use Rattle.std.proofs.Common.{◌≡◌, ◌⊎◌, inl, inr, ℕ, List, [], ◌∷◌, refl, sym, ◌∙◌, ap, subst, arith, ◌≢◌, ◌↔◌}
-use Rattle.std.specs.Prelude.{Option, Some, None, IfSome, option_map, is_some, false, unwrap_or}
-use Rattle.std.specs.FinMap.{insert, get, contains_key}
-use Rattle.outside.specs.Files.{Files, Lacks, said, SaidSome}
+use Rattle.std.specs.Prelude.{Option, Some, None, IfSome, option_map, unwrap_or}
+use Rattle.std.specs.FinMap.{insert, get}
+use Rattle.outside.specs.Files.{Files, said, SaidSome}
 use Rattle.outside.specs.Faults.{Rose}
 use Rattle.cartridge.specs.Cartridge.{voice_at, IsMessageOf}
 use Rattle.sysex_frame.specs.Frame.{IsFrame, VoiceDump}

@@ -40,7 +40,7 @@ same_line = codes "same" ++ 10 ∷ []
 unfoldable pub differs_line : ℕ → List ℕ
 differs_line place = codes "differs at " ++ (decimal place ++ 10 ∷ [])
 
--- what is wrong with a line of an order
+-- what is wrong with a line of an order; that there are too many entries is told by the line of that limit
 unfoldable pub kind_text : OrderKind → List ℕ
 kind_text Line = codes "line"
 kind_text Block = codes "block"

@@ -174,6 +174,7 @@ pub record IsPastLimit (asked : Asked) (before now : Moment) : Type 0 where
   pub limit : (IsDecided asked before.files TooLarge × Tells limit_file before now) ⊎ (IsDecided asked before.files TooMany × Tells limit_commands before now)
   pub files : now.files ≡ before.files
 
+-- the command compares a sound file
 abbrev pub IsVerify : Asked → Type 0
 IsVerify (Check file) = ⊥
 IsVerify (Names file) = ⊥

@@ -52,7 +52,8 @@ fn place_of(place: Option<u32>, size: u32, count: u32) -> Option<u32>
 {
     match place {
         Some(place) => Some(place),
-        None => { if count > size { Some(size) } else { None } }
+        None if count > size => Some(size),
+        None => None,
     }
 }
 

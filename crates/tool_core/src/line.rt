@@ -1,6 +1,6 @@
 //! Lines of text.
 
-ghost use Rattle.std.specs.Prelude.{◌≡◌, ◌+◌, ◌≤◌, ◌^◌, ◌<◌, ◌&&◌, [], ◌∷◌, ◌++◌, length, map, decimal, nat_le, slice_range, if◌then◌else◌};
+ghost use Rattle.std.specs.Prelude.{◌≡◌, ◌+◌, ◌≤◌, ◌<◌, ◌++◌, length, map, decimal};
 ghost use Rattle.sysex_frame.specs.declared.frame.FrameFault.{FrameFault};
 ghost use Rattle.tool_core.specs.Lines as lines;
 ghost use Rattle.tool_core.specs.Lines.{shown, shown_name};

@@ -4,7 +4,7 @@ ghost use Rattle.std.specs.Prelude.{ℕ, ◌≡◌, ◌≤◌, ◌<◌, ◌+◌,
 ghost use Rattle.std.specs.Option.{option_or};
 ghost use Rattle.midi_stream.specs.Messages.{is_unfinished};
 ghost use Rattle.cartridge.specs.Cartridge.{voices_of};
-ghost use Rattle.sysex_frame.specs.Frame.{Content, content_of};
+ghost use Rattle.sysex_frame.specs.Frame.{content_of};
 ghost use Rattle.tool_core.specs.Exclusives.{Exclusive, exclusives, exclusives_before, is_too_long};
 ghost use Rattle.tool_core.specs.Passes.{Follows, TellsOf};
 ghost use Rattle.tool_core.specs.Refusals.{cartridge_bytes, clamped_voice, fault_at, voice_bytes};

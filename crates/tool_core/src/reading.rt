@@ -2,14 +2,11 @@
 
 ghost use Rattle.std.specs.Prelude.{ℕ, ◌≡◌, ◌≤◌, Some, None, List, IfOk, IfErr, IfSome, OnOk, length};
 ghost use Rattle.std.specs.FinMap.{get};
-ghost use Rattle.std.specs.Option.{option_or};
 ghost use Rattle.midi_stream.specs.Messages.{is_unfinished};
-ghost use Rattle.tool_core.specs.Exclusives.{exclusives};
 ghost use Rattle.tool_core.specs.Outcomes.{cartridge_of, voice_of};
 ghost use Rattle.tool_core.specs.Passes.{Follows};
 ghost use Rattle.tool_core.specs.Refusals as refusals;
-ghost use Rattle.tool_core.specs.Refusals.{cartridge_in, cut_refusal, refusal, refusal_in, voice_in};
-ghost use Rattle.tool_core.specs.Surveys.{Surveys};
+ghost use Rattle.tool_core.specs.Refusals.{cartridge_in, cut_refusal, refusal, voice_in};
 ghost use Rattle.tool_core.specs.Troubles.{HasReason, IsContentTrouble, IsJudged, IsReadTrouble};
 ghost use Rattle.tool_core.specs.Verdicts as verdicts;
 
