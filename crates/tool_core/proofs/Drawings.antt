@@ -9,7 +9,8 @@ use Rattle.outside.specs.Files.{Files, file_of}
 use Rattle.outside.proofs.Shelves.{get-insert_same, get-insert_other}
 use Rattle.generator.specs.Drawn.{generated_text}
 use Rattle.tool_core.specs.Lines.{script_name}
-use Rattle.tool_core.specs.Outcomes.{BeginsOut}
+use Rattle.tool_core.specs.Words.{Gen}
+use Rattle.tool_core.specs.Outcomes.{BeginsOut, AreBegun, Reports}
 use Rattle.tool_core.specs.declared.generating.ScriptFile.{ScriptFile}
 use Rattle.tool_core.specs.Scripts.{IsScript, AreScripts, AreDrawn, StopsAt}
 use Rattle.tool_core.proofs.Writings.{with_out}
@@ -28,7 +29,7 @@ drawn_none (Some told) seed commands = record { whole = λ k below. absurd (omeg
 
 each_more : (P : ℕ → Type 0) (k j : ℕ) → ((i : ℕ) → i < k → P i) → P k → j < k + 1 → P j
 each_more P k j before this below =
-    elim (eq-or-lt_of_le {j} {k} (omega arith)) [
+    elim (eq-or-lt_of_le {n = j} {m = k} (omega arith)) [
       | inl is ↦ subst P (sym is) this
       | inr less ↦ before j less
     ]
@@ -102,3 +103,13 @@ scripts_more seed commands n files now file count were is this k d below =
     (λ i less. subst (λ (f : ScriptFile). IsScript seed commands i f) (sym (get_or_append_left files (file ∷ []) d i (omega arith))) (were i d (omega arith)))
     (subst (λ (f : ScriptFile). IsScript seed commands n f) (sym (get_or_push files file d n count)) this)
     (let longer : length now ≡ length files + 1 = ap length is ∙ length-append files (file ∷ []) in omega arith))
+
+pub stopped_begun : (o now : Option Files) (seed commands scripts k : ℕ) (name : List ℕ) → k < scripts → name ≡ script_name k
+    → IfSome o (λ told. StopsAt seed commands scripts k told now) → IfSome o (λ told. AreBegun (Gen seed scripts commands) told now name)
+stopped_begun None now seed commands scripts k name less is stops = tt
+stopped_begun (Some told) now seed commands scripts k name less is stops = (k, less, is, stops)
+
+-- a report of this text
+pub reports_same : (line text : List ℕ) (status : ℕ) (before now : Option (List ℕ)) (faults_before faults_now : ℕ) → line ≡ text
+    → Reports line status before now faults_before faults_now → Reports text status before now faults_before faults_now
+reports_same line text status before now faults_before faults_now is put = subst (λ (l : List ℕ). Reports l status before now faults_before faults_now) is put
