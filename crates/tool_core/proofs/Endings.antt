@@ -10,12 +10,12 @@ use Rattle.tool_core.specs.declared.trouble.Trouble.{Trouble}
 use Rattle.tool_core.specs.declared.trouble.Trouble.TheVariants as trouble
 use Rattle.tool_core.specs.Verdicts.{Verdict, Lacking, Good, Refused, TooLarge, TooMany, AreJudged}
 use Rattle.tool_core.specs.Refusals.{Wanted}
-use Rattle.tool_core.specs.Words.{Asked, Check, Names, Pick, Pack, Replay, Verify}
-use Rattle.tool_core.specs.Decisions.{IsAmong, Decides, IsDecided, read_by}
+use Rattle.tool_core.specs.Words.{Asked, Check, Names, Pick, Pack, Replay, Verify, Gen, Bench}
+use Rattle.tool_core.specs.Decisions.{IsAmong, Decides, IsDecided, IsReading, read_by}
 use Rattle.tool_core.specs.Orders.{IsOrderVerdict}
 use Rattle.tool_core.specs.Lines.{ok_line, cannot_write, differs_line, check_report, list_report}
 use Rattle.tool_core.specs.Pages.{FailsIn}
-use Rattle.tool_core.specs.Outcomes.{Answers, Reports, Finishes, Moment, Tells, Ends, IsDone, IsUnread, IsUnwritten, IsRefused, IsPastLimit, IsDifferent, IsOutOfMemory, IsSame, IsOther, IsReport, IsVerify, FailsOut, FailsReport, AreWritten, AreBegun, TellsOfWrite, BeginsOut, done_by, report, OnSuccess, IsOneOf, cartridge_of, picked, packed}
+use Rattle.tool_core.specs.Outcomes.{Answers, Reports, Finishes, Moment, Tells, Ends, IsDone, IsUnread, IsUnwritten, IsRefused, IsPastLimit, IsDifferent, IsOutOfMemory, IsSame, IsOther, IsReport, IsVerify, FailsOut, FailsReport, AreWritten, AreBegun, IsWritten, BeginsOut, done_by, report, OnSuccess, IsOneOf, cartridge_of, picked, packed}
 use Rattle.tool_core.specs.Troubles.{HasReasonAmong, Stops, status_of, line_of}
 
 -- why a command on files of messages refuses
@@ -29,18 +29,18 @@ stops_among (trouble.Refused why) asked wanted files names name before now judge
 stops_among trouble.Memory asked wanted files names name before now judged among reason = reason
 
 pub refused_ends : (asked : Asked) (why : Trouble) (name : List ℕ) (before now : Moment) (status : ℕ)
-    → Stops why asked before.files name before.reading now.reading
+    → IsReading asked → Stops why asked before.files name before.reading now.reading
     → status ≡ status_of why → Tells (line_of why name) before now → now.files ≡ before.files
     → Ends asked status before now
-refused_ends asked trouble.Unread name before now status reason is line files =
+refused_ends asked trouble.Unread name before now status reads reason is line files =
     inr (inl (is, record { name = name; named = reason.0; cause = reason.1; first = reason.2; files = files; line = line }))
-refused_ends asked trouble.TooLarge name before now status reason is line files =
-    inr (inr (inr (inr (inl (is, record { limit = inl (reason.1, line); files = files })))))
-refused_ends asked trouble.TooMany name before now status reason is line files =
-    inr (inr (inr (inr (inl (is, record { limit = inr (reason.1, line); files = files })))))
-refused_ends asked (trouble.Refused why) name before now status reason is line files =
-    inr (inr (inr (inl (is, record { why = why; refused = reason.1; files = files; line = line }))))
-refused_ends asked trouble.Memory name before now status reason is line files =
+refused_ends asked trouble.TooLarge name before now status reads reason is line files =
+    inr (inr (inr (inr (inl (is, record { reads = reads; limit = inl (reason.1, line); files = files })))))
+refused_ends asked trouble.TooMany name before now status reads reason is line files =
+    inr (inr (inr (inr (inl (is, record { reads = reads; limit = inr (reason.1, line); files = files })))))
+refused_ends asked (trouble.Refused why) name before now status reads reason is line files =
+    inr (inr (inr (inl (is, record { reads = reads; why = why; refused = reason.1; files = files; line = line }))))
+refused_ends asked trouble.Memory name before now status reads reason is line files =
     inr (inr (inr (inr (inr (inr (is, record { files = files; line = line }))))))
 
 pub memory_ends : (asked : Asked) (before now : Moment) (status : ℕ) → status ≡ 8 → Tells (line_of trouble.Memory []) before now → now.files ≡ before.files → Ends asked status before now
@@ -121,7 +121,7 @@ read_first asked status files mid_files reading mid_reading writing mid_writing 
 pub record HasOut (asked : Asked) (files : Files) (name text : List ℕ) : Type 0 where
   pub same : IsSame asked files
   pub whole : AreWritten asked files (Some (insert files name text))
-  pub begun : (now : Option Files) → BeginsOut files now name text → AreBegun asked files now
+  pub begun : (now : Option Files) → BeginsOut files now name text → AreBegun asked files now name
   pub answer : report asked files ≡ ok_line
 
 inserted : (files now : Option Files) (asked : Asked) (name text : List ℕ) → IfSome files (λ told. HasOut asked told name text)
@@ -130,7 +130,7 @@ inserted None now asked name text out is = tt
 inserted (Some told) now asked name text out is = rw is out.whole
 
 begun : (files now : Option Files) (asked : Asked) (name text : List ℕ) → IfSome files (λ told. HasOut asked told name text)
-    → IfSome files (λ told. BeginsOut told now name text) → IfSome files (λ told. AreBegun asked told now)
+    → IfSome files (λ told. BeginsOut told now name text) → IfSome files (λ told. AreBegun asked told now name)
 begun None now asked name text out is = tt
 begun (Some told) now asked name text out is = out.begun now is
 
@@ -146,15 +146,15 @@ same_out (Some told) asked name text out = out.same
 
 pub finished_ends : (asked : Asked) (name text : List ℕ) (before now : Moment) (status : ℕ)
     → IsDecided asked before.files Good → IfSome before.files (λ files. HasOut asked files name text)
-    → (Tells (cannot_write name) before now → TellsOfWrite asked before now)
+    → IsWritten asked name
     → Finishes name text status before now
     → Ends asked status before now
-finished_ends asked name text before now status good out line (reading, inl (writing, files, reports)) =
+finished_ends asked name text before now status good out named (reading, inl (writing, files, reports)) =
     reported_ends asked ok_line before now status good (same_out before.files asked name text out) reading writing (inserted before.files now.files asked name text out files)
     (answered before.files asked name text out) reports
-finished_ends asked name text before now status good out line (reading, inr (is, fails)) =
+finished_ends asked name text before now status good out named (reading, inr (is, fails)) =
     unwritten_ends asked before now status is good reading
-    (inl (record { cause = fails.cause; begun = begun before.files now.files asked name text out fails.begun; line = line fails.line }))
+    (inl (record { name = name; named = named; cause = fails.cause; begun = begun before.files now.files asked name text out fails.begun; line = fails.line }))
 
 -- ---- each status by itself
 pub ends_0 : (asked : Asked) (s : ℕ) (b n : Moment) → Ends asked s b n → s ≡ 0 → IsDone asked b n
@@ -257,6 +257,8 @@ only_good (Replay order out) told it good is = order_good (get told order) it go
 only_good (Verify order sound) told it (inl (good, never)) is = absurd (never refl)
 only_good (Verify order sound) told it (inr (good, there)) (inl (is, never)) = order_good (get told order) it good is
 only_good (Verify order sound) told it (inr (good, there)) (inr (also, is)) = sym is ∙ there
+only_good (Gen seed scripts commands) told it good is = is
+only_good (Bench seed blocks) told it good is = is
 
 never_decided : (asked : Asked) (told : Files) (files : Option Files) (it : Verdict) → files ≡ Some told → (it ≡ Good → ⊥) → Decides asked told Good → IsDecided asked files it → ⊥
 never_decided asked told files it same never good is =
@@ -269,6 +271,8 @@ zero_done (Pick file slot out) s p = inl p
 zero_done (Pack out names) s p = inl p
 zero_done (Replay order out) s p = inl p
 zero_done (Verify order sound) s p = inl p
+zero_done (Gen seed scripts commands) s p = inl p
+zero_done (Bench seed blocks) s p = inl p
 
 eight_done : (asked : Asked) (s : ℕ) → s ≡ 8 → IsOneOf s (done_by asked)
 eight_done (Check file) s p = inr (inl p)
@@ -277,6 +281,8 @@ eight_done (Pick file slot out) s p = inr (inl p)
 eight_done (Pack out names) s p = inr (inl p)
 eight_done (Replay order out) s p = inr (inl p)
 eight_done (Verify order sound) s p = inr (inr (inl p))
+eight_done (Gen seed scripts commands) s p = inr (inl p)
+eight_done (Bench seed blocks) s p = inr (inl p)
 
 seven_done : (asked : Asked) (s : ℕ) → IsVerify asked → s ≡ 7 → IsOneOf s (done_by asked)
 seven_done (Check file) s v p = absurd v
@@ -285,6 +291,8 @@ seven_done (Pick file slot out) s v p = absurd v
 seven_done (Pack out names) s v p = absurd v
 seven_done (Replay order out) s v p = absurd v
 seven_done (Verify order sound) s v p = inr (inl p)
+seven_done (Gen seed scripts commands) s v p = absurd v
+seven_done (Bench seed blocks) s v p = absurd v
 
 success : (asked : Asked) (s : ℕ) (told : Files) (b n : Moment) → b.files ≡ Some told → Ends asked s b n
     → Decides asked told Good

@@ -11,3 +11,4 @@ pub mod Packs
 pub mod Fronts
 pub mod Sounds
 pub mod OrderEndings
+pub mod Drawings

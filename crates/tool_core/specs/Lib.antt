@@ -8,6 +8,7 @@ pub mod Orders
 pub mod Comparisons
 pub mod Decisions
 pub mod Lines
+pub mod Scripts
 pub mod Outcomes
 pub mod Pages
 pub mod Troubles

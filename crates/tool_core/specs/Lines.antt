@@ -1,6 +1,7 @@
 -- The lines that are printed.
-use Rattle.std.specs.Prelude.{ℕ, zero, suc, ◌&&◌, nat_le, List, [], ◌∷◌, ◌++◌, length, map, slice_range, codes, decimal, Option, Some, None, if◌then◌else◌}
+use Rattle.std.specs.Prelude.{ℕ, ℤ, zero, suc, ◌&&◌, nat_le, List, [], ◌∷◌, ◌++◌, length, map, slice_range, codes, decimal, Option, Some, None, if◌then◌else◌}
 use Rattle.std.specs.List.{flat_map}
+use Rattle.std.specs.Fmt.{signed_decimal}
 use Rattle.cartridge.specs.Cartridge.{voice_at}
 use Rattle.sysex_frame.specs.Frame.{Content, VoiceDump, CartridgeDump, ParamChange, OtherChange, DumpRequest}
 use Rattle.sysex_frame.specs.declared.frame.FrameFault.{FrameFault}
@@ -39,6 +40,19 @@ same_line = codes "same" ++ 10 ∷ []
 -- the first place at which two files differ
 unfoldable pub differs_line : ℕ → List ℕ
 differs_line place = codes "differs at " ++ (decimal place ++ 10 ∷ [])
+
+-- the name of the file of a drawn script
+unfoldable pub script_name : ℕ → List ℕ
+script_name script = codes "gen-" ++ (decimal script ++ codes ".txt")
+
+-- how many scripts were written, and the commands of all
+unfoldable pub scripts_line : ℕ → ℕ → List ℕ
+scripts_line scripts commands = codes "scripts " ++ (decimal scripts ++ (codes " commands " ++ (decimal commands ++ 10 ∷ [])))
+
+-- how many commands were played in how many blocks, and the sum of all samples
+unfoldable pub bench_line : ℕ → ℕ → ℤ → List ℕ
+bench_line commands blocks sum =
+    codes "commands " ++ (decimal commands ++ (codes " blocks " ++ (decimal blocks ++ (codes " sum " ++ (signed_decimal sum ++ 10 ∷ [])))))
 
 -- what is wrong with a line of an order; that there are too many entries is told by the line of that limit
 unfoldable pub kind_text : OrderKind → List ℕ

@@ -1,5 +1,5 @@
 -- What a command leaves, by its status.
-use Rattle.std.specs.Prelude.{◌≡◌, ◌≢◌, ◌⊎◌, ℕ, ◌-◌, ◌≤◌, List, [], ◌∷◌, ◌++◌, length, take, map, replicate, Option, Some, None, IfSome, option_map, unwrap_or}
+use Rattle.std.specs.Prelude.{◌≡◌, ◌≢◌, ◌⊎◌, ℕ, ◌-◌, ◌*◌, ◌<◌, ◌≤◌, List, [], ◌∷◌, ◌++◌, length, take, map, replicate, Option, Some, None, IfSome, IsSomeAnd, option_map, unwrap_or}
 use Rattle.std.specs.FinMap.{get, insert}
 use Rattle.outside.specs.Files.{Files, Lacks, content, file_of, said, SaidSome}
 use Rattle.outside.specs.Faults.{Rose}
@@ -12,9 +12,11 @@ use Rattle.take_files.specs.Orders.{IsOrder, OrderData}
 use Rattle.tool_core.specs.Refusals.{voice_in, cartridge_in}
 use Rattle.tool_core.specs.Verdicts.{Lacking, TooLarge, TooMany, Refused, Good}
 use Rattle.tool_core.specs.Comparisons.{DiffersAt}
-use Rattle.tool_core.specs.Words.{Asked, Check, Names, Pick, Pack, Replay, Verify}
-use Rattle.tool_core.specs.Decisions.{IsAmong, Decides, IsDecided, read_by}
-use Rattle.tool_core.specs.Lines.{cannot_read, cannot_write, limit_file, limit_commands, out_of_memory, ok_line, same_line, differs_line, refusal_line, check_report, list_report}
+use Rattle.tool_core.specs.Words.{Asked, Check, Names, Pick, Pack, Replay, Verify, Gen, Bench}
+use Rattle.tool_core.specs.Decisions.{IsAmong, Decides, IsDecided, IsReading, read_by}
+use Rattle.tool_core.specs.Lines.{cannot_read, cannot_write, limit_file, limit_commands, out_of_memory, ok_line, same_line, differs_line, refusal_line, check_report, list_report, script_name, scripts_line, bench_line}
+use Rattle.generator.specs.Drawn.{drawn_journal, sum_of_samples}
+use Rattle.tool_core.specs.Scripts.{IsBegun, AreDrawn, StopsAt}
 
 -- what a shelf and an output show at a moment
 pub record Moment : Type 0 where
@@ -62,6 +64,8 @@ IsSame (Pick file slot out) files = Unit {0}
 IsSame (Pack out names) files = Unit {0}
 IsSame (Replay order out) files = Unit {0}
 IsSame (Verify order sound) files = (o : OrderData) × IsOrder (content files order) o × (content files sound ≡ wav o.journal o.blocks)
+IsSame (Gen seed scripts commands) files = Unit {0}
+IsSame (Bench seed blocks) files = Unit {0}
 
 -- it differs from the sound of the order, at this place first
 abbrev pub IsOther : Asked → Files → ℕ → Type 0
@@ -71,6 +75,8 @@ IsOther (Pick file slot out) files place = ⊥
 IsOther (Pack out names) files place = ⊥
 IsOther (Replay order out) files place = ⊥
 IsOther (Verify order sound) files place = (o : OrderData) × IsOrder (content files order) o × DiffersAt (content files sound) (wav o.journal o.blocks) place
+IsOther (Gen seed scripts commands) files place = ⊥
+IsOther (Bench seed blocks) files place = ⊥
 
 -- what is printed with status 0
 abbrev pub report : Asked → Files → List ℕ
@@ -80,12 +86,15 @@ report (Pick file slot out) files = ok_line
 report (Pack out files) told = ok_line
 report (Replay order out) files = ok_line
 report (Verify order sound) files = same_line
+report (Gen seed scripts commands) files = scripts_line scripts (scripts * commands)
+report (Bench seed blocks) files =
+    bench_line (length (drawn_journal seed blocks)) blocks (sum_of_samples (drawn_journal seed blocks) blocks)
 
 -- what is printed: that, or where the sound file differs
 abbrev pub IsReport : Asked → Files → List ℕ → Type 0
 IsReport asked files text = (IsSame asked files × (text ≡ report asked files)) ⊎ ((place : ℕ) × IsOther asked files place × (text ≡ differs_line place))
 
--- the files with OUT whole, its bytes a message with the device number 0, or the sound of the order
+-- the files with OUT whole, its bytes a message with the device number 0, or the sound of the order; or with all drawn scripts
 abbrev pub AreWritten : Asked → Files → Option Files → Type 0
 AreWritten (Check file) files now = now ≡ Some files
 AreWritten (Names file) files now = now ≡ Some files
@@ -96,38 +105,41 @@ AreWritten (Pack out names) files now =
 AreWritten (Replay order out) files now =
     (o : OrderData) × IsOrder (content files order) o × (now ≡ Some (insert files out (wav o.journal o.blocks)))
 AreWritten (Verify order sound) files now = now ≡ Some files
-
--- a file is as before, or the front of its whole bytes
-abbrev pub IsBegun : Option (List ℕ) → Option (List ℕ) → List ℕ → Type 0
-IsBegun before now whole = (now ≡ before) ⊎ ((count : ℕ) × (now ≡ Some (take count whole)))
+AreWritten (Gen seed scripts commands) files now = IsSomeAnd now (λ after. AreDrawn seed commands scripts files after)
+AreWritten (Bench seed blocks) files now = now ≡ Some files
 
 -- OUT is as before or begun, and all other files are as before
 pub record BeginsOut (before : Files) (now : Option Files) (out text : List ℕ) : Type 0 where
   pub begun : IsBegun (get before out) (file_of now out) text
   pub others : (name : List ℕ) → name ≢ out → file_of now name ≡ get before name
 
--- the name of the file that is written, and how it may stand when a write of it has failed
-abbrev pub AreBegun : Asked → Files → Option Files → Type 0
-AreBegun (Check file) files now = ⊥
-AreBegun (Names file) files now = ⊥
-AreBegun (Pick file slot out) files now =
-    (text : List ℕ) × IsFrame text (VoiceDump 0 (picked files file slot)) × BeginsOut files now out text
-AreBegun (Pack out names) files now =
-    (text : List ℕ) × IsMessageOf (packed files names) 0 text × BeginsOut files now out text
-AreBegun (Replay order out) files now =
-    (o : OrderData) × IsOrder (content files order) o × BeginsOut files now out (wav o.journal o.blocks)
-AreBegun (Verify order sound) files now = ⊥
+-- the name is that of a file that is written
+abbrev pub IsWritten : Asked → List ℕ → Type 0
+IsWritten (Check file) name = ⊥
+IsWritten (Names file) name = ⊥
+IsWritten (Pick file slot out) name = name ≡ out
+IsWritten (Pack out names) name = name ≡ out
+IsWritten (Replay order out) name = name ≡ out
+IsWritten (Verify order sound) name = ⊥
+IsWritten (Gen seed scripts commands) name = (k : ℕ) × (k < scripts) × (name ≡ script_name k)
+IsWritten (Bench seed blocks) name = ⊥
 
-abbrev pub TellsOfWrite : Asked → Moment → Moment → Type 0
-TellsOfWrite (Check file) before now = ⊥
-TellsOfWrite (Names file) before now = ⊥
-TellsOfWrite (Pick file slot out) before now = Tells (cannot_write out) before now
-TellsOfWrite (Pack out names) before now = Tells (cannot_write out) before now
-TellsOfWrite (Replay order out) before now = Tells (cannot_write out) before now
-TellsOfWrite (Verify order sound) before now = ⊥
+-- how the files may stand when a write of the file of this name has failed
+abbrev pub AreBegun : Asked → Files → Option Files → List ℕ → Type 0
+AreBegun (Check file) files now name = ⊥
+AreBegun (Names file) files now name = ⊥
+AreBegun (Pick file slot out) files now name =
+    (text : List ℕ) × IsFrame text (VoiceDump 0 (picked files file slot)) × BeginsOut files now name text
+AreBegun (Pack out names) files now name =
+    (text : List ℕ) × IsMessageOf (packed files names) 0 text × BeginsOut files now name text
+AreBegun (Replay order out) files now name =
+    (o : OrderData) × IsOrder (content files order) o × BeginsOut files now name (wav o.journal o.blocks)
+AreBegun (Verify order sound) files now name = ⊥
+AreBegun (Gen seed scripts commands) files now name = (k : ℕ) × (k < scripts) × (name ≡ script_name k) × StopsAt seed commands scripts k files now
+AreBegun (Bench seed blocks) files now name = ⊥
 
--- 0: every file that was read is good, a sound file that was compared is the sound of its order, OUT is whole, all other files are as
--- before, and the report was added
+-- 0: every file that was read is good, a sound file that was compared is the sound of its order, the files that are written are whole, all
+-- others are as before, and the report was added
 pub record IsDone (asked : Asked) (before now : Moment) : Type 0 where
   pub good : IsDecided asked before.files Good
   pub same : IfSome before.files (λ files. IsSame asked files)
@@ -143,11 +155,13 @@ pub record IsUnread (asked : Asked) (before now : Moment) : Type 0 where
   pub files : now.files ≡ before.files
   pub line : Tells (cannot_read name) before now
 
--- 3, of OUT: a write of it failed; of the report: the output failed, and the files are whole
+-- 3, of a file that is written: a write of it failed; of the report: the output failed, and the files are whole
 pub record FailsOut (asked : Asked) (before now : Moment) : Type 0 where
+  pub name : List ℕ
+  pub named : IsWritten asked name
   pub cause : Rose before.writing now.writing
-  pub begun : IfSome before.files (λ files. AreBegun asked files now.files)
-  pub line : TellsOfWrite asked before now
+  pub begun : IfSome before.files (λ files. AreBegun asked files now.files name)
+  pub line : Tells (cannot_write name) before now
 
 pub record FailsReport (asked : Asked) (before now : Moment) : Type 0 where
   pub cause : Rose before.faults now.faults
@@ -164,6 +178,7 @@ pub record IsUnwritten (asked : Asked) (before now : Moment) : Type 0 where
 
 -- 4: the first file that isn't good is refused
 pub record IsRefused (asked : Asked) (before now : Moment) : Type 0 where
+  pub reads : IsReading asked
   pub why : Refusal
   pub refused : IsDecided asked before.files (Refused why)
   pub files : now.files ≡ before.files
@@ -171,6 +186,7 @@ pub record IsRefused (asked : Asked) (before now : Moment) : Type 0 where
 
 -- 6: the first file that isn't good has too many bytes, or too many entries
 pub record IsPastLimit (asked : Asked) (before now : Moment) : Type 0 where
+  pub reads : IsReading asked
   pub limit : (IsDecided asked before.files TooLarge × Tells limit_file before now) ⊎ (IsDecided asked before.files TooMany × Tells limit_commands before now)
   pub files : now.files ≡ before.files
 
@@ -182,6 +198,8 @@ IsVerify (Pick file slot out) = ⊥
 IsVerify (Pack out names) = ⊥
 IsVerify (Replay order out) = ⊥
 IsVerify (Verify order sound) = Unit {0}
+IsVerify (Gen seed scripts commands) = ⊥
+IsVerify (Bench seed blocks) = ⊥
 
 -- 7: both files are good, the sound file differs from the sound of the order, and the report was added
 pub record IsDifferent (asked : Asked) (before now : Moment) : Type 0 where
@@ -212,6 +230,8 @@ done_by (Pick file slot out) = 0 ∷ 8 ∷ []
 done_by (Pack out names) = 0 ∷ 8 ∷ []
 done_by (Replay order out) = 0 ∷ 8 ∷ []
 done_by (Verify order sound) = 0 ∷ 7 ∷ 8 ∷ []
+done_by (Gen seed scripts commands) = 0 ∷ 8 ∷ []
+done_by (Bench seed blocks) = 0 ∷ 8 ∷ []
 
 -- where every name is there, every file is good and no count of faults rises
 abbrev pub OnSuccess : Asked → Moment → Moment → Type 0 → Type 0
@@ -251,3 +271,11 @@ Finishes name text status before now =
 abbrev pub IsOneOf : ℕ → List ℕ → Type 0
 IsOneOf status [] = ⊥
 IsOneOf status (one ∷ others) = (status ≡ one) ⊎ IsOneOf status others
+
+-- the scripts were all written and then the report, or a write of one failed
+abbrev pub WritesScripts : ℕ → ℕ → ℕ → ℕ → Moment → Moment → Type 0
+WritesScripts seed scripts commands status before now =
+    (now.reading ≡ before.reading)
+    × (((now.writing ≡ before.writing) × IfSome before.files (λ files. AreWritten (Gen seed scripts commands) files now.files)
+    × Reports (scripts_line scripts (scripts * commands)) status before.written now.written before.faults now.faults)
+    ⊎ ((status ≡ 3) × FailsOut (Gen seed scripts commands) before now))

@@ -1,11 +1,12 @@
 -- The words that the program takes.
-use Rattle.std.specs.Prelude.{ℕ, ◌<◌, ◌≤◌, List, [], ◌∷◌, map, string_bytes, Option, None, Some, option_map, Bool, not, ◌&&◌, nat_lt, nat_le, length, bytes_eq, codes, if◌then◌else◌}
+use Rattle.std.specs.Prelude.{ℕ, ◌<◌, ◌≤◌, ◌-◌, ◌*◌, ◌^◌, List, [], ◌∷◌, map, string_bytes, Option, None, Some, option_map, Bool, not, ◌&&◌, nat_lt, nat_le, length, bytes_eq, codes, if◌then◌else◌}
 use Rattle.std.specs.List.{list_all}
 use Rattle.tool_core.specs.declared.words.Request.{Request}
 use Rattle.tool_core.specs.declared.words.Request.TheVariants as request
 use Rattle.plain_text.specs.Number.{number}
 
--- what is asked for: `check FILE`, `list FILE`, `pick FILE SLOT OUT`, `pack OUT FILE...`, `replay ORDER OUT` or `verify ORDER WAV`
+-- what is asked for: `check FILE`, `list FILE`, `pick FILE SLOT OUT`, `pack OUT FILE...`, `replay ORDER OUT`, `verify ORDER WAV`,
+-- `gen SEED SCRIPTS COMMANDS` or `bench SEED BLOCKS`
 pub data Asked : Type 0 where
   Check : List ℕ → Asked
   Names : List ℕ → Asked
@@ -13,6 +14,8 @@ pub data Asked : Type 0 where
   Pack : List ℕ → List (List ℕ) → Asked
   Replay : List ℕ → List ℕ → Asked
   Verify : List ℕ → List ℕ → Asked
+  Gen : ℕ → ℕ → ℕ → Asked
+  Bench : ℕ → ℕ → Asked
 
 -- the same of a value of the program
 abbrev pub asked : Request → Asked
@@ -22,6 +25,8 @@ asked (request.Pick file slot out) = Pick file.now slot out.now
 asked (request.Pack out files) = Pack out.now (map string_bytes files.now)
 asked (request.Replay order out) = Replay order.now out.now
 asked (request.Verify order sound) = Verify order.now sound.now
+asked (request.Gen seed scripts commands) = Gen seed scripts commands
+asked (request.Bench seed blocks) = Bench seed blocks
 
 -- the commands
 unfoldable pub is_check : List ℕ → Bool
@@ -41,6 +46,12 @@ is_replay word = bytes_eq word (codes "replay")
 
 unfoldable pub is_verify : List ℕ → Bool
 is_verify word = bytes_eq word (codes "verify")
+
+unfoldable pub is_gen : List ℕ → Bool
+is_gen word = bytes_eq word (codes "gen")
+
+unfoldable pub is_bench : List ℕ → Bool
+is_bench word = bytes_eq word (codes "bench")
 
 -- no name is empty
 abbrev pub is_name : List ℕ → Bool
@@ -84,10 +95,40 @@ abbrev pub verify_of_words : List (List ℕ) → Option Asked
 verify_of_words (order ∷ sound ∷ []) = if is_name order && is_name sound then Some (Verify order sound) else None
 verify_of_words words = None
 
--- a command that reads an order, and its words
+-- SEED, a number of 64 bits
+abbrev pub seed_of : List ℕ → Option ℕ
+seed_of text = number 0 (2 ^ 64 - 1) text
+
+-- SEED SCRIPTS COMMANDS; the commands of all scripts are at most 1,000,000
+abbrev pub gen_of : Option ℕ → Option ℕ → Option ℕ → Option Asked
+gen_of None scripts commands = None
+gen_of (Some seed) None commands = None
+gen_of (Some seed) (Some scripts) None = None
+gen_of (Some seed) (Some scripts) (Some commands) = if nat_le (scripts * commands) 1000000 then Some (Gen seed scripts commands) else None
+
+abbrev pub gen_of_words : List (List ℕ) → Option Asked
+gen_of_words (seed ∷ scripts ∷ commands ∷ []) = gen_of (seed_of seed) (number 1 256 scripts) (number 0 100000 commands)
+gen_of_words words = None
+
+-- SEED BLOCKS
+abbrev pub bench_of : Option ℕ → Option ℕ → Option Asked
+bench_of None blocks = None
+bench_of (Some seed) None = None
+bench_of (Some seed) (Some blocks) = Some (Bench seed blocks)
+
+abbrev pub bench_of_words : List (List ℕ) → Option Asked
+bench_of_words (seed ∷ blocks ∷ []) = bench_of (seed_of seed) (number 1 100000 blocks)
+bench_of_words words = None
+
+-- a command that draws scripts, and its words
+abbrev pub asked_of_drawn : List ℕ → List (List ℕ) → Option Asked
+asked_of_drawn command words =
+    if is_gen command then gen_of_words words else (if is_bench command then bench_of_words words else None)
+
+-- a command that reads an order, or draws scripts, and its words
 abbrev pub asked_of_order : List ℕ → List (List ℕ) → Option Asked
 asked_of_order command words =
-    if is_replay command then replay_of_words words else (if is_verify command then verify_of_words words else None)
+    if is_replay command then replay_of_words words else (if is_verify command then verify_of_words words else asked_of_drawn command words)
 
 -- a command and its words
 abbrev pub asked_of : List ℕ → List (List ℕ) → Option Asked
@@ -101,7 +142,7 @@ abbrev pub asked_by : List (List ℕ) → Option Asked
 asked_by [] = None
 asked_by (command ∷ words) = asked_of command words
 
--- a slot is at most 31, and 1 to 32 files are packed
+-- a slot is at most 31, 1 to 32 files are packed, 1 to 256 scripts of at most 100,000 commands are drawn, and at most 100,000 blocks are played
 abbrev pub IsInRange : Request → Type 0
 IsInRange (request.Check file) = Unit {0}
 IsInRange (request.Names file) = Unit {0}
@@ -109,3 +150,5 @@ IsInRange (request.Pick file slot out) = slot ≤ 31
 IsInRange (request.Pack out files) = (0 < length files.now) × (length files.now ≤ 32)
 IsInRange (request.Replay order out) = Unit {0}
 IsInRange (request.Verify order sound) = Unit {0}
+IsInRange (request.Gen seed scripts commands) = (scripts ≤ 256) × (commands ≤ 100000) × (scripts * commands ≤ 1000000)
+IsInRange (request.Bench seed blocks) = blocks ≤ 100000

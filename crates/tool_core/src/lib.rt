@@ -1,10 +1,12 @@
 //! What the program `tool` does: it looks at files of MIDI bytes with DX7 voices, and writes such files; it plays the order of a run
-//! again, and compares a sound file with an order.
+//! again, and compares a sound file with an order; it writes scripts that are drawn from a number, and plays them.
 #![tactic(auto)]
 
+mod benching;
 mod commands;
 mod comparing;
 mod ending;
+mod generating;
 mod line;
 mod listing;
 mod looking;
@@ -17,6 +19,7 @@ mod reading;
 mod refusal;
 mod replaying;
 mod saying;
+mod seed;
 mod surely;
 mod survey;
 mod top;

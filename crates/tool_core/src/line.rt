@@ -1,6 +1,7 @@
 //! Lines of text.
 
-ghost use Rattle.std.specs.Prelude.{◌≡◌, ◌+◌, ◌≤◌, ◌<◌, ◌++◌, length, map, decimal};
+ghost use Rattle.std.specs.Fmt.{signed_decimal};
+ghost use Rattle.std.specs.Prelude.{◌≡◌, ◌+◌, ◌≤◌, ◌^◌, ◌<◌, ◌&&◌, [], ◌∷◌, ◌++◌, length, map, decimal, nat_le, slice_range, if◌then◌else◌};
 ghost use Rattle.sysex_frame.specs.declared.frame.FrameFault.{FrameFault};
 ghost use Rattle.tool_core.specs.Lines as lines;
 ghost use Rattle.tool_core.specs.Lines.{shown, shown_name};
@@ -28,6 +29,16 @@ pub fn push_number(line: &mut Line, number: u32)
     requires { length line.old.items ≤ 88 }
     ensures text { line.new.items ≡ line.old.items ++ decimal number }
     ensures room { length line.new.items ≤ length line.old.items + 10 }
+{
+    let mut buffer = Buffer::new();
+    push_text(line, buffer.format(number).as_bytes());
+}
+
+/// Puts the decimal digits of a number that may be negative behind a line.
+fn push_signed(line: &mut Line, number: i64)
+    requires { length line.old.items ≤ 88 }
+    ensures text { line.new.items ≡ line.old.items ++ signed_decimal number }
+    ensures room { length line.new.items ≤ length line.old.items + 40 }
 {
     let mut buffer = Buffer::new();
     push_text(line, buffer.format(number).as_bytes());
@@ -143,6 +154,30 @@ fn push_kind(line: &mut Line, kind: OrderKind)
         OrderKind::Sequence => push_text(line, b"sequence"),
         OrderKind::Many => push_text(line, b"many"),
     }
+}
+
+/// The line that tells how many scripts were written, and the commands of all.
+#[tactic(auto, unfolding(crate::specs::Lines::scripts_line))]
+pub fn scripts_line(scripts: u32, commands: u32) -> Line
+    ensures { result.items ≡ lines.scripts_line scripts commands }
+{
+    let mut line = Line::new();
+    push_two(&mut line, b"scripts ", scripts, b" commands ", commands);
+    push_text(&mut line, b"\n");
+    line
+}
+
+/// The line that tells how many commands were played in how many blocks, and the sum of all samples.
+#[tactic(auto, unfolding(crate::specs::Lines::bench_line))]
+pub fn bench_line(commands: u32, blocks: u32, sum: i64) -> Line
+    ensures { result.items ≡ lines.bench_line commands blocks sum }
+{
+    let mut line = Line::new();
+    push_two(&mut line, b"commands ", commands, b" blocks ", blocks);
+    push_text(&mut line, b" sum ");
+    push_signed(&mut line, sum);
+    push_text(&mut line, b"\n");
+    line
 }
 
 /// The line that names the first place at which two files differ.

@@ -3,7 +3,9 @@ ghost use Rattle.tool_core.specs.Lines.{usage};
 ghost use Rattle.tool_core.specs.Outcomes.{done_by, moment, Ends, IsDifferent, IsDone, IsOneOf, IsOutOfMemory, IsPastLimit, IsRefused, IsUnread, IsUnwritten, OnSuccess, Says};
 ghost use Rattle.tool_core.specs.Words.{asked, asked_by, IsInRange};
 
+use crate::benching::bench;
 use crate::commands::{check, list, pack, pick};
+use crate::generating::generate;
 use crate::replaying::replay;
 use crate::saying::say_usage;
 use crate::verifying::verify;
@@ -13,7 +15,8 @@ use std::alloc::Global;
 
 /// Does what the words ask for, and answers the status.
 ///
-/// The words are `check FILE`, `list FILE`, `pick FILE SLOT OUT`, `pack OUT FILE...`, `replay ORDER OUT` or `verify ORDER WAV`.
+/// The words are `check FILE`, `list FILE`, `pick FILE SLOT OUT`, `pack OUT FILE...`, `replay ORDER OUT`, `verify ORDER WAV`,
+/// `gen SEED SCRIPTS COMMANDS` or `bench SEED BLOCKS`.
 pub fn tool_main<S: Shelf, O: Out>(
     alloc: Global,
     words: &[String],
@@ -83,5 +86,11 @@ fn run<S: Shelf, O: Out>(alloc: Global, request: Request<'_>, shelf: &mut S, out
         Request::Pack { out: name, files } => pack(alloc, name, files, shelf, out),
         Request::Replay { order, out: name } => replay(alloc, order, name, shelf, out),
         Request::Verify { order, sound } => verify(alloc, order, sound, shelf, out),
+        Request::Gen {
+            seed,
+            scripts,
+            commands,
+        } => generate(alloc, seed, scripts, commands, shelf, out),
+        Request::Bench { seed, blocks } => bench(alloc, seed, blocks, shelf, out),
     }
 }

@@ -1,9 +1,10 @@
 //! The words that the program takes.
 
-ghost use Rattle.std.specs.Prelude.{◌≡◌, ◌∷◌, IfSome, Option, map, option_map, string_bytes};
+ghost use Rattle.std.specs.Prelude.{◌≡◌, ◌≤◌, ◌∷◌, IfSome, Option, map, option_map, string_bytes};
 ghost use Rattle.tool_core.specs.Words as spec;
-ghost use Rattle.tool_core.specs.Words.{asked, asked_by, asked_of, asked_of_order, file_of_words, pack_of_words, pick_of, pick_of_words, replay_of_words, verify_of_words, IsInRange};
+ghost use Rattle.tool_core.specs.Words.{asked, asked_by, asked_of, asked_of_drawn, asked_of_order, bench_of, bench_of_words, file_of_words, gen_of, gen_of_words, pack_of_words, pick_of, pick_of_words, replay_of_words, verify_of_words, IsInRange};
 
+use crate::seed::seed_of;
 use plain_text::number_in;
 
 /// What the words ask for.
@@ -37,6 +38,17 @@ pub enum Request<'a> {
     Verify {
         order: &'a str,
         sound: &'a str,
+    },
+    /// So many scripts of so many commands each, drawn from a seed.
+    Gen {
+        seed: u64,
+        scripts: u32,
+        commands: u32,
+    },
+    /// How four drawn scripts sound for so many blocks.
+    Bench {
+        seed: u64,
+        blocks: u32,
     },
 }
 
@@ -79,6 +91,19 @@ fn read_order_command<'a>(command: &str, words: &'a [String]) -> Option<Request<
     }
     if is_verify(command) {
         return read_verify(words);
+    }
+    read_drawn_command(command, words)
+}
+
+fn read_drawn_command<'a>(command: &str, words: &'a [String]) -> Option<Request<'a>>
+    ensures asked { option_map asked result ≡ asked_of_drawn command.now (map string_bytes words.entry.now) }
+    ensures range { IfSome result IsInRange }
+{
+    if is_gen(command) {
+        return read_gen(words);
+    }
+    if is_bench(command) {
+        return read_bench(words);
     }
     None
 }
@@ -123,6 +148,20 @@ fn is_verify(word: &str) -> bool
     ensures { result ≡ spec.is_verify word.now }
 {
     word == "verify"
+}
+
+#[tactic(auto, unfolding(crate::specs::Words::is_gen))]
+fn is_gen(word: &str) -> bool
+    ensures { result ≡ spec.is_gen word.now }
+{
+    word == "gen"
+}
+
+#[tactic(auto, unfolding(crate::specs::Words::is_bench))]
+fn is_bench(word: &str) -> bool
+    ensures { result ≡ spec.is_bench word.now }
+{
+    word == "bench"
 }
 
 fn read_check(words: &[String]) -> Option<Request<'_>>
@@ -247,4 +286,62 @@ fn read_verify(words: &[String]) -> Option<Request<'_>>
         return None;
     }
     Some(Request::Verify { order, sound })
+}
+
+fn read_gen(words: &[String]) -> Option<Request<'_>>
+    ensures asked { option_map asked result ≡ gen_of_words (map string_bytes words.entry.now) }
+    ensures range { IfSome result IsInRange }
+{
+    if words.len() != 3 {
+        return None;
+    }
+    let seed = seed_of(words[0].as_bytes());
+    let scripts = number_in(words[1].as_bytes(), 1, 256);
+    let commands = number_in(words[2].as_bytes(), 0, 100_000);
+    gen_request(seed, scripts, commands)
+}
+
+fn gen_request<'a>(
+    seed: Option<u64>,
+    scripts: Option<u32>,
+    commands: Option<u32>,
+) -> Option<Request<'a>>
+    requires scripts { IfSome scripts (λ n. n ≤ 256) }
+    requires commands { IfSome commands (λ n. n ≤ 100000) }
+    ensures asked { option_map asked result ≡ gen_of seed scripts commands }
+    ensures range { IfSome result IsInRange }
+{
+    let seed = seed?;
+    let scripts = scripts?;
+    let commands = commands?;
+    if scripts * commands > 1_000_000 {
+        return None;
+    }
+    Some(Request::Gen {
+        seed,
+        scripts,
+        commands,
+    })
+}
+
+fn read_bench(words: &[String]) -> Option<Request<'_>>
+    ensures asked { option_map asked result ≡ bench_of_words (map string_bytes words.entry.now) }
+    ensures range { IfSome result IsInRange }
+{
+    if words.len() != 2 {
+        return None;
+    }
+    let seed = seed_of(words[0].as_bytes());
+    let blocks = number_in(words[1].as_bytes(), 1, 100_000);
+    bench_request(seed, blocks)
+}
+
+fn bench_request<'a>(seed: Option<u64>, blocks: Option<u32>) -> Option<Request<'a>>
+    requires { IfSome blocks (λ n. n ≤ 100000) }
+    ensures asked { option_map asked result ≡ bench_of seed blocks }
+    ensures range { IfSome result IsInRange }
+{
+    let seed = seed?;
+    let blocks = blocks?;
+    Some(Request::Bench { seed, blocks })
 }

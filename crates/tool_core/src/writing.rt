@@ -1,4 +1,4 @@
-//! The one file that a command writes.
+//! A file that a command writes.
 
 ghost use Rattle.std.specs.Prelude.{◌≡◌, OnOk, OnErr, IfSome, option_map};
 ghost use Rattle.std.specs.FinMap.{insert};
@@ -10,7 +10,7 @@ use crate::saying::say_cannot_write;
 use outside::{Failed, Out, Shelf, append_all, put_all};
 
 /// Makes the file empty, and appends its bytes.
-fn write_out<S: Shelf>(shelf: &mut S, name: &str, text: &[u8]) -> Result<(), Failed>
+pub fn write_out<S: Shelf>(shelf: &mut S, name: &str, text: &[u8]) -> Result<(), Failed>
     ensures whole { OnOk result (S.files shelf.new ≡ option_map (λ files. insert files name.now text.now) (S.files shelf.old)) }
     ensures begun { OnErr result (IfSome (S.files shelf.old) (λ files. BeginsOut files (S.files shelf.new) name.now text.now)) }
     ensures cause { HasCause (S.writing shelf.old) (S.writing shelf.new) (S.reading shelf.old) (S.reading shelf.new) ⊥ result }

@@ -16,7 +16,7 @@ returns-in-Ok g c =
 
 pub returns-in-Err : goal.returns-in-Err
 returns-in-Err g c =
-    refused_ends (Names c.args.file.now) c.in-Err.why c.args.file.now _ _ _
+    refused_ends (Names c.args.file.now) c.in-Err.why c.args.file.now _ _ _ tt
     (stops_among c.in-Err.why (Names c.args.file.now) OneCartridge (g.S.Shelf.files c.args.shelf.now) (c.args.file.now ∷ []) c.args.file.now _ _ (λ it judged. judged) (λ among. among)
     (one_reason c.in-Err.why OneCartridge (g.S.Shelf.files c.args.shelf.now) c.args.file.now _ _ c.in-Err.ensures.refused))
     c.refuse.ensures.status c.refuse.ensures.line c.read_cartridge.ensures.files

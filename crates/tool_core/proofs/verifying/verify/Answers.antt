@@ -19,13 +19,13 @@ returns-in-Ok-compare_order g c =
 
 pub returns-in-Ok : goal.returns-in-Ok
 returns-in-Ok g c =
-    refused_ends (Verify c.args.file.now c.args.sound.now) c.in-Err-compare_order.why c.args.sound.now _ _ _
+    refused_ends (Verify c.args.file.now c.args.sound.now) c.in-Err-compare_order.why c.args.sound.now _ _ _ tt
     (sound_stops_then c.in-Err-compare_order.why c.args.file.now c.args.sound.now c.in-Ok.order _ _ _ _ _ c.read_order_file.ensures.files c.in-Ok.ensures.kept c.in-Ok.ensures.good
     c.in-Err-compare_order.ensures.refused)
     c.refuse.ensures.status c.refuse.ensures.line (c.compare_order.ensures.files ∙ c.read_order_file.ensures.files)
 
 pub returns : goal.returns
 returns g c =
-    refused_ends (Verify c.args.file.now c.args.sound.now) c.in-Err.why c.args.file.now _ _ _
+    refused_ends (Verify c.args.file.now c.args.sound.now) c.in-Err.why c.args.file.now _ _ _ tt
     (verify_stops c.in-Err.why c.args.file.now c.args.sound.now _ _ _ c.in-Err.ensures.refused)
     c.refuse-in-Err.ensures.status c.refuse-in-Err.ensures.line c.read_order_file.ensures.files

@@ -1,0 +1,35 @@
+//! The command that plays drawn scripts.
+
+ghost use Rattle.std.specs.Prelude.{◌≡◌, ◌≤◌};
+ghost use Rattle.tool_core.specs.Outcomes.{moment, Ends};
+ghost use Rattle.tool_core.specs.Words as words;
+
+use crate::commands::refuse;
+use crate::line::bench_line;
+use crate::trouble::Trouble;
+use crate::writing::put_report;
+use generator::play_drawn;
+use outside::{Out, Shelf};
+use std::alloc::Global;
+
+/// `bench SEED BLOCKS`: how many commands of four drawn scripts were played in so many blocks, and the sum of all samples.
+pub fn bench<S: Shelf, O: Out>(
+    alloc: Global,
+    seed: u64,
+    blocks: u32,
+    shelf: &mut S,
+    out: &mut O,
+) -> u8
+    requires { blocks ≤ 100000 }
+    ensures { Ends (words.Bench seed blocks) result
+        (moment (S.files shelf.old) (S.reading shelf.old) (S.writing shelf.old) (O.written out.old) (O.faults out.old))
+        (moment (S.files shelf.new) (S.reading shelf.new) (S.writing shelf.new) (O.written out.new) (O.faults out.new)) }
+{
+    match play_drawn(alloc, seed, blocks) {
+        Ok(played) => {
+            let line = bench_line(played.commands, blocks, played.sum);
+            put_report(out, line.as_slice())
+        }
+        Err(_) => refuse(out, "", Trouble::Memory),
+    }
+}
