@@ -10,5 +10,6 @@ pub mod Decisions
 pub mod Lines
 pub mod Scripts
 pub mod Outcomes
+pub mod Statuses
 pub mod Pages
 pub mod Troubles

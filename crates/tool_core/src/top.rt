@@ -1,6 +1,7 @@
 ghost use Rattle.std.specs.Prelude.{◌≡◌, ◌↔◌, [], ◌∷◌, IfSome, None, map, string_bytes};
 ghost use Rattle.tool_core.specs.Lines.{usage};
 ghost use Rattle.tool_core.specs.Outcomes.{done_by, moment, Ends, IsDifferent, IsDone, IsOneOf, IsOutOfMemory, IsPastLimit, IsRefused, IsUnread, IsUnwritten, OnSuccess, Says};
+ghost use Rattle.tool_core.specs.Statuses.{AnswersBy};
 ghost use Rattle.tool_core.specs.Words.{asked, asked_by, IsInRange};
 
 use crate::benching::bench;
@@ -50,6 +51,11 @@ pub fn tool_main<S: Shelf, O: Out>(
         (moment (S.files shelf.old) (S.reading shelf.old) (S.writing shelf.old) (O.written out.old) (O.faults out.old))
         (moment (S.files shelf.new) (S.reading shelf.new) (S.writing shelf.new) (O.written out.new) (O.faults out.new))) }
     ensures memory { result ≡ 8 → IfSome (asked_by (map string_bytes words.now)) (λ asked. IsOutOfMemory asked
+        (moment (S.files shelf.old) (S.reading shelf.old) (S.writing shelf.old) (O.written out.old) (O.faults out.old))
+        (moment (S.files shelf.new) (S.reading shelf.new) (S.writing shelf.new) (O.written out.new) (O.faults out.new))) }
+
+    // Where no read failed, the status is one of the verdict that decides: a file that lacks, is too long or is refused is told, and nothing is done.
+    ensures judged { IfSome (asked_by (map string_bytes words.now)) (λ asked. AnswersBy asked result
         (moment (S.files shelf.old) (S.reading shelf.old) (S.writing shelf.old) (O.written out.old) (O.faults out.old))
         (moment (S.files shelf.new) (S.reading shelf.new) (S.writing shelf.new) (O.written out.new) (O.faults out.new))) }
 

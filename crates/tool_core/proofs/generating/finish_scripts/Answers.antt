@@ -1,4 +1,4 @@
-use Rattle.std.proofs.Common.{◌≡◌, inl, inr, ℕ, ◌*◌, length, refl, ◌∙◌, ap}
+use Rattle.std.proofs.Common.{inl, inr, length, refl, ◌∙◌, ap}
 use Rattle.tool_core.specs.Lines.{scripts_line}
 use Rattle.tool_core.proofs.Drawings.{reports_same, stopped_begun}
 use Rattle.tool_core.proofs.generating.finish_scripts.Goals as goal
@@ -17,8 +17,7 @@ pub returns-in-Err : goal.returns-in-Err
 returns-in-Err g c seed each scripts count =
     let file = c.index-files-at.result in
     let at = c.in-Err.at in
-    let known = scripts at file c.in-Err.ensures.at in
-    (
+    let known = scripts at file c.in-Err.ensures.at in (
       c.in-Err.ensures.cause.other,
       inr (
         refl,

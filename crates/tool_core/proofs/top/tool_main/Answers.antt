@@ -1,5 +1,6 @@
 use Rattle.tool_core.specs.Words.{asked}
 use Rattle.tool_core.proofs.Endings.{ends_0, ends_1, ends_2, ends_3, ends_4, ends_6, ends_7, ends_8, one_of, completes, known, not_none, if_none}
+use Rattle.tool_core.proofs.Deciding.{answers_by}
 use Rattle.tool_core.proofs.top.tool_main.Goals as goal
 
 pub returns-in-Some-clause-status : goal.returns-in-Some-clause-status
@@ -41,3 +42,10 @@ returns-in-Some-clause-complete g c =
 
 pub returns-in-None-clause-complete : goal.returns-in-None-clause-complete
 returns-in-None-clause-complete g c = if_none _ _ c.in-None.ensures.asked
+
+pub returns-in-Some-clause-judged : goal.returns-in-Some-clause-judged
+returns-in-Some-clause-judged g c =
+    known _ (asked c.in-Some.request) _ c.in-Some.ensures.asked (answers_by _ _ _ _ _ _ _ _ _ _ _ _ c.run.ensures)
+
+pub returns-in-None-clause-judged : goal.returns-in-None-clause-judged
+returns-in-None-clause-judged g c = if_none _ _ c.in-None.ensures.asked
