@@ -17,8 +17,7 @@ pub returns-in-Err : goal.returns-in-Err
 returns-in-Err g c seed each scripts count =
     let file = c.index-files-at.result in
     let at = c.in-Err.at in
-    let known = scripts at file c.in-Err.ensures.at in
-    (
+    let known = scripts at file c.in-Err.ensures.at in (
       c.in-Err.ensures.cause.other,
       inr (
         refl,
