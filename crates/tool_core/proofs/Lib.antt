@@ -12,3 +12,4 @@ pub mod Fronts
 pub mod Sounds
 pub mod OrderEndings
 pub mod Drawings
+pub mod SureEndings
