@@ -91,19 +91,6 @@ stopped_at (Some told) (Some m) now seed commands scripts k name text less few n
     (subst (λ (n : List ℕ). BeginsOut m now n (generated_text seed k commands)) named
     (subst (λ (t : List ℕ). BeginsOut m now name t) is begun))
 
--- ---- the scripts in memory
-pub scripts_none : (seed commands : ℕ) (files : List ScriptFile) → files ≡ [] → AreScripts seed commands files
-scripts_none seed commands files none k d below = let count : length files ≡ 0 = ap length none in absurd (omega arith)
-
-pub scripts_more : (seed commands n : ℕ) (files now : List ScriptFile) (file : ScriptFile) → length files ≡ n → AreScripts seed commands files
-    → now ≡ files ++ file ∷ [] → IsScript seed commands n file → AreScripts seed commands now
-scripts_more seed commands n files now file count were is this k d below =
-    subst (λ (fs : List ScriptFile). IsScript seed commands k (get_or fs k d)) (sym is)
-    (each_more (λ (i : ℕ). IsScript seed commands i (get_or (files ++ file ∷ []) i d)) n k
-    (λ i less. subst (λ (f : ScriptFile). IsScript seed commands i f) (sym (get_or_append_left files (file ∷ []) d i (omega arith))) (were i d (omega arith)))
-    (subst (λ (f : ScriptFile). IsScript seed commands n f) (sym (get_or_push files file d n count)) this)
-    (let longer : length now ≡ length files + 1 = ap length is ∙ length-append files (file ∷ []) in omega arith))
-
 pub stopped_begun : (o now : Option Files) (seed commands scripts k : ℕ) (name : List ℕ) → k < scripts → name ≡ script_name k
     → IfSome o (λ told. StopsAt seed commands scripts k told now) → IfSome o (λ told. AreBegun (Gen seed scripts commands) told now name)
 stopped_begun None now seed commands scripts k name less is stops = tt

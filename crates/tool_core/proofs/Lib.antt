@@ -13,3 +13,4 @@ pub mod Sounds
 pub mod OrderEndings
 pub mod Drawings
 pub mod Deciding
+pub mod SureEndings

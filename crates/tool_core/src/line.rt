@@ -1,10 +1,10 @@
 //! Lines of text.
 
-ghost use Rattle.std.specs.Fmt.{signed_decimal};
 ghost use Rattle.std.specs.Prelude.{◌≡◌, ◌+◌, ◌≤◌, ◌^◌, ◌<◌, ◌&&◌, [], ◌∷◌, ◌++◌, length, map, decimal, nat_le, slice_range, if◌then◌else◌};
 ghost use Rattle.sysex_frame.specs.declared.frame.FrameFault.{FrameFault};
 ghost use Rattle.tool_core.specs.Lines as lines;
 ghost use Rattle.tool_core.specs.Lines.{shown, shown_name};
+ghost use Rattle.std.specs.Fmt.{signed_decimal};
 
 use crate::refusal::Refusal;
 use arrayvec::ArrayVec;

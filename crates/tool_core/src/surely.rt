@@ -1,5 +1,6 @@
 ghost use Rattle.std.specs.Prelude.{◌≡◌, ◌≢◌, ◌↔◌, [], ◌∷◌, IfSome, None, map, string_bytes};
 ghost use Rattle.outside.specs.Faults.{Rose};
+ghost use Rattle.tool_core.specs.Decisions.{IsReading};
 ghost use Rattle.tool_core.specs.Lines.{usage};
 ghost use Rattle.tool_core.specs.Outcomes.{IsOneOf, IsVerify, Says};
 ghost use Rattle.tool_core.specs.Words.{asked_by};
@@ -21,6 +22,8 @@ pub fn tool_surely<O: Out>(
     ensures different { result ≡ 7 → IfSome (asked_by (map string_bytes words.now)) IsVerify }
     ensures read { result ≢ 2 }
     ensures write { result ≡ 3 → Rose (O.faults out.old) (O.faults out.new) }
+    ensures refused { result ≡ 4 → IfSome (asked_by (map string_bytes words.now)) IsReading }
+    ensures past_limit { result ≡ 6 → IfSome (asked_by (map string_bytes words.now)) IsReading }
 {
     tool_main(alloc, words, shelf, out)
 }

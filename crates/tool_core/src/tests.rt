@@ -1,5 +1,6 @@
 use crate::tool_main;
 use cartridge::Cartridge;
+use generator::script_text;
 use outside::{MemOut, MemShelf, SureShelf};
 use std::alloc::{AllocError, Global};
 use std::test::Fail;
@@ -281,7 +282,7 @@ fn an_order_is_replayed_and_verified(rt: HostRuntime) -> Result<(), Fail> {
 fn orders_are_judged(rt: HostRuntime) -> Result<(), Fail> {
     let alloc = rt.alloc();
     let usage = b"usage: tool COMMAND WORDS...\n";
-    let rows: [(&[&str], &[u8], u8, &[u8]); 14] = [
+    let rows: [(&[&str], &[u8], u8, &[u8]); 13] = [
         (&["replay", "f", "o"], NOTE, 0, b"ok\n"),
         (&["verify", "f", "f"], NOTE, 7, b"differs at 0\n"),
         (&["replay", "f", "o"], b"", 4, b"order line 1: line\n"),
@@ -315,7 +316,6 @@ fn orders_are_judged(rt: HostRuntime) -> Result<(), Fail> {
         (&["replay", "f", "f"], NOTE, 1, usage),
         (&["replay", "f", ""], NOTE, 1, usage),
         (&["verify", "f"], NOTE, 1, usage),
-        (&["gen", "1", "1", "1"], NOTE, 1, usage),
     ];
     for (words, file, status, printed) in rows {
         let mut out = MemOut::new(alloc, &[])?;
@@ -483,6 +483,107 @@ fn failures_of_replay_and_verify_are_told(rt: HostRuntime) -> Result<(), Fail> {
     }
     let mut out = MemOut::new(alloc, &[0])?;
     assert_eq!(rt; verified(alloc, NOTE, sound.as_slice(), &mut out)?, 3);
+    assert_eq!(rt; out.bytes(), b"".as_slice());
+    Ok(())
+}
+
+#[test]
+fn scripts_are_drawn_and_played(rt: HostRuntime) -> Result<(), Fail> {
+    let alloc = rt.alloc();
+    let usage = b"usage: tool COMMAND WORDS...\n";
+    let rows: [(&[&str], u8, &[u8]); 14] = [
+        (&["gen", "0", "1", "1"], 0, b"scripts 1 commands 1\n"),
+        (&["gen", "0", "1", "0"], 0, b"scripts 1 commands 0\n"),
+        (&["gen", "7", "3", "5"], 0, b"scripts 3 commands 15\n"),
+        (
+            &["gen", "18446744073709551615", "1", "1"],
+            0,
+            b"scripts 1 commands 1\n",
+        ),
+        (&["bench", "0", "1"], 0, b"commands 0 blocks 1 sum 0\n"),
+        (
+            &["bench", "1", "400"],
+            0,
+            b"commands 400 blocks 400 sum 3814002\n",
+        ),
+        (&["gen", "0", "0", "1"], 1, usage),
+        (&["gen", "0", "257", "1"], 1, usage),
+        (&["gen", "0", "1", "100001"], 1, usage),
+        (&["gen", "0", "100", "10001"], 1, usage),
+        (&["gen", "18446744073709551616", "1", "1"], 1, usage),
+        (&["gen", "01", "1", "1"], 1, usage),
+        (&["bench", "0", "0"], 1, usage),
+        (&["bench", "0", "100001"], 1, usage),
+    ];
+    for (words, status, printed) in rows {
+        let mut out = MemOut::new(alloc, &[])?;
+        assert_eq!(rt; status_on(alloc, words, b"", &mut out)?, status);
+        assert_eq!(rt; out.bytes(), printed);
+    }
+    Ok(())
+}
+
+#[test]
+fn drawn_scripts_are_written(rt: HostRuntime) -> Result<(), Fail> {
+    let alloc = rt.alloc();
+    let rows: [(&[&str], &[u8]); 2] = [
+        (&["gen", "0", "1", "1"], b"midi 1\n7 on 0 73 26\n"),
+        (&["gen", "0", "1", "0"], b"midi 1\n"),
+    ];
+    for (words, text) in rows {
+        let words = words_of(alloc, words)?;
+        let mut shelf = MemShelf::new(alloc, &[])?;
+        let mut out = MemOut::new(alloc, &[])?;
+        assert_eq!(rt; tool_main(alloc, &words, &mut shelf, &mut out), 0);
+        assert_eq!(rt; shelf.file("gen-0.txt"), Some(text));
+        assert!(rt; shelf.file("gen-1.txt").is_none());
+    }
+    Ok(())
+}
+
+#[test]
+fn failures_of_gen_and_bench_are_told(rt: HostRuntime) -> Result<(), Fail> {
+    let alloc = rt.alloc();
+    let words = words_of(alloc, &["gen", "7", "3", "5"])?;
+    let first = script_text(alloc, 7, 0, 5)?;
+    let second = script_text(alloc, 7, 1, 5)?;
+    let third = script_text(alloc, 7, 2, 5)?;
+    let all: [Option<&[u8]>; 3] = [
+        Some(first.as_slice()),
+        Some(second.as_slice()),
+        Some(third.as_slice()),
+    ];
+    let cases: [(&[u64], &[u64], u8, &[u8], [Option<&[u8]>; 3]); 4] = [
+        (&[], &[], 0, b"scripts 3 commands 15\n", all),
+        (
+            &[2],
+            &[],
+            3,
+            b"cannot write gen-1.txt\n",
+            [all[0], None, None],
+        ),
+        (
+            &[3],
+            &[],
+            3,
+            b"cannot write gen-1.txt\n",
+            [all[0], Some(b""), None],
+        ),
+        (&[], &[0], 3, b"", all),
+    ];
+    for (fails, silent, status, printed, files) in cases {
+        let mut shelf = MemShelf::new(alloc, fails)?;
+        let mut out = MemOut::new(alloc, silent)?;
+        assert_eq!(rt; tool_main(alloc, &words, &mut shelf, &mut out), status);
+        assert_eq!(rt; out.bytes(), printed);
+        assert_eq!(rt; shelf.file("gen-0.txt"), files[0]);
+        assert_eq!(rt; shelf.file("gen-1.txt"), files[1]);
+        assert_eq!(rt; shelf.file("gen-2.txt"), files[2]);
+    }
+    let bench = words_of(alloc, &["bench", "0", "1"])?;
+    let mut shelf = MemShelf::new(alloc, &[])?;
+    let mut out = MemOut::new(alloc, &[0])?;
+    assert_eq!(rt; tool_main(alloc, &bench, &mut shelf, &mut out), 3);
     assert_eq!(rt; out.bytes(), b"".as_slice());
     Ok(())
 }

@@ -1,4 +1,5 @@
 use Rattle.tool_core.proofs.Endings.{never_unread, only_put, only_verify}
+use Rattle.tool_core.proofs.SureEndings.{reads_refused, reads_past_limit}
 use Rattle.tool_core.proofs.surely.tool_surely.Goals as goal
 
 pub returns-clause-read : goal.returns-clause-read
@@ -9,3 +10,9 @@ returns-clause-write g c = only_put _ _ _ _ _ _ _ _ c.tool_main.ensures.words c.
 
 pub returns-clause-different : goal.returns-clause-different
 returns-clause-different g c = only_verify _ _ _ _ _ _ _ _ _ _ _ c.tool_main.ensures.different
+
+pub returns-clause-refused : goal.returns-clause-refused
+returns-clause-refused g c = λ is. reads_refused _ _ _ (c.tool_main.ensures.refused is)
+
+pub returns-clause-past_limit : goal.returns-clause-past_limit
+returns-clause-past_limit g c = λ is. reads_past_limit _ _ _ (c.tool_main.ensures.past_limit is)
