@@ -1,8 +1,8 @@
 -- How commands end.
 use Rattle.std.proofs.Common.{◌≡◌, ◌⊎◌, inl, inr, ℕ, List, [], ◌∷◌, refl, sym, ◌∙◌, ap, subst, arith, ◌≢◌, ◌↔◌}
-use Rattle.std.specs.Prelude.{Option, Some, None, IfSome, option_map, is_some, false, unwrap_or}
-use Rattle.std.specs.FinMap.{insert, get, contains_key}
-use Rattle.outside.specs.Files.{Files, Lacks, said, SaidSome}
+use Rattle.std.specs.Prelude.{Option, Some, None, IfSome, option_map, unwrap_or}
+use Rattle.std.specs.FinMap.{insert, get}
+use Rattle.outside.specs.Files.{Files, said, SaidSome}
 use Rattle.outside.specs.Faults.{Rose}
 use Rattle.cartridge.specs.Cartridge.{voice_at, IsMessageOf}
 use Rattle.sysex_frame.specs.Frame.{IsFrame, VoiceDump}
@@ -13,7 +13,7 @@ use Rattle.tool_core.specs.Refusals.{Wanted}
 use Rattle.tool_core.specs.Words.{Asked, Check, Names, Pick, Pack, Replay, Verify, Gen, Bench}
 use Rattle.tool_core.specs.Decisions.{IsAmong, Decides, IsDecided, IsReading, read_by}
 use Rattle.tool_core.specs.Orders.{IsOrderVerdict}
-use Rattle.tool_core.specs.Lines.{ok_line, cannot_write, differs_line, check_report, list_report}
+use Rattle.tool_core.specs.Lines.{ok_line, differs_line, check_report, list_report}
 use Rattle.tool_core.specs.Pages.{FailsIn}
 use Rattle.tool_core.specs.Outcomes.{Answers, Reports, Finishes, Moment, Tells, Ends, IsDone, IsUnread, IsUnwritten, IsRefused, IsPastLimit, IsDifferent, IsOutOfMemory, IsSame, IsOther, IsReport, IsVerify, FailsOut, FailsReport, AreWritten, AreBegun, IsWritten, BeginsOut, done_by, report, OnSuccess, IsOneOf, cartridge_of, picked, packed}
 use Rattle.tool_core.specs.Troubles.{HasReasonAmong, Stops, status_of, line_of}

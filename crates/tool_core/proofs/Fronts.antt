@@ -5,10 +5,10 @@ use Rattle.std.specs.FinMap.{get}
 use Rattle.std.proofs.Math.Seq.{take-add, take-append-add, take-append_seam, drop-append_seam, drop-nil}
 use Rattle.std.proofs.lemmas.List.{take-append-drop, take-append-le, length-take, length-take-le, take_all}
 use Rattle.std.proofs.lemmas.Option.{slice_get_past, slice_get-get_or}
-use Rattle.outside.specs.Files.{Files, ReadsFrom, Lacks, file_of}
+use Rattle.outside.specs.Files.{Files, ReadsFrom, file_of}
 use Rattle.tool_core.specs.declared.comparing.Step.{Step}
 use Rattle.tool_core.specs.declared.comparing.Step.TheVariants.{Same, Differs}
-use Rattle.tool_core.specs.Comparisons.{DiffersAt, IsCompared, IsFront, IsStep, IsWithin}
+use Rattle.tool_core.specs.Comparisons.{DiffersAt, IsFront, IsStep, IsWithin}
 
 -- ---- bytes at a place
 get_behind : (front a : List ℕ) (i : ℕ) → slice_get (front ++ a) (length front + i) ≡ slice_get a i

@@ -1,13 +1,11 @@
 -- How the commands on orders end.
-use Rattle.std.proofs.Common.{◌≡◌, inl, inr, ℕ, ◌<◌, ◌≤◌, List, [], ◌∷◌, length, refl, sym, ◌∙◌, ap, subst, lt-ltb, if◌then◌else◌}
+use Rattle.std.proofs.Common.{◌≡◌, inl, inr, ℕ, ◌<◌, ◌≤◌, List, [], length, refl, sym, ◌∙◌, ap, subst, lt-ltb}
 use Rattle.std.specs.Prelude.{Option, Some, None, IfSome, IsSomeAnd, is_some, false, unwrap_or}
-use Rattle.std.specs.FinMap.{get, insert, contains_key}
+use Rattle.std.specs.FinMap.{get}
 use Rattle.std.proofs.lemmas.Bool.{le-ltb}
 use Rattle.outside.specs.Files.{Files, Lacks, content, file_of}
-use Rattle.outside.specs.Faults.{Rose}
 use Rattle.take_files.specs.Files.{wav}
 use Rattle.take_files.specs.Orders.{IsOrder, OrderData}
-use Rattle.tool_core.specs.declared.refusal.Refusal.{Refusal}
 use Rattle.tool_core.specs.declared.trouble.Trouble.{Trouble}
 use Rattle.tool_core.specs.declared.trouble.Trouble.TheVariants as trouble
 use Rattle.tool_core.specs.Verdicts.{Verdict, Lacking, TooLarge, TooMany, Refused, Good}

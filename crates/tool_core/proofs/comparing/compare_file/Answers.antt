@@ -1,4 +1,4 @@
-use Rattle.std.proofs.Common.{◌≡◌, ◌≤◌, length, sym, ◌∙◌, ap, subst, ℕ}
+use Rattle.std.proofs.Common.{◌≤◌, length, sym, ◌∙◌, ap, subst, ℕ}
 use Rattle.std.specs.Prelude.{Option}
 use Rattle.outside.specs.Files.{Files, file_of}
 use Rattle.take_files.specs.Files.{wav}

@@ -1,4 +1,4 @@
-use Rattle.std.proofs.Common.{◌≡◌, ◌-◌, length, take, drop, refl, ◌∙◌, ap, arith, length-drop}
+use Rattle.std.proofs.Common.{◌-◌, length, take, drop, refl, ◌∙◌, ap, arith, length-drop}
 use Rattle.std.specs.Prelude.{Option}
 use Rattle.outside.specs.Files.{Files, file_of}
 use Rattle.outside.proofs.Shelves.{rest_whole}

@@ -1,4 +1,4 @@
-use Rattle.std.proofs.Common.{◌≡◌, ◌≤◌, ◌-◌, ℕ, List, length}
+use Rattle.std.proofs.Common.{◌≡◌, ◌≤◌, ◌-◌, ℕ, List}
 use Rattle.std.specs.Prelude.{Some, None}
 use Rattle.outside.specs.Files.{file_of}
 use Rattle.command_set.specs.Entries.{LoggedData}

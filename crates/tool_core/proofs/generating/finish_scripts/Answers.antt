@@ -1,4 +1,4 @@
-use Rattle.std.proofs.Common.{◌≡◌, inl, inr, ℕ, ◌*◌, length, refl, ◌∙◌, ap}
+use Rattle.std.proofs.Common.{inl, inr, length, refl, ◌∙◌, ap}
 use Rattle.tool_core.specs.Lines.{scripts_line}
 use Rattle.tool_core.proofs.Drawings.{reports_same, stopped_begun}
 use Rattle.tool_core.proofs.generating.finish_scripts.Goals as goal

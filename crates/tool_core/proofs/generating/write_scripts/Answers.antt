@@ -1,8 +1,7 @@
-use Rattle.std.proofs.Common.{◌≡◌, ◌<◌, ◌^◌, length, ◌∙◌, ap, sym, subst, ℕ, arith}
+use Rattle.std.proofs.Common.{◌≡◌, ◌<◌, length, ◌∙◌, sym, subst, ℕ, arith}
 use Rattle.std.specs.Prelude.{IfSome, IsSomeAnd}
-use Rattle.outside.proofs.Shelves.{handed_on}
 use Rattle.tool_core.specs.Scripts.{AreDrawn, IsScript}
-use Rattle.tool_core.proofs.Drawings.{drawn_none, drawn_more, stopped_at}
+use Rattle.tool_core.proofs.Drawings.{drawn_more, stopped_at}
 use Rattle.tool_core.proofs.generating.write_scripts.Goals as goal
 
 pub returns-in-Err-clause-stopped : goal.returns-in-Err-clause-stopped

@@ -1,6 +1,6 @@
-use Rattle.std.proofs.Common.{◌≡◌, ℕ, List, [], ◌++◌, refl, sym, ◌∙◌, ap, arith}
+use Rattle.std.proofs.Common.{ℕ, List, [], ◌++◌, refl, sym, ◌∙◌, ap, arith}
 use Rattle.outside.proofs.Shelves.{handed_on}
-use Rattle.take_files.specs.Files.{wav_blocks, wav_header}
+use Rattle.take_files.specs.Files.{wav_blocks}
 use Rattle.tool_core.proofs.Sounds.{header_begins, piece_begins, header_begun, piece_begun, sound_written}
 use Rattle.tool_core.proofs.Writings.{begun_at_piece, piece_written, has_created, has_written}
 use Rattle.tool_core.proofs.replaying.write_sound.Goals as goal

@@ -1,4 +1,4 @@
-use Rattle.std.proofs.Common.{◌≡◌, ◌≤◌, ◌-◌, ℕ, List}
+use Rattle.std.proofs.Common.{◌≡◌, ◌≤◌, ◌-◌, List}
 use Rattle.std.specs.Prelude.{option_map}
 use Rattle.outside.specs.Files.{Lacks}
 use Rattle.command_set.specs.Entries.{LoggedData}
