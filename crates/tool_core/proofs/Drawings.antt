@@ -1,8 +1,8 @@
 -- The files of drawn scripts, one after the other.
-use Rattle.std.proofs.Common.{get_or, length-append, ◌≡◌, inl, inr, ℕ, ◌+◌, ◌^◌, ◌<◌, ◌≤◌, List, [], ◌∷◌, ◌++◌, length, refl, sym, ◌∙◌, ap, subst, arith}
+use Rattle.std.proofs.Common.{◌≡◌, inl, inr, ℕ, ◌+◌, ◌^◌, ◌<◌, ◌≤◌, List, ◌++◌, refl, sym, ◌∙◌, ap, subst, arith}
 use Rattle.std.specs.Prelude.{Option, Some, None, IfSome, IsSomeAnd, option_map, decimal, codes}
 use Rattle.std.specs.FinMap.{get, insert}
-use Rattle.std.proofs.lemmas.List.{append_cancel_right, append_cancel_left, get_or_append_left, get_or_push}
+use Rattle.std.proofs.lemmas.List.{append_cancel_right, append_cancel_left}
 use Rattle.std.proofs.Math.Nat.{eq-or-lt_of_le}
 use Rattle.std.proofs.lemmas.Fmt.{decimal_injective}
 use Rattle.outside.specs.Files.{Files}
@@ -11,8 +11,7 @@ use Rattle.generator.specs.Drawn.{generated_text}
 use Rattle.tool_core.specs.Lines.{script_name}
 use Rattle.tool_core.specs.Words.{Gen}
 use Rattle.tool_core.specs.Outcomes.{BeginsOut, AreBegun, Reports}
-use Rattle.tool_core.specs.declared.generating.ScriptFile.{ScriptFile}
-use Rattle.tool_core.specs.Scripts.{IsScript, AreScripts, AreDrawn, StopsAt}
+use Rattle.tool_core.specs.Scripts.{AreDrawn, StopsAt}
 use Rattle.tool_core.proofs.Writings.{with_out}
 
 -- two scripts have two names
