@@ -1,11 +1,6 @@
 -- The journal of a script, and the part of it that waits at a block.
-use Rattle.std.proofs.Common.{◌≡◌, ◌≢◌, ℕ, zero, suc, ◌+◌, ◌≤◌, ◌<◌, List, [], ◌∷◌, ◌++◌, length, take, drop, get_or, map, refl, sym, ◌∙◌, ap, subst, arith, add-one, append_assoc}
-use Rattle.std.specs.Prelude.{◌==◌, Bool, true, false, cond, filter, take_while, All}
-use Rattle.std.proofs.lemmas.Bool.{eq-eqb, eqb-true}
-use Rattle.std.proofs.lemmas.Grind.{take_at_read}
-use Rattle.std.proofs.lemmas.List.{map-append, length-take-le}
-use Rattle.std.proofs.lemmas.List.Elements.{All-nil, All-cons}
-use Rattle.std.proofs.lemmas.List.Sums.{take_while-cons}
+use Rattle.std.proofs.Common.{◌≡◌, ℕ, ◌+◌, List, [], ◌∷◌, ◌++◌, length, refl, sym, ◌∙◌, ap, arith, append_assoc}
+use Rattle.std.proofs.lemmas.List.{map-append}
 use Rattle.command_set.specs.declared.entry.Logged.{Logged}
 use Rattle.command_set.specs.Entries.{LoggedData, journal_data, logged_data}
 use Rattle.take_files.specs.Files.{AreOrdered}

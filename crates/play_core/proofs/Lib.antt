@@ -2,4 +2,3 @@ pub mod Commands
 pub mod Plans
 pub mod Journals
 pub mod Writes
-pub mod Lines

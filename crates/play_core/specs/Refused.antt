@@ -1,5 +1,5 @@
 -- Why a take is refused before a file is touched.
-use Rattle.std.specs.Prelude.{◌≡◌, ◌⊎◌, ℕ, ◌<◌, ◌≤◌, List, [], ◌∷◌, length, Option, IfSome, IsSomeAnd}
+use Rattle.std.specs.Prelude.{◌≡◌, ◌⊎◌, ℕ, ◌<◌, ◌≤◌, List, length, Option, IfSome, IsSomeAnd}
 use Rattle.std.specs.FinMap.{get}
 use Rattle.outside.specs.Files.{Files, Lacks}
 use Rattle.outside.specs.Faults.{Rose}
@@ -31,11 +31,6 @@ IsPlanFault TooLong said = ⊥
 IsPlanFault Form said = said ≡ NotYet
 IsPlanFault Many said = said ≡ TooMany
 IsPlanFault Memory said = Unit {0}
-
--- the status is one of these
-abbrev pub IsOneOf : ℕ → List ℕ → Type 0
-IsOneOf status [] = ⊥
-IsOneOf status (one ∷ others) = (status ≡ one) ⊎ IsOneOf status others
 
 -- where the named script is there, not too long and of the form, and no count of faults rose
 abbrev pub OnSuccess : Option Files → List ℕ → ℕ → Type 0 → Type 0 → Type 0 → Type 0 → Type 0

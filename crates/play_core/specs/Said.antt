@@ -1,39 +1,19 @@
 -- What is said to an output.
 use Rattle.std.specs.Prelude.{◌≡◌, ◌⊎◌, ℕ, ◌≤◌, ◌<◌, List, [], ◌∷◌, ◌++◌, length, Option, option_map, codes}
-use Rattle.outside.specs.Files.{Files, said, SaidSome}
+use Rattle.outside.specs.Files.{Files, SaidSome}
+use Rattle.fault_lines.specs.Lines.{Says, cannot_write, limit_commands, limit_file}
 use Rattle.outside.specs.Faults.{Rose}
 use Rattle.play_core.specs.declared.writing.Target.TheVariants.{Sound, Order}
 use Rattle.play_core.specs.Script.{TooMany, plan}
 use Rattle.play_core.specs.Taken.{IsStopped, with_two}
 use Rattle.play_core.specs.Refused.{script_limit}
 
--- the line was added, or the output failed and some of it was added, from the front
-abbrev pub Says : List ℕ → Option (List ℕ) → Option (List ℕ) → ℕ → ℕ → Type 0
-Says line before now faults_before faults_now =
-    ((now ≡ option_map (said line) before) × (faults_now ≡ faults_before))
-    ⊎ (((now ≡ before) ⊎ SaidSome line before now) × (faults_before ≤ faults_now) × Rose faults_before faults_now)
-
--- the lines
+-- the lines of its own
 unfoldable pub usage : List ℕ
 usage = codes "usage: play OUT ORDER BLOCKS PLACES SCRIPT..." ++ 10 ∷ []
 
-unfoldable pub cannot_read : List ℕ → List ℕ
-cannot_read name = codes "cannot read " ++ name ++ 10 ∷ []
-
-unfoldable pub cannot_write : List ℕ → List ℕ
-cannot_write name = codes "cannot write " ++ name ++ 10 ∷ []
-
 unfoldable pub not_yet : List ℕ
 not_yet = codes "script 0: not yet" ++ 10 ∷ []
-
-unfoldable pub limit_file : List ℕ
-limit_file = codes "limit file" ++ 10 ∷ []
-
-unfoldable pub limit_commands : List ℕ
-limit_commands = codes "limit commands" ++ 10 ∷ []
-
-unfoldable pub out_of_memory : List ℕ
-out_of_memory = codes "out of memory" ++ 10 ∷ []
 
 -- the line of the limit that the script passes
 abbrev pub SaysLimit : ℕ → List ℕ → Option (List ℕ) → Option (List ℕ) → ℕ → ℕ → Type 0

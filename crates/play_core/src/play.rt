@@ -6,18 +6,20 @@ ghost use Rattle.take_files.specs.Files.{order as order_of, wav};
 ghost use Rattle.play_core.specs.Files.{report};
 ghost use Rattle.play_core.specs.Taken.{AreBegun, HalfTaken, IsPlan, journal_in, taken, with_two};
 ghost use Rattle.play_core.specs.Words.{asked};
-ghost use Rattle.play_core.specs.Refused.{Finds, IsOneOf, OnSuccess, script_limit};
-ghost use Rattle.play_core.specs.Said.{Says, SaysLimit, SaysOfWrite, cannot_read, limit_commands, limit_file, not_yet, out_of_memory};
+ghost use Rattle.play_core.specs.Refused.{Finds, OnSuccess, script_limit};
+ghost use Rattle.fault_lines.specs.Statuses.{IsOneOf};
+ghost use Rattle.play_core.specs.Said.{SaysLimit, SaysOfWrite, not_yet};
+ghost use Rattle.fault_lines.specs.Lines.{Says, cannot_read, limit_commands, limit_file, out_of_memory};
 
 use crate::making::Take;
 use crate::prepare::prepare;
 use crate::refusal::Refusal;
-use crate::saying::{
-    say_cannot_read, say_cannot_write, say_limit_commands, say_limit_file, say_not_yet,
-    say_out_of_memory,
-};
+use crate::saying::say_not_yet;
 use crate::words::Request;
 use crate::writing::{Target, write_files};
+use fault_lines::{
+    say_cannot_read, say_cannot_write, say_limit_commands, say_limit_file, say_out_of_memory,
+};
 use outside::{Out, Shelf, put_all};
 use std::alloc::Global;
 

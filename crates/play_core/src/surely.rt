@@ -1,7 +1,8 @@
 ghost use Rattle.std.specs.Prelude.{◌≡◌, ◌≢◌, ◌⊎◌, ◌↔◌, [], ◌∷◌, None, map, string_bytes};
 ghost use Rattle.outside.specs.Faults.{Rose};
-ghost use Rattle.play_core.specs.Refused.{IsOneOf};
-ghost use Rattle.play_core.specs.Said.{Says, limit_commands, limit_file, not_yet, out_of_memory, usage};
+ghost use Rattle.fault_lines.specs.Statuses.{IsOneOf};
+ghost use Rattle.play_core.specs.Said.{not_yet, usage};
+ghost use Rattle.fault_lines.specs.Lines.{Says, limit_commands, limit_file, out_of_memory};
 ghost use Rattle.play_core.specs.Words.{asked_by};
 
 use crate::play_main;

@@ -6,8 +6,10 @@ ghost use Rattle.play_core.specs.Script.{NotYet, plan};
 ghost use Rattle.take_files.specs.Files.{order, wav};
 ghost use Rattle.play_core.specs.Files.{report};
 ghost use Rattle.play_core.specs.Taken.{HalfTaken, IsPlan, journal_in, taken};
-ghost use Rattle.play_core.specs.Refused.{Finds, IsOneOf, OnSuccess, script_limit};
-ghost use Rattle.play_core.specs.Said.{Says, SaysLimit, SaysOfWrite, cannot_read, limit_commands, limit_file, not_yet, out_of_memory, usage};
+ghost use Rattle.play_core.specs.Refused.{Finds, OnSuccess, script_limit};
+ghost use Rattle.fault_lines.specs.Statuses.{IsOneOf};
+ghost use Rattle.play_core.specs.Said.{SaysLimit, SaysOfWrite, not_yet, usage};
+ghost use Rattle.fault_lines.specs.Lines.{Says, cannot_read, limit_commands, limit_file, out_of_memory};
 
 use crate::play::play;
 use crate::saying::say_usage;

@@ -14,7 +14,8 @@ use Rattle.tool_core.specs.Verdicts.{Verdict, Lacking, Good, Refused, TooLarge, 
 use Rattle.tool_core.specs.Words.{Asked, Check, Names, Pick, Pack, Replay, Verify, Gen, Bench}
 use Rattle.tool_core.specs.Decisions.{Decides, IsDecided}
 use Rattle.tool_core.specs.Orders.{IsOrderVerdict, IsRefusedFor}
-use Rattle.tool_core.specs.Outcomes.{Moment, Ends, IsOneOf}
+use Rattle.tool_core.specs.Outcomes.{Moment, Ends}
+use Rattle.fault_lines.specs.Statuses.{IsOneOf}
 use Rattle.tool_core.specs.Statuses.{statuses_of, AnswersBy}
 
 -- bytes are refused for one reason

@@ -15,7 +15,8 @@ use Rattle.tool_core.specs.Decisions.{IsAmong, Decides, IsDecided, IsReading, re
 use Rattle.tool_core.specs.Orders.{IsOrderVerdict}
 use Rattle.tool_core.specs.Lines.{ok_line, differs_line, check_report, list_report}
 use Rattle.tool_core.specs.Pages.{FailsIn}
-use Rattle.tool_core.specs.Outcomes.{Answers, Reports, Finishes, Moment, Tells, Ends, IsDone, IsUnread, IsUnwritten, IsRefused, IsPastLimit, IsDifferent, IsOutOfMemory, IsSame, IsOther, IsReport, IsVerify, FailsOut, FailsReport, AreWritten, AreBegun, IsWritten, BeginsOut, done_by, report, OnSuccess, IsOneOf, cartridge_of, picked, packed}
+use Rattle.tool_core.specs.Outcomes.{Answers, Reports, Finishes, Moment, Tells, Ends, IsDone, IsUnread, IsUnwritten, IsRefused, IsPastLimit, IsDifferent, IsOutOfMemory, IsSame, IsOther, IsReport, IsVerify, FailsOut, FailsReport, AreWritten, AreBegun, IsWritten, BeginsOut, done_by, report, OnSuccess, cartridge_of, picked, packed}
+use Rattle.fault_lines.specs.Statuses.{IsOneOf}
 use Rattle.tool_core.specs.Troubles.{HasReasonAmong, Stops, status_of, line_of}
 
 -- why a command on files of messages refuses

@@ -1,6 +1,5 @@
 pub mod Streams
 pub mod Surveying
-pub mod Pieces
 pub mod Paging
 pub mod EachName
 pub mod Writings

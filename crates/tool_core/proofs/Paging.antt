@@ -4,7 +4,7 @@ use Rattle.std.specs.Prelude.{Option, option_map}
 use Rattle.outside.specs.Files.{said, SaidSome}
 use Rattle.outside.proofs.Shelves.{then_said}
 use Rattle.tool_core.specs.Pages.{Puts, FailsIn}
-use Rattle.tool_core.proofs.Pieces.{some_behind, some_before}
+use Rattle.fault_lines.proofs.Pieces.{some_behind, some_before}
 
 pub page_put : (o before now : Option (List ℕ)) (page put text : List ℕ) → put ≡ page → now ≡ option_map (said put) before
     → Puts o before page text → Puts o now [] text

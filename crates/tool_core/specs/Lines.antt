@@ -16,21 +16,6 @@ use Rattle.tool_core.specs.Refusals.{clamped_voice, message_content}
 unfoldable pub usage : List ℕ
 usage = codes "usage: tool COMMAND WORDS..." ++ 10 ∷ []
 
-unfoldable pub cannot_read : List ℕ → List ℕ
-cannot_read name = codes "cannot read " ++ name ++ 10 ∷ []
-
-unfoldable pub cannot_write : List ℕ → List ℕ
-cannot_write name = codes "cannot write " ++ name ++ 10 ∷ []
-
-unfoldable pub limit_file : List ℕ
-limit_file = codes "limit file" ++ 10 ∷ []
-
-unfoldable pub limit_commands : List ℕ
-limit_commands = codes "limit commands" ++ 10 ∷ []
-
-unfoldable pub out_of_memory : List ℕ
-out_of_memory = codes "out of memory" ++ 10 ∷ []
-
 unfoldable pub ok_line : List ℕ
 ok_line = codes "ok" ++ 10 ∷ []
 

@@ -1,5 +1,5 @@
 -- What a command leaves, by its status.
-use Rattle.std.specs.Prelude.{◌≡◌, ◌≢◌, ◌⊎◌, ℕ, ◌-◌, ◌*◌, ◌<◌, ◌≤◌, List, [], ◌∷◌, ◌++◌, length, map, replicate, Option, Some, None, IfSome, IsSomeAnd, option_map, unwrap_or}
+use Rattle.std.specs.Prelude.{◌≡◌, ◌≢◌, ◌⊎◌, ℕ, ◌-◌, ◌*◌, ◌<◌, List, [], ◌∷◌, ◌++◌, length, map, replicate, Option, Some, None, IfSome, IsSomeAnd, option_map, unwrap_or}
 use Rattle.std.specs.FinMap.{get, insert}
 use Rattle.outside.specs.Files.{Files, Lacks, content, file_of, said, SaidSome}
 use Rattle.outside.specs.Faults.{Rose}
@@ -14,7 +14,8 @@ use Rattle.tool_core.specs.Verdicts.{Lacking, TooLarge, TooMany, Refused, Good}
 use Rattle.tool_core.specs.Comparisons.{DiffersAt}
 use Rattle.tool_core.specs.Words.{Asked, Check, Names, Pick, Pack, Replay, Verify, Gen, Bench}
 use Rattle.tool_core.specs.Decisions.{IsAmong, Decides, IsDecided, IsReading, read_by}
-use Rattle.tool_core.specs.Lines.{cannot_read, cannot_write, limit_file, limit_commands, out_of_memory, ok_line, same_line, differs_line, refusal_line, check_report, list_report, script_name, scripts_line, bench_line}
+use Rattle.tool_core.specs.Lines.{ok_line, same_line, differs_line, refusal_line, check_report, list_report, script_name, scripts_line, bench_line}
+use Rattle.fault_lines.specs.Lines.{Says, cannot_read, cannot_write, limit_file, limit_commands, out_of_memory}
 use Rattle.generator.specs.Drawn.{drawn_journal, sum_of_samples}
 use Rattle.tool_core.specs.Scripts.{IsBegun, AreDrawn, StopsAt}
 
@@ -30,12 +31,6 @@ pub record Moment : Type 0 where
 abbrev pub moment : Option Files → ℕ → ℕ → Option (List ℕ) → ℕ → Moment
 moment files reading writing written faults =
     record { files = files; reading = reading; writing = writing; written = written; faults = faults }
-
--- the line was added, or the output failed and some of it was added, from the front
-abbrev pub Says : List ℕ → Option (List ℕ) → Option (List ℕ) → ℕ → ℕ → Type 0
-Says line before now faults_before faults_now =
-    ((now ≡ option_map (said line) before) × (faults_now ≡ faults_before))
-    ⊎ (((now ≡ before) ⊎ SaidSome line before now) × (faults_before ≤ faults_now) × Rose faults_before faults_now)
 
 abbrev pub Tells : List ℕ → Moment → Moment → Type 0
 Tells line before now = Says line before.written now.written before.faults now.faults
@@ -266,11 +261,6 @@ Finishes name text status before now =
     × (((now.writing ≡ before.writing) × (now.files ≡ option_map (λ files. insert files name text) before.files)
     × Reports ok_line status before.written now.written before.faults now.faults)
     ⊎ ((status ≡ 3) × FailsFile name text before now))
-
--- the status is one of these
-abbrev pub IsOneOf : ℕ → List ℕ → Type 0
-IsOneOf status [] = ⊥
-IsOneOf status (one ∷ others) = (status ≡ one) ⊎ IsOneOf status others
 
 -- the scripts were all written and then the report, or a write of one failed
 abbrev pub WritesScripts : ℕ → ℕ → ℕ → ℕ → Moment → Moment → Type 0

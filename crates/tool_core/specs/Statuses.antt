@@ -4,7 +4,8 @@ use Rattle.outside.specs.Faults.{Rose}
 use Rattle.tool_core.specs.Verdicts.{Verdict, Lacking, TooLarge, TooMany, Refused, Good}
 use Rattle.tool_core.specs.Words.{Asked}
 use Rattle.tool_core.specs.Decisions.{Decides}
-use Rattle.tool_core.specs.Outcomes.{IsOneOf, Moment}
+use Rattle.tool_core.specs.Outcomes.{Moment}
+use Rattle.fault_lines.specs.Statuses.{IsOneOf}
 
 -- the statuses of a verdict, want of memory among them
 abbrev pub statuses_of : Verdict → List ℕ

@@ -9,7 +9,8 @@ use Rattle.tool_core.specs.Refusals.{Wanted, refusal}
 use Rattle.tool_core.specs.Words.{Asked}
 use Rattle.tool_core.specs.Verdicts.{Verdict, Lacking, TooLarge, TooMany, Refused, verdict_on, AreJudged}
 use Rattle.tool_core.specs.Decisions.{IsDecided, IsAmong, read_by}
-use Rattle.tool_core.specs.Lines.{cannot_read, limit_file, limit_commands, out_of_memory, refusal_line}
+use Rattle.tool_core.specs.Lines.{refusal_line}
+use Rattle.fault_lines.specs.Lines.{cannot_read, limit_file, limit_commands, out_of_memory}
 
 -- why a file of at most so many bytes was not read, with the count of reading faults before and after
 abbrev pub IsReadTrouble : Trouble → ℕ → Option Files → List ℕ → ℕ → ℕ → Type 0

@@ -1,7 +1,8 @@
 //! The commands.
 
 ghost use Rattle.std.specs.Prelude.{◌≡◌, ◌<◌, ◌≤◌, length, map, string_bytes};
-ghost use Rattle.tool_core.specs.Outcomes.{moment, Ends, Says};
+ghost use Rattle.tool_core.specs.Outcomes.{moment, Ends};
+ghost use Rattle.fault_lines.specs.Lines.{Says};
 ghost use Rattle.tool_core.specs.Troubles.{line_of, status_of};
 ghost use Rattle.tool_core.specs.Words as words;
 
@@ -9,11 +10,10 @@ use crate::listing::list_page;
 use crate::packing::{name_at, read_pack};
 use crate::printing::put_check;
 use crate::reading::{read_cartridge, read_messages};
-use crate::saying::{
-    say_cannot_read, say_limit_commands, say_limit_file, say_out_of_memory, say_refusal,
-};
+use crate::saying::say_refusal;
 use crate::trouble::Trouble;
 use crate::writing::{finish, put_report};
+use fault_lines::{say_cannot_read, say_limit_commands, say_limit_file, say_out_of_memory};
 use outside::{Out, Shelf};
 use std::alloc::Global;
 use sysex_frame::write_voice;

@@ -11,9 +11,9 @@ ghost use Rattle.tool_core.specs.Words as words;
 
 use crate::commands::refuse;
 use crate::line::scripts_line;
-use crate::saying::say_cannot_write;
 use crate::trouble::Trouble;
 use crate::writing::{put_report, write_out};
+use fault_lines::say_cannot_write;
 use generator::script_text;
 use outside::{Failed, Out, Shelf};
 use std::alloc::{AllocError, Global};

@@ -6,15 +6,15 @@ ghost use Rattle.command_set.specs.Entries.{LoggedData};
 ghost use Rattle.take_files.specs.Files.{wav};
 ghost use Rattle.take_files.specs.Playback.{IsAt};
 ghost use Rattle.outside.specs.Faults.{HasCause};
-ghost use Rattle.tool_core.specs.Lines.{out_of_memory};
-ghost use Rattle.tool_core.specs.Outcomes.{moment, BeginsOut, Ends, Finishes, Says};
+ghost use Rattle.fault_lines.specs.Lines.{Says, out_of_memory};
+ghost use Rattle.tool_core.specs.Outcomes.{moment, BeginsOut, Ends, Finishes};
 ghost use Rattle.tool_core.specs.Words as words;
 
 use crate::commands::refuse;
 use crate::order::read_order_file;
-use crate::saying::say_cannot_write;
 use crate::trouble::Trouble;
 use crate::writing::put_ok;
+use fault_lines::say_cannot_write;
 use outside::{Failed, Out, Shelf, append_all};
 use std::alloc::Global;
 use take_files::{Order, Piece, Playback, wav_header};

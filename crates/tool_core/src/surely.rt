@@ -2,7 +2,9 @@ ghost use Rattle.std.specs.Prelude.{◌≡◌, ◌≢◌, ◌↔◌, [], ◌∷�
 ghost use Rattle.outside.specs.Faults.{Rose};
 ghost use Rattle.tool_core.specs.Decisions.{IsReading};
 ghost use Rattle.tool_core.specs.Lines.{usage};
-ghost use Rattle.tool_core.specs.Outcomes.{IsOneOf, IsVerify, Says};
+ghost use Rattle.tool_core.specs.Outcomes.{IsVerify};
+ghost use Rattle.fault_lines.specs.Lines.{Says};
+ghost use Rattle.fault_lines.specs.Statuses.{IsOneOf};
 ghost use Rattle.tool_core.specs.Words.{asked_by};
 
 use crate::tool_main;

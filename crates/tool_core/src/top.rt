@@ -1,6 +1,8 @@
 ghost use Rattle.std.specs.Prelude.{◌≡◌, ◌↔◌, [], ◌∷◌, IfSome, None, map, string_bytes};
 ghost use Rattle.tool_core.specs.Lines.{usage};
-ghost use Rattle.tool_core.specs.Outcomes.{done_by, moment, Ends, IsDifferent, IsDone, IsOneOf, IsOutOfMemory, IsPastLimit, IsRefused, IsUnread, IsUnwritten, OnSuccess, Says};
+ghost use Rattle.tool_core.specs.Outcomes.{done_by, moment, Ends, IsDifferent, IsDone, IsOutOfMemory, IsPastLimit, IsRefused, IsUnread, IsUnwritten, OnSuccess};
+ghost use Rattle.fault_lines.specs.Lines.{Says};
+ghost use Rattle.fault_lines.specs.Statuses.{IsOneOf};
 ghost use Rattle.tool_core.specs.Statuses.{AnswersBy};
 ghost use Rattle.tool_core.specs.Words.{asked, asked_by, IsInRange};
 

@@ -6,7 +6,7 @@ ghost use Rattle.outside.specs.Faults.{HasCause};
 ghost use Rattle.tool_core.specs.Lines.{ok_line};
 ghost use Rattle.tool_core.specs.Outcomes.{moment, BeginsOut, Finishes, Reports};
 
-use crate::saying::say_cannot_write;
+use fault_lines::say_cannot_write;
 use outside::{Failed, Out, Shelf, append_all, put_all};
 
 /// Makes the file empty, and appends its bytes.

@@ -1,4 +1,4 @@
-use Rattle.std.proofs.Common.{◌≡◌, ℕ, ◌+◌, ◌∷◌, [], ◌++◌, length, length-append, ap, sym, ◌∙◌, arith}
+use Rattle.std.proofs.Common.{◌≡◌, ℕ, ◌∷◌, [], length, length-append, ap, sym, ◌∙◌, arith}
 use Rattle.command_set.specs.Entries.{journal_data}
 use Rattle.play_core.specs.Files.{logged}
 use Rattle.play_core.proofs.Journals.{entered, journal_none, yielded_more}

@@ -1,5 +1,5 @@
 use Rattle.std.proofs.Common.{List, subst, sym}
-use Rattle.command_set.specs.Entries.{LoggedData, journal_data}
+use Rattle.command_set.specs.Entries.{LoggedData}
 use Rattle.take_files.specs.Files.{AreOrdered}
 use Rattle.take_files.proofs.Journals.{ordered_range}
 use Rattle.play_core.proofs.Journals.{ordered_from}

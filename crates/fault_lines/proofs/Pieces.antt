@@ -6,7 +6,7 @@ use Rattle.std.proofs.Math.Seq.{take-append_seam, take-append-add}
 use Rattle.outside.specs.Files.{said, SaidSome}
 use Rattle.outside.specs.Faults.{HasCause}
 use Rattle.outside.proofs.Shelves.{then_said}
-use Rattle.tool_core.specs.Outcomes.{Says}
+use Rattle.fault_lines.specs.Lines.{Says}
 
 -- some of the second piece, behind the whole first one, is some of both
 pub some_behind : (o mid now : Option (List ℕ)) (a b : List ℕ)
