@@ -1,6 +1,9 @@
 //! The command that plays drawn scripts.
 
-ghost use Rattle.std.specs.Prelude.{◌≡◌, ◌≤◌};
+ghost use Rattle.std.specs.Prelude.{◌≡◌, ◌≤◌, length, option_map};
+ghost use Rattle.generator.specs.Drawn.{drawn_journal, sum_of_samples};
+ghost use Rattle.outside.specs.Files.{said};
+ghost use Rattle.tool_core.specs.Lines as lines;
 ghost use Rattle.tool_core.specs.Outcomes.{moment, Ends};
 ghost use Rattle.tool_core.specs.Words as words;
 
@@ -21,7 +24,9 @@ pub fn bench<S: Shelf, O: Out>(
     out: &mut O,
 ) -> u8
     requires { blocks ≤ 100000 }
-    ensures { Ends (words.Bench seed blocks) result
+    ensures told { result ≡ 0 → O.written out.new ≡ option_map
+        (said (lines.bench_line (length (drawn_journal seed blocks)) blocks (sum_of_samples (drawn_journal seed blocks) blocks))) (O.written out.old) }
+    ensures ends { Ends (words.Bench seed blocks) result
         (moment (S.files shelf.old) (S.reading shelf.old) (S.writing shelf.old) (O.written out.old) (O.faults out.old))
         (moment (S.files shelf.new) (S.reading shelf.new) (S.writing shelf.new) (O.written out.new) (O.faults out.new)) }
 {

@@ -1,10 +1,12 @@
-ghost use Rattle.std.specs.Prelude.{◌≡◌, ◌↔◌, [], ◌∷◌, IfSome, None, map, string_bytes};
-ghost use Rattle.tool_core.specs.Lines.{usage};
+ghost use Rattle.std.specs.Prelude.{ℕ, ◌≡◌, ◌↔◌, [], ◌∷◌, IfSome, None, Some, length, map, option_map, string_bytes};
+ghost use Rattle.generator.specs.Drawn.{drawn_journal, sum_of_samples};
+ghost use Rattle.outside.specs.Files.{said};
+ghost use Rattle.tool_core.specs.Lines.{bench_line, usage};
 ghost use Rattle.tool_core.specs.Outcomes.{done_by, moment, Ends, IsDifferent, IsDone, IsOutOfMemory, IsPastLimit, IsRefused, IsUnread, IsUnwritten, OnSuccess};
 ghost use Rattle.fault_lines.specs.Lines.{Says};
 ghost use Rattle.fault_lines.specs.Statuses.{IsOneOf};
 ghost use Rattle.tool_core.specs.Statuses.{AnswersBy};
-ghost use Rattle.tool_core.specs.Words.{asked, asked_by, IsInRange};
+ghost use Rattle.tool_core.specs.Words.{Bench, asked, asked_by, IsInRange};
 
 use crate::benching::bench;
 use crate::commands::{check, list, pack, pick};
@@ -37,6 +39,9 @@ pub fn tool_main<S: Shelf, O: Out>(
     ensures done { result ≡ 0 → IfSome (asked_by (map string_bytes words.now)) (λ asked. IsDone asked
         (moment (S.files shelf.old) (S.reading shelf.old) (S.writing shelf.old) (O.written out.old) (O.faults out.old))
         (moment (S.files shelf.new) (S.reading shelf.new) (S.writing shelf.new) (O.written out.new) (O.faults out.new))) }
+    // What `bench` prints rests on no file: it holds over every shelf.
+    ensures summed { (seed blocks : ℕ) → asked_by (map string_bytes words.now) ≡ Some (Bench seed blocks) → result ≡ 0 → O.written out.new ≡ option_map
+        (said (bench_line (length (drawn_journal seed blocks)) blocks (sum_of_samples (drawn_journal seed blocks) blocks))) (O.written out.old) }
     ensures unread { result ≡ 2 → IfSome (asked_by (map string_bytes words.now)) (λ asked. IsUnread asked
         (moment (S.files shelf.old) (S.reading shelf.old) (S.writing shelf.old) (O.written out.old) (O.faults out.old))
         (moment (S.files shelf.new) (S.reading shelf.new) (S.writing shelf.new) (O.written out.new) (O.faults out.new))) }
@@ -79,7 +84,9 @@ pub fn tool_main<S: Shelf, O: Out>(
 /// Runs a command.
 fn run<S: Shelf, O: Out>(alloc: Global, request: Request<'_>, shelf: &mut S, out: &mut O) -> u8
     requires { IsInRange request }
-    ensures { Ends (asked request.entry) result
+    ensures summed { (seed blocks : ℕ) → asked request.entry ≡ Bench seed blocks → result ≡ 0 → O.written out.new ≡ option_map
+        (said (bench_line (length (drawn_journal seed blocks)) blocks (sum_of_samples (drawn_journal seed blocks) blocks))) (O.written out.old) }
+    ensures ends { Ends (asked request.entry) result
         (moment (S.files shelf.old) (S.reading shelf.old) (S.writing shelf.old) (O.written out.old) (O.faults out.old))
         (moment (S.files shelf.new) (S.reading shelf.new) (S.writing shelf.new) (O.written out.new) (O.faults out.new)) }
 {
