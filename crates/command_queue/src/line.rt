@@ -22,11 +22,14 @@ pub struct Line {
 }
 
 impl Model for Line {
+    ghost use Rattle.std.specs.Prelude.{◌≤◌, length};
     ghost use Rattle.command_queue.specs.Ends.{LineView};
 
     ghost Value = { LineView };
 
     ghost view = { λ s. record { table = s.queue.table.shared.table_id; places = s.queue.cap; quotas = s.quotas.items } };
+
+    ghost invariant = { λ s. length s.quotas.items ≤ 256 };
 }
 
 // Fixes the places and the quotas in the taker's role.
@@ -110,9 +113,10 @@ impl Line {
         Ok((line, taker, ends))
     }
 
-    /// How many entries may wait in it.
+    /// How many entries may wait in it. It has at most 256 ends.
     pub fn places(&self) -> usize
-        ensures { result ≡ self.now.places }
+        ensures places { result ≡ self.now.places }
+        ensures few { length self.now.quotas ≤ 256 }
     {
         self.queue.capacity()
     }

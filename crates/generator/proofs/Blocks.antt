@@ -7,7 +7,8 @@ use Rattle.std.proofs.lemmas.List.{length-map, get_or-set_same, get_or-set_other
 use Rattle.std.proofs.lemmas.List.FromFn.{length-map-range_with_len}
 use Rattle.std.proofs.lemmas.List.Sums.{sum_by-cons, sum_by-set}
 use Rattle.command_set.specs.Entries.{EntryData, LoggedData}
-use Rattle.schedule_core.specs.Core.{Core, opening, step, Settle, Render, logged_at}
+use Rattle.instrument.specs.Logging.{logged_at}
+use Rattle.schedule_core.specs.Core.{Core, opening, step, Settle, Render}
 use Rattle.schedule_core.specs.World.{IsWorld}
 use Rattle.schedule_core.specs.declared.world.World.{World}
 use Rattle.generator.specs.Drawn.{script_seed, entry, due_at, all_due_at, block_entries, journal_below}

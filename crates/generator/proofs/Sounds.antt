@@ -4,7 +4,7 @@ use Rattle.std.specs.List.{range_with_len, flat_map}
 use Rattle.std.proofs.lemmas.List.Sums.{fold-append}
 use Rattle.command_set.specs.Entries.{LoggedData}
 use Rattle.instrument.specs.Journal.{commands_at, sound}
-use Rattle.schedule_core.proofs.Journals.{commands_kept, sound_agrees}
+use Rattle.instrument.proofs.Journals.{commands_kept, sound_agrees}
 use Rattle.generator.specs.Drawn.{all_due_at, block_entries, journal_below, drawn_journal, total, sum_of_samples}
 use Rattle.generator.proofs.Ranges.{flat_more}
 

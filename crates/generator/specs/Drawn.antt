@@ -6,7 +6,7 @@ use Rattle.command_set.specs.Command.{CommandData, StartsNote, EndsNote, SetsNum
 use Rattle.command_set.specs.Entries.{EntryData, LoggedData}
 use Rattle.command_set.specs.Text.{text}
 use Rattle.instrument.specs.Journal.{sound}
-use Rattle.schedule_core.specs.Core.{logged_at}
+use Rattle.instrument.specs.Logging.{logged_at}
 use Rattle.generator.specs.Draws.{draw}
 
 -- the seed of a script's generator

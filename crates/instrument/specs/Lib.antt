@@ -1,5 +1,6 @@
 pub mod Mix
 pub mod State
 pub mod Journal
+pub mod Logging
 pub mod Running
 pub mod Instrument

@@ -4,6 +4,7 @@
 mod copy;
 mod disk;
 mod failures;
+mod gate;
 mod memory;
 mod output;
 mod shelf;
@@ -12,6 +13,7 @@ mod sure;
 mod whole;
 
 pub use disk::{DiskShelf, StdOut};
+pub use gate::{Gate, NoGate};
 pub use memory::MemShelf;
 pub use output::MemOut;
 pub use shelf::{Failed, Out, Shelf};

@@ -6,48 +6,10 @@ use Rattle.std.proofs.lemmas.List.{append-nil, map-append, length-map, length_pu
 use Rattle.std.proofs.lemmas.List.Elements.{All-nil, All-head, All-tail, All-append, All-push, All-map, All-weaker, filter-append}
 use Rattle.command_set.specs.Command.{CommandData}
 use Rattle.command_set.specs.Entries.{EntryData, LoggedData, AreNumbered, entries_of, sent_by}
-use Rattle.schedule_core.specs.Core.{Core, opening, Step, Send, Take, Render, Settle, step, run, queued, refused, taken, next_entry, logged_at, CanStep}
-use Rattle.schedule_core.specs.Schedule.{AreTakenUpTo, IsLegal}
-
--- the journal
-
-logged_entries : (b : ℕ) (es : List EntryData) → entries_of (map (logged_at b) es) ≡ es
-logged_entries b [] = refl
-logged_entries b (e ∷ es) = ap (λ (later : List EntryData). e ∷ later) (logged_entries b es)
-
-entries_logged : (journal : List LoggedData) (b : ℕ) (es : List EntryData) → entries_of (journal ++ map (logged_at b) es) ≡ entries_of journal ++ es
-entries_logged journal b es =
-    map-append (λ (l : LoggedData). l.entry) journal (map (logged_at b) es) ∙ ap (λ (later : List EntryData). entries_of journal ++ later) (logged_entries b es)
-
-abbrev IsPast : ℕ → LoggedData → Type 0
-IsPast present l = l.block ≤ present
-
-abbrev IsAt : ℕ → LoggedData → Type 0
-IsAt present l = l.block ≡ present
-
-past_more : (present : ℕ) (journal : List LoggedData) (es : List EntryData) → All (IsPast present) journal → All (IsPast present) (journal ++ map (logged_at present) es)
-past_more present journal es past = All-append (IsPast present) journal (map (logged_at present) es) past (All-map (IsPast present) (logged_at present) es (λ k d below. omega arith))
-
-order_by : (present : ℕ) (journal : List LoggedData) (es : List EntryData) (i j : ℕ) (d : LoggedData) → AreTakenUpTo present journal
-    → i ≤ j → j < length (journal ++ map (logged_at present) es) → (j < length journal) ⊎ (length journal ≤ j)
-    → (get_or (journal ++ map (logged_at present) es) i d).block ≤ (get_or (journal ++ map (logged_at present) es) j d).block
-order_by present journal es i j d h up below (inl inside) =
-    let front : i < length journal = omega (arith, up, inside) in
-    rw (get_or_append_left journal (map (logged_at present) es) d i front, get_or_append_left journal (map (logged_at present) es) d j inside) (h.order i j d up inside)
-order_by present journal es i j d h up below (inr behind) =
-    let at : get_or (journal ++ map (logged_at present) es) j d ≡ get_or (map (logged_at present) es) (j - length journal) d =
-    get_or-append_right journal (map (logged_at present) es) (length journal) j d refl behind in
-    let inside : j - length journal < length (map (logged_at present) es) = omega (arith, length-append journal (map (logged_at present) es)) in
-    let last : (get_or (map (logged_at present) es) (j - length journal) d).block ≡ present = All-map (IsAt present) (logged_at present) es (λ k d below. refl) (j - length journal) d inside in
-    let same : (get_or (journal ++ map (logged_at present) es) j d).block ≡ present = ap (λ (l : LoggedData). l.block) at ∙ last in
-    let low : (get_or (journal ++ map (logged_at present) es) i d).block ≤ present = past_more present journal es h.past i d (omega (arith, up, below)) in
-    omega (arith, low, same)
-
-taken_up_to : (present : ℕ) (journal : List LoggedData) (es : List EntryData) → AreTakenUpTo present journal → AreTakenUpTo present (journal ++ map (logged_at present) es)
-taken_up_to present journal es h = record {
-  order = λ i j d up below. order_by present journal es i j d h up below (cases_lt j (length journal));
-  past = past_more present journal es h.past;
-}
+use Rattle.schedule_core.specs.Core.{Core, opening, Step, Send, Take, Render, Settle, step, run, queued, refused, taken, next_entry, CanStep}
+use Rattle.instrument.specs.Logging.{logged_at}
+use Rattle.instrument.proofs.Journals.{IsPast, entries_logged, taken_up_to}
+use Rattle.schedule_core.specs.Schedule.{IsLegal}
 
 -- the first entries that wait are logged
 

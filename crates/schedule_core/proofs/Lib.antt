@@ -1,4 +1,3 @@
-pub mod Journals
 pub mod Sounds
 pub mod Legal
 pub mod Settling

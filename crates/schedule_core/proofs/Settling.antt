@@ -2,7 +2,8 @@
 use Rattle.std.proofs.Common.{◌≡◌, List, [], ◌∷◌, ◌++◌, length, replicate, map, sym, ◌∙◌, ap, append_assoc}
 use Rattle.std.proofs.lemmas.List.{append-nil}
 use Rattle.command_set.specs.Entries.{EntryData, LoggedData}
-use Rattle.schedule_core.specs.Core.{Core, Take, settled, run, logged_at}
+use Rattle.instrument.specs.Logging.{logged_at}
+use Rattle.schedule_core.specs.Core.{Core, Take, settled, run}
 
 -- the core with another line and journal
 abbrev with_lists : Core → List EntryData → List LoggedData → Core

@@ -5,7 +5,7 @@ use Rattle.std.specs.List.{range_with_len}
 use Rattle.command_set.specs.Entries.{EntryData, LoggedData}
 use Rattle.instrument.specs.Journal.{commands_at, sound}
 use Rattle.schedule_core.specs.Core.{Core, opening, Step, Send, Take, Render, Settle, step, run, answer, answers, queued, refused, taken, next_entry}
-use Rattle.schedule_core.proofs.Journals.{commands_kept, sound_agrees}
+use Rattle.instrument.proofs.Journals.{commands_kept, sound_agrees}
 
 -- the journal has the core's commands at each block that was rendered
 abbrev GoesOn : Core → List LoggedData → Type 0

@@ -15,10 +15,11 @@ use Rattle.instrument.specs.State.{opening as opening_state}
 use Rattle.instrument.specs.Journal.{state_at}
 use Rattle.schedule_core.specs.declared.mark.Mark.{Mark}
 use Rattle.schedule_core.specs.declared.world.World.{World}
-use Rattle.schedule_core.specs.Core.{Core, opening, Send, Take, Render, Settle, step, run, queued, refused, taken, next_entry, logged_at}
+use Rattle.instrument.specs.Logging.{logged_at}
+use Rattle.schedule_core.specs.Core.{Core, opening, Send, Take, Render, Settle, step, run, queued, refused, taken, next_entry}
 use Rattle.schedule_core.specs.Schedule.{IsLegal}
 use Rattle.schedule_core.specs.World.{mark_of, Stands, IsLater, IsFirst, ends_of, blocks_of}
-use Rattle.schedule_core.proofs.Journals.{state_opening, state_logged, state_passed}
+use Rattle.instrument.proofs.Journals.{state_opening, state_logged, state_passed}
 use Rattle.schedule_core.proofs.Legal.{opening_legal, step_legal, accepts, refuses}
 use Rattle.schedule_core.proofs.Sounds.{run_appended}
 use Rattle.schedule_core.proofs.Settling.{settles_by_taking}

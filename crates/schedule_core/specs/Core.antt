@@ -3,6 +3,7 @@ use Rattle.std.specs.Prelude.{ℕ, ◌+◌, ◌-◌, ◌^◌, ◌<◌, ◌==◌,
 use Rattle.command_set.specs.Command.{CommandData}
 use Rattle.command_set.specs.Entries.{EntryData, LoggedData}
 use Rattle.instrument.specs.Journal.{sound}
+use Rattle.instrument.specs.Logging.{logged_at}
 
 -- How many entries may wait, how many scripts there are, the entries that wait, the journal of those that were taken, the blocks that were rendered; and by the number of a script
 -- the entries that were accepted of it, how often it was refused, and how many had been accepted of it at its first refusal.
@@ -41,10 +42,6 @@ refused c script = record c {
   refusals = λ s. if script == s then min (c.refusals s + 1) (2 ^ 64 - 1) else c.refusals s;
   first = λ s. if script == s && c.refusals s == 0 then length (c.accepted s) else c.first s;
 }
-
--- an entry in the journal
-abbrev pub logged_at : ℕ → EntryData → LoggedData
-logged_at block e = record { block = block; entry = e }
 
 -- the first of the entries that wait is logged at the present block, if one waits
 abbrev pub taken : Core → List EntryData → Core

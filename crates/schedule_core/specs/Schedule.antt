@@ -1,14 +1,10 @@
 -- What holds of a core after every schedule.
-use Rattle.std.specs.Prelude.{ℕ, ◌≡◌, ◌+◌, ◌<◌, ◌≤◌, List, ◌++◌, length, map, replicate, All, slice_index_or}
+use Rattle.std.specs.Prelude.{ℕ, ◌≡◌, ◌+◌, ◌<◌, ◌≤◌, List, ◌++◌, length, map, replicate, All}
 use Rattle.std.specs.List.{range_with_len}
 use Rattle.command_set.specs.Entries.{LoggedData, AreQueued, entries_of, sent_by}
 use Rattle.instrument.specs.Journal.{sound}
+use Rattle.instrument.specs.Logging.{AreTakenUpTo}
 use Rattle.schedule_core.specs.Core.{Core, opening, Step, Take, Settle, step, run, answers, CanStep}
-
--- the blocks at which entries were taken don't fall, and none is above the present one
-pub record AreTakenUpTo (present : ℕ) (journal : List LoggedData) : Type 0 where
-  pub order : (i j : ℕ) (d : LoggedData) → i ≤ j → j < length journal → (slice_index_or journal i d).block ≤ (slice_index_or journal j d).block
-  pub past : All (λ l. l.block ≤ present) journal
 
 -- The entries that were taken and those that wait are of scripts that there are, numbered in each, and no more wait than there are places. A script's list is what was accepted of it.
 -- When a script was first refused, as many entries waited as there are places, so these and what was accepted of it since are at most all entries. The journal's blocks don't fall.

@@ -1,4 +1,4 @@
-ghost use Rattle.std.specs.Prelude.{◌≡◌, ◌++◌, ◌≤◌, ◌∷◌, [], ◌↔◌, IsTrue, OnOk, OnErr, IfSome, IfNone, length};
+ghost use Rattle.std.specs.Prelude.{◌≡◌, ◌++◌, ◌≤◌, ◌<◌, ◌^◌, ◌∷◌, [], ◌↔◌, IsTrue, OnOk, OnErr, IfSome, IfNone, length};
 ghost use Rattle.command_set.specs.Command.{content, IsInRange};
 ghost use Rattle.script_plan.specs.Plan.{planned_at, first_due, last_due, IsPlan};
 
@@ -61,6 +61,7 @@ impl Script {
     pub fn pop(&mut self) -> Option<(u32, Command)>
         ensures some { IfSome result (λ r. self.old ≡ planned_at r.0 (content r.1) ∷ self.new) }
         ensures none { IfNone result ((self.old ≡ []) × (self.new ≡ [])) }
+        ensures was { IsPlan self.old }
         ensures plan { IsPlan self.new }
     {
         let planned = self.commands.pop_front()?;
@@ -70,6 +71,7 @@ impl Script {
     /// How many commands it has.
     pub fn len(&self) -> usize
         ensures len { result ≡ length self.now }
+        ensures small { result < 2 ^ 63 }
         ensures plan { IsPlan self.now }
     {
         self.commands.len()

@@ -1,6 +1,6 @@
 use Rattle.std.proofs.Common.{◌∙◌}
 use Rattle.instrument.specs.Journal.{state_at}
-use Rattle.schedule_core.proofs.Journals.{sound_is}
+use Rattle.instrument.proofs.Journals.{sound_is}
 use Rattle.schedule_core.proofs.Worlds.{renders}
 use Rattle.schedule_core.proofs.world.World.render.Goals as goal
 

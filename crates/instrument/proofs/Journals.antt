@@ -1,14 +1,14 @@
--- A journal that grows by entries at the present block: its commands by block, and the state that they lead to.
-use Rattle.std.proofs.Common.{◌≡◌, ℕ, zero, suc, ◌+◌, ◌≤◌, ◌<◌, List, [], ◌∷◌, ◌++◌, map, refl, ◌∙◌, ap, arith, add-one}
-use Rattle.std.specs.Prelude.{◌==◌, Bool, true, false, filter, All}
-use Rattle.std.proofs.lemmas.Bool.{eq-eqb, ne_eqb}
-use Rattle.std.proofs.lemmas.List.{append-nil, map-append}
-use Rattle.std.proofs.lemmas.List.Elements.{All-head, All-tail, filter-append}
+-- A journal that grows by entries at the present block: its entries, its commands by block, and the state that they lead to.
+use Rattle.std.proofs.Common.{◌≡◌, ℕ, zero, suc, ◌+◌, ◌-◌, ◌≤◌, ◌<◌, List, [], ◌∷◌, ◌++◌, length, get_or, map, refl, ◌∙◌, ap, arith, add-one, length-append, inl, inr}
+use Rattle.std.specs.Prelude.{◌==◌, ◌⊎◌, Bool, true, false, filter, All}
+use Rattle.std.proofs.lemmas.Bool.{eq-eqb, ne_eqb, cases_lt}
+use Rattle.std.proofs.lemmas.List.{append-nil, map-append, get_or_append_left, get_or-append_right}
+use Rattle.std.proofs.lemmas.List.Elements.{All-head, All-tail, All-append, All-map, filter-append}
 use Rattle.command_set.specs.Command.{CommandData}
-use Rattle.command_set.specs.Entries.{EntryData, LoggedData}
+use Rattle.command_set.specs.Entries.{EntryData, LoggedData, entries_of}
 use Rattle.instrument.specs.State.{State, opening, passed, apply, samples}
 use Rattle.instrument.specs.Journal.{commands_at, applied, state_at, sound}
-use Rattle.schedule_core.specs.Core.{logged_at}
+use Rattle.instrument.specs.Logging.{logged_at, AreTakenUpTo}
 
 abbrev is_at : ℕ → LoggedData → Bool
 is_at b l = l.block == b
@@ -79,3 +79,43 @@ state_passed journal b past = rw add-one (ap (applied (passed (state_at journal 
 pub state_opening : state_at [] 0 ≡ opening
 unfolding state_at
 state_opening = refl
+
+-- the entries of the journal, and the order of their blocks
+
+logged_entries : (b : ℕ) (es : List EntryData) → entries_of (map (logged_at b) es) ≡ es
+logged_entries b [] = refl
+logged_entries b (e ∷ es) = ap (λ (later : List EntryData). e ∷ later) (logged_entries b es)
+
+pub entries_logged : (journal : List LoggedData) (b : ℕ) (es : List EntryData) → entries_of (journal ++ map (logged_at b) es) ≡ entries_of journal ++ es
+entries_logged journal b es =
+    map-append (λ (l : LoggedData). l.entry) journal (map (logged_at b) es) ∙ ap (λ (later : List EntryData). entries_of journal ++ later) (logged_entries b es)
+
+abbrev pub IsPast : ℕ → LoggedData → Type 0
+IsPast present l = l.block ≤ present
+
+abbrev IsAt : ℕ → LoggedData → Type 0
+IsAt present l = l.block ≡ present
+
+past_more : (present : ℕ) (journal : List LoggedData) (es : List EntryData) → All (IsPast present) journal → All (IsPast present) (journal ++ map (logged_at present) es)
+past_more present journal es past = All-append (IsPast present) journal (map (logged_at present) es) past (All-map (IsPast present) (logged_at present) es (λ k d below. omega arith))
+
+order_by : (present : ℕ) (journal : List LoggedData) (es : List EntryData) (i j : ℕ) (d : LoggedData) → AreTakenUpTo present journal
+    → i ≤ j → j < length (journal ++ map (logged_at present) es) → (j < length journal) ⊎ (length journal ≤ j)
+    → (get_or (journal ++ map (logged_at present) es) i d).block ≤ (get_or (journal ++ map (logged_at present) es) j d).block
+order_by present journal es i j d h up below (inl inside) =
+    let front : i < length journal = omega (arith, up, inside) in
+    rw (get_or_append_left journal (map (logged_at present) es) d i front, get_or_append_left journal (map (logged_at present) es) d j inside) (h.order i j d up inside)
+order_by present journal es i j d h up below (inr behind) =
+    let at : get_or (journal ++ map (logged_at present) es) j d ≡ get_or (map (logged_at present) es) (j - length journal) d =
+    get_or-append_right journal (map (logged_at present) es) (length journal) j d refl behind in
+    let inside : j - length journal < length (map (logged_at present) es) = omega (arith, length-append journal (map (logged_at present) es)) in
+    let last : (get_or (map (logged_at present) es) (j - length journal) d).block ≡ present = All-map (IsAt present) (logged_at present) es (λ k d below. refl) (j - length journal) d inside in
+    let same : (get_or (journal ++ map (logged_at present) es) j d).block ≡ present = ap (λ (l : LoggedData). l.block) at ∙ last in
+    let low : (get_or (journal ++ map (logged_at present) es) i d).block ≤ present = past_more present journal es h.past i d (omega (arith, up, below)) in
+    omega (arith, low, same)
+
+pub taken_up_to : (present : ℕ) (journal : List LoggedData) (es : List EntryData) → AreTakenUpTo present journal → AreTakenUpTo present (journal ++ map (logged_at present) es)
+taken_up_to present journal es h = record {
+  order = λ i j d up below. order_by present journal es i j d h up below (cases_lt j (length journal));
+  past = past_more present journal es h.past;
+}

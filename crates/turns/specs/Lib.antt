@@ -1,0 +1,4 @@
+pub mod Turns
+pub mod Written
+pub mod Timed
+pub mod Steps

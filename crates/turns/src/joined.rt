@@ -1,0 +1,114 @@
+//! After the turns: the ends are joined, and what the journal says of each script is known.
+ghost use Rattle.std.specs.Prelude.{◌≡◌, ◌≢◌, ◌<◌, ◌≤◌, ℕ, List, [], All, OnOk, OnErr, length, map, option_map, vec_len, vec_capacity, slice_index_or};
+ghost use Rattle.command_set.specs.Command.{IsInRange};
+ghost use Rattle.command_set.specs.Entries.{journal_data};
+ghost use Rattle.outside.specs.Files.{Lacks};
+ghost use Rattle.outside.specs.Faults.{HasCause};
+ghost use Rattle.take_files.specs.Files.{wav_blocks};
+ghost use Rattle.lateness.specs.Late.{AllBelow};
+ghost use Rattle.script_plan.specs.Plan.{PlannedData, dues};
+ghost use Rattle.players.specs.Players.{PlayerView};
+ghost use Rattle.turns.specs.Turns.{AreFresh, IsFreshRenderer, HavePlayed, AreOnTime, plans_of, many_commands};
+ghost use Rattle.turns.specs.Timed.{ArePlayed, IsTimed};
+ghost use Rattle.turns.specs.Written.{order_lines, both_appended, BothBegun};
+
+use crate::turns::play_turns;
+use command_queue::{Line, SendEnd};
+use command_set::Logged;
+use live_renderer::LiveRenderer;
+use outside::{Failed, Gate, Shelf};
+use players::Player;
+use std::sync::Wait;
+use std::thread::Threads;
+
+// The players' ends, in order, in a list that has room for them.
+fn ends_of(players: Vec<Player>, ends: Vec<SendEnd>) -> Vec<SendEnd>
+    requires empty { ends.items ≡ [] }
+    requires room { vec_len players ≤ vec_capacity ends }
+    ensures { result.items ≡ map (λ (p : PlayerView). p.end) players.items }
+{
+    let mut ends = ends;
+    for player in players {
+        ends.push_reserved(player.into_end());
+    }
+    ends
+}
+
+/// Joins the ends of the players after `play_turns`, whatever it answered, takes what rests in the line, and gives the journal. `ends` is empty and has room for an end for each player.
+///
+/// Of the plans that the players were handed in, the journal's entries of each script are just those of the first commands (`played`); and after all turns a command is late or left only where the
+/// line has few places (`timed`).
+pub fn close<R: Wait>(
+    rt: &R,
+    line: Line,
+    renderer: LiveRenderer,
+    players: Vec<Player>,
+    ends: Vec<SendEnd>,
+) -> Vec<Logged>
+    requires taker { renderer.taker.line ≡ line }
+    requires empty { ends.items ≡ [] }
+    requires room { vec_len players ≤ vec_capacity ends }
+    requires played { (plans : List (List PlannedData)) × HavePlayed line plans renderer.journal players.items }
+    ensures journal { journal_data result.items ≡ renderer.journal }
+    ensures ranges { All (λ l. IsInRange l.entry.command) renderer.journal }
+    ensures played { (plans : List (List PlannedData)) → HavePlayed line plans renderer.journal players.items → ArePlayed renderer.journal plans }
+    ensures timed { (plans : List (List PlannedData)) (blocks : ℕ) → HavePlayed line plans renderer.journal players.items → AreOnTime line blocks plans renderer.journal players.items
+        → IsTimed renderer.journal plans line.places }
+{
+    let (taker, journal) = renderer.into_parts();
+    let ends = ends_of(players, ends);
+    let mut rest = line.finish(rt, taker, ends);
+    for _ in rt.forever() {
+        if rest.next(rt).is_none() {
+            break;
+        }
+    }
+    journal
+}
+
+/// Plays the scripts of all players to their end, or until the shelf fails, by `play_turns` and `close`, and gives the journal with `play_turns`' answer.
+pub fn play_scripts<R: Threads + Wait + Sync, S: Shelf, G: Gate>(
+    rt: &R,
+    line: Line,
+    renderer: LiveRenderer,
+    players: Vec<Player>,
+    ends: Vec<SendEnd>,
+    blocks: u32,
+    shelf: &mut S,
+    sound: &str,
+    order: &str,
+    gate: &G,
+) -> (Vec<Logged>, Result<(), Failed>)
+    requires players { AreFresh line players.items }
+    requires renderer { IsFreshRenderer line renderer }
+    requires spare { many_commands (plans_of players.items) ≤ renderer.spare }
+    requires empty { ends.items ≡ [] }
+    requires room { vec_len players ≤ vec_capacity ends }
+    requires blocks { (1 ≤ blocks) × (blocks ≤ 1048576) }
+    requires due { (k : ℕ) (d : PlayerView) → k < length players.items → AllBelow blocks (dues (slice_index_or players.items k d).left) }
+    requires differ { sound.now ≢ order.now }
+    requires has_sound { ¬ (Lacks (S.files shelf.old) sound.now) }
+    requires has_order { ¬ (Lacks (S.files shelf.old) order.now) }
+    ensures ranges { All (λ l. IsInRange l.entry.command) (journal_data result.0.items) }
+    ensures played { ArePlayed (journal_data result.0.items) (plans_of players.items) }
+    ensures timed { OnOk result.1 (IsTimed (journal_data result.0.items) (plans_of players.items) line.places) }
+    ensures whole { OnOk result.1 (S.files shelf.new ≡ option_map (both_appended sound.now (wav_blocks (journal_data result.0.items) blocks) order.now (order_lines (journal_data result.0.items))) (S.files shelf.old)) }
+    ensures begun { OnErr result.1 (BothBegun sound.now (wav_blocks (journal_data result.0.items) blocks) order.now (order_lines (journal_data result.0.items)) (S.files shelf.old) (S.files shelf.new)) }
+    ensures cause { HasCause (S.writing shelf.old) (S.writing shelf.new) (S.reading shelf.old) (S.reading shelf.new) ⊥ result.1 }
+    ensures reads { S.reads shelf.new ≡ S.reads shelf.old }
+{
+    let mut renderer = renderer;
+    let mut players = players;
+    let result = play_turns(
+        rt,
+        &line,
+        &mut renderer,
+        players.as_mut_slice(),
+        blocks,
+        shelf,
+        sound,
+        order,
+        gate,
+    );
+    (close(rt, line, renderer, players, ends), result)
+}

@@ -1,0 +1,12 @@
+//! The turns of a run: in each the scripts send and the renderer takes, beside each other, and then what was made is appended to the files.
+#![tactic(auto)]
+
+mod half;
+mod joined;
+mod note;
+mod turns;
+mod write;
+
+pub use joined::{close, play_scripts};
+pub use turns::play_turns;
+

@@ -1,0 +1,54 @@
+//! What is made in a turn is appended to the two files.
+ghost use Rattle.std.specs.Prelude.{◌≡◌, ◌<◌, ◌≤◌, All, OnOk, OnErr, length, drop, option_map};
+ghost use Rattle.command_set.specs.Command.{IsInRange, content};
+ghost use Rattle.command_set.specs.Entries.{journal_data};
+ghost use Rattle.outside.specs.Files.{Lacks, AppendedSome, appended};
+ghost use Rattle.outside.specs.Faults.{HasCause};
+ghost use Rattle.turns.specs.Steps.{block_before};
+ghost use Rattle.turns.specs.Written.{order_lines};
+
+use command_set::{LineText, Logged};
+use outside::{Failed, Shelf, append_all};
+use take_files::{order_line, wav_block};
+
+/// Appends the block before a turn, where there is one.
+pub(crate) fn write_block<S: Shelf>(
+    t: u32,
+    samples: &[i16; 64],
+    shelf: &mut S,
+    sound: &str,
+) -> Result<(), Failed>
+    requires { ¬ (Lacks (S.files shelf.old) sound.now) }
+    ensures all { OnOk result (S.files shelf.new ≡ option_map (appended sound.now (block_before t samples.now)) (S.files shelf.old)) }
+    ensures some { OnErr result (AppendedSome sound.now (block_before t samples.now) (S.files shelf.old) (S.files shelf.new)) }
+    ensures cause { HasCause (S.writing shelf.old) (S.writing shelf.new) (S.reading shelf.old) (S.reading shelf.new) ⊥ result }
+    ensures reads { S.reads shelf.new ≡ S.reads shelf.old }
+{
+    if t == 0 {
+        return Ok(());
+    }
+    append_all(shelf, sound, &wav_block(samples))
+}
+
+/// Appends the lines of the entries of a journal from a number on.
+pub(crate) fn write_lines<S: Shelf>(
+    journal: &[Logged],
+    seen: usize,
+    shelf: &mut S,
+    order: &str,
+) -> Result<(), Failed>
+    requires told { ¬ (Lacks (S.files shelf.old) order.now) }
+    requires seen { seen ≤ length journal.now }
+    requires range { All (λ l. IsInRange l.entry.command) (journal_data journal.now) }
+    ensures all { OnOk result (S.files shelf.new ≡ option_map (appended order.now (order_lines (drop seen (journal_data journal.now)))) (S.files shelf.old)) }
+    ensures some { OnErr result (AppendedSome order.now (order_lines (drop seen (journal_data journal.now))) (S.files shelf.old) (S.files shelf.new)) }
+    ensures cause { HasCause (S.writing shelf.old) (S.writing shelf.new) (S.reading shelf.old) (S.reading shelf.new) ⊥ result }
+    ensures reads { S.reads shelf.new ≡ S.reads shelf.old }
+{
+    for logged in &journal[seen..] {
+        let mut text = LineText::new();
+        order_line(logged, &mut text);
+        append_all(shelf, order, text.as_slice())?;
+    }
+    Ok(())
+}
