@@ -1,5 +1,5 @@
 -- Which commands of a plan are due.
-use Rattle.std.proofs.Common.{◌≡◌, ℕ, zero, suc, ◌+◌, ◌≤◌, ◌<◌, Bool, true, false, leb, MatchBool, List, [], ◌∷◌, length, ap, ◌∙◌, arith, length-append}
+use Rattle.std.proofs.Common.{◌≡◌, ℕ, zero, suc, ◌+◌, ◌≤◌, ◌<◌, Bool, true, false, leb, MatchBool, List, [], ◌∷◌, length, ap, subst, ◌∙◌, arith, length-append}
 use Rattle.std.specs.Prelude.{Option, None, Some}
 use Rattle.std.proofs.lemmas.Bool.{leb-true, leb-false}
 use Rattle.command_set.specs.Entries.{EntryData}
@@ -49,3 +49,7 @@ ready_sent line p q c x h left end =
     } where
       one_more : (n : ℕ) → suc n ≡ n + 1
       one_more n = omega arith
+
+-- the first command that is left is due
+pub first_is_due : (t : ℕ) (c : PlannedData) (left rest : List PlannedData) → left ≡ c ∷ rest → FirstBelow (t + 1) (dues left) → c.due ≤ t
+first_is_due t c left rest is first = let e : c.due < t + 1 = subst (λ (cs : List PlannedData). FirstBelow (t + 1) (dues cs)) is first in omega (arith, e)

@@ -1,6 +1,6 @@
 //! One turn of all players, beside each other.
-ghost use Rattle.std.specs.Prelude.{◌≡◌, ◌+◌, ◌<◌, ℕ, MatchBool, length, slice_index_or, All};
-ghost use Rattle.players.specs.Players.{PlayerView, IsReady, Turned, AreReady, AllTurned, NoneIsDue};
+ghost use Rattle.std.specs.Prelude.{◌≡◌, ◌<◌, MatchBool, length};
+ghost use Rattle.players.specs.Players.{AreReady, AllTurned, NoneIsDue};
 
 use crate::player::Player;
 use command_queue::Line;
@@ -33,10 +33,11 @@ pub fn play_all<R: Threads + Wait + Sync, G: Gate>(
     ensures ready { AreReady line.now players.new }
     ensures turned { AllTurned turn players.old players.new }
 {
-    if players.len() <= 1 {
-        for player in players {
-            player.turn(rt, line, turn, gate);
-        }
+    if players.is_empty() {
+        return;
+    }
+    if players.len() == 1 {
+        players[0].turn(rt, line, turn, gate);
         return;
     }
     let middle = players.len() / 2;
@@ -54,6 +55,7 @@ fn play_both<R: Threads + Wait + Sync, G: Gate>(
     front: &mut [Player],
     back: &mut [Player],
 )
+    requires some { (0 < length front.old) × (0 < length back.old) }
     requires front { AreReady line.now front.old }
     requires back { AreReady line.now back.old }
     ensures front_ready { AreReady line.now front.new }
