@@ -8,7 +8,7 @@ use Rattle.instrument.specs.Logging.{logged_at}
 use Rattle.live_renderer.specs.declared.stop.TakeOne.{TakeOne}
 use Rattle.live_renderer.specs.declared.stop.TakeOne.TheVariants as one
 use Rattle.live_renderer.specs.Renderer.{RendererView, Logs, KeepsSound, TookOne}
-use Rattle.turns.specs.Turns.{LogsSome}
+use Rattle.turns.specs.Steps.{LogsSome}
 
 pub logs_none : (r : RendererView) → LogsSome r r
 logs_none r = (0, record {

@@ -1,6 +1,6 @@
 -- One turn more, of a player and of all.
-use Rattle.std.proofs.Common.{◌≡◌, ℕ, zero, suc, ◌+◌, ◌-◌, ◌*◌, ◌^◌, ◌<◌, ◌≤◌, Bool, true, false, cond, List, [], ◌∷◌, ◌++◌, length, map, take, replicate, get_or, refl, sym, ap, ◌∙◌, subst, inl, inr, arith, append_assoc, append-nil, zero-add, length-append}
-use Rattle.std.specs.Prelude.{filter, ◌==◌, ◌⊎◌, min, ℤ}
+use Rattle.std.proofs.Common.{◌≡◌, ℕ, zero, suc, ◌+◌, ◌-◌, ◌<◌, ◌≤◌, Bool, true, false, cond, List, [], ◌∷◌, ◌++◌, length, map, take, replicate, get_or, refl, sym, ap, ◌∙◌, subst, inl, inr, arith, append_assoc, zero-add, length-append}
+use Rattle.std.specs.Prelude.{filter, ◌==◌, ◌⊎◌, All, ℤ}
 use Rattle.std.proofs.lemmas.List.{map-append}
 use Rattle.std.proofs.Math.ListN.{length-map}
 use Rattle.command_set.specs.declared.entry.Logged.{Logged}
@@ -8,24 +8,22 @@ use Rattle.command_set.specs.Entries.{EntryData, LoggedData, logged_data, journa
 use Rattle.command_queue.specs.Ends.{LineView, SendView, TakeView, quota_of, others_of, one_up}
 use Rattle.command_queue.specs.Entries.{others_at}
 use Rattle.instrument.specs.Logging.{logged_at}
-use Rattle.lateness.specs.Late.{AllBelow, AllFrom, FirstBelow, HasKept, AreTimed, late_turns}
-use Rattle.lateness.proofs.Turns.{one_turn, few_late, Ended}
-use Rattle.lateness.proofs.Times.{times}
-use Rattle.players.specs.Players.{PlanData, PlayerView, Advanced, Stayed, WasStopped, Turned, IsPlan, IsReady, entries, dues}
-use Rattle.players.proofs.Turns.{length-entries}
-use Rattle.take_files.specs.Files.{wav_block, wav_blocks}
 use Rattle.instrument.specs.Journal.{sound}
+use Rattle.lateness.specs.Late.{AllFrom, HasKept}
+use Rattle.lateness.proofs.Turns.{one_turn, few_late, Ended}
+use Rattle.script_plan.specs.Plan.{PlannedData, dues}
+use Rattle.players.specs.Players.{PlayerView, Stayed, WasStopped, Turned, IsReady, entries}
+use Rattle.players.proofs.Turns.{length-entries}
 use Rattle.live_renderer.specs.Renderer.{RendererView, KeepsSound}
-use Rattle.turns.specs.Rooms.{RoomView}
-use Rattle.turns.specs.Turns.{blocks_of, order_lines, LogsSome, at_block, Noted, AreFresh, IsFreshRenderer, IsFresh, HasPlayed, HasEnded, HaveTurned, AfterTurns}
-use Rattle.turns.proofs.Logging.{logs_join, keeps_more, front_logged}
-use Rattle.turns.proofs.Sounds.{wav_kept, wav_more, wav_none}
+use Rattle.turns.specs.Turns.{blocks_of, AreFresh, IsFreshRenderer, IsFresh}
+use Rattle.turns.specs.Steps.{LogsSome, at_block, Noted, HadTurns, HaveTurned, AfterTurns}
+use Rattle.turns.proofs.Logging.{logs_join, front_logged}
 use Rattle.turns.proofs.Noting.{blocks_append}
 
-dues_append : (xs ys : List PlanData) → dues (xs ++ ys) ≡ dues xs ++ dues ys
-dues_append xs ys = map-append (λ (c : PlanData). c.due) xs ys
+pub dues_append : (xs ys : List PlannedData) → dues (xs ++ ys) ≡ dues xs ++ dues ys
+dues_append xs ys = map-append (λ (c : PlannedData). c.due) xs ys
 
-entries_append : (script seq : ℕ) (xs ys : List PlanData) → entries script seq (xs ++ ys) ≡ entries script seq xs ++ entries script (seq + length xs) ys
+entries_append : (script seq : ℕ) (xs ys : List PlannedData) → entries script seq (xs ++ ys) ≡ entries script seq xs ++ entries script (seq + length xs) ys
 entries_append script seq [] ys = let z : seq ≡ seq + 0 = omega arith in ap (λ (n : ℕ). entries script n ys) z
 entries_append script seq (x ∷ xs) ys =
     let z : (seq + 1) + length xs ≡ seq + length (x ∷ xs) = omega arith in
@@ -54,12 +52,12 @@ up : (n : ℕ) → n < 18446744073709551615 → one_up n ≡ n + 1
 up n lt = omega (arith, lt)
 
 -- A turn of a player: it sent, then all that was accepted of it was found in the journal, logged at the turn.
-pub player_more : (t k : ℕ) (journal : List LoggedData) (xs : List EntryData) (p q q1 q2 : PlayerView) → t < 4294967295 → HasPlayed t journal k p q → Turned t q q1
+pub player_more : (t k : ℕ) (journal : List LoggedData) (xs : List EntryData) (p q q1 q2 : PlayerView) → t < 4294967295 → HadTurns t journal k p q → Turned t q q1
     → q2.end ≡ q1.end → q2.left ≡ q1.left → q2.logged ≡ length (blocks_of k (journal ++ map (logged_at t) xs)) → q2.logged ≡ length q2.end.list
-    → HasPlayed (t + 1) (journal ++ map (logged_at t) xs) k p q2
+    → HadTurns (t + 1) (journal ++ map (logged_at t) xs) k p q2
 player_more t k journal xs p q q1 q2 small h turned end left logged met =
     let a = turned.0 in
-    let more : List PlanData = a.sent in
+    let more : List PlannedData = a.sent in
     let front : length q.end.list ≡ length h.sent = ap length h.list ∙ length-entries k 0 h.sent in
     let number : q.end.number ≡ k = h.number ∙ h.own in
     let list : q1.end.list ≡ entries k 0 (h.sent ++ more) =
@@ -67,8 +65,8 @@ player_more t k journal xs p q q1 q2 small h turned end left logged met =
     let list2 : q2.end.list ≡ entries k 0 (h.sent ++ more) = ap (λ (e : SendView). e.list) end ∙ list in
     let many : length (blocks_of k (journal ++ map (logged_at t) xs)) ≡ length (blocks_of k journal) + length (dues more) =
         let l : length q2.end.list ≡ length h.sent + length more = ap length list2 ∙ length-entries k 0 (h.sent ++ more) ∙ length-append h.sent more in
-        let d : length (dues more) ≡ length more = length-map more (λ (c : PlanData). c.due) in
-        let s : length (dues h.sent) ≡ length h.sent = length-map h.sent (λ (c : PlanData). c.due) in
+        let d : length (dues more) ≡ length more = length-map more (λ (c : PlannedData). c.due) in
+        let s : length (dues h.sent) ≡ length h.sent = length-map h.sent (λ (c : PlannedData). c.due) in
         omega (arith, logged, met, l, d, s, h.kept.many) in
     let blocks = blocks_more k t journal xs (length (dues more)) many in
     let place : q1.end.line ≡ p.end.line = a.line ∙ h.line in
@@ -76,7 +74,7 @@ player_more t k journal xs p q q1 q2 small h turned end left logged met =
     let others : others_of q1.end ≡ others_of p.end = λ i. others_at (place i).quotas (num i) in
     let count : length q1.end.list ≡ length (dues h.sent ++ dues more) =
         ap length list ∙ length-entries k 0 (h.sent ++ more) ∙ length-append h.sent more
-        ∙ (λ i. sym (length-map h.sent (λ (c : PlanData). c.due)) i + sym (length-map more (λ (c : PlanData). c.due)) i) ∙ sym (length-append (dues h.sent) (dues more)) in
+        ∙ (λ i. sym (length-map h.sent (λ (c : PlannedData). c.due)) i + sym (length-map more (λ (c : PlannedData). c.due)) i) ∙ sym (length-append (dues h.sent) (dues more)) in
     let kept : HasKept p.end.line.places (others_of p.end) t (dues h.sent) (dues more ++ dues q1.left) (blocks_of k journal) q.end.refusals =
         subst (λ (ds : List ℕ). HasKept p.end.line.places (others_of p.end) t (dues h.sent) ds (blocks_of k journal) q.end.refusals) (ap dues a.split ∙ dues_append more q1.left) h.kept in
     let few : q.end.refusals ≤ t = subst (λ (n : ℕ). n ≤ t) (sym kept.late) (few_late (dues h.sent ++ (dues more ++ dues q1.left)) (blocks_of k journal) t) in
@@ -85,7 +83,7 @@ player_more t k journal xs p q q1 q2 small h turned end left logged met =
         (ended turned.1 few place others count) in
     record {
       sent = h.sent ++ more;
-      split = h.split ∙ ap (λ (cs : List PlanData). h.sent ++ cs) a.split ∙ sym (append_assoc h.sent more q1.left) ∙ ap (λ (cs : List PlanData). (h.sent ++ more) ++ cs) (sym left);
+      split = h.split ∙ ap (λ (cs : List PlannedData). h.sent ++ cs) a.split ∙ sym (append_assoc h.sent more q1.left) ∙ ap (λ (cs : List PlannedData). (h.sent ++ more) ++ cs) (sym left);
       list = list2;
       line = ap (λ (e : SendView). e.line) end ∙ place;
       number = ap (λ (e : SendView). e.number) end ∙ num;
@@ -109,7 +107,7 @@ from_zero [] = tt
 from_zero (x ∷ xs) = (omega arith, from_zero xs)
 
 -- before the first turn
-pub player_none : (line : LineView) (k : ℕ) (p : PlayerView) → IsFresh line k p → HasPlayed 0 [] k p p
+pub player_none : (line : LineView) (k : ℕ) (p : PlayerView) → IsFresh line k p → HadTurns 0 [] k p p
 player_none line k p h = record {
   sent = [];
   split = refl;
@@ -127,66 +125,39 @@ player_none line k p h = record {
   };
 }
 
-below_left : (t : ℕ) (xs ys : List ℕ) → AllBelow t (xs ++ ys) → AllBelow t ys
-below_left t [] ys below = below
-below_left t (x ∷ xs) ys below = below_left t xs ys below.1
-
--- after the last turn
-pub player_ends : (blocks k : ℕ) (journal : List LoggedData) (p q : PlayerView) → AllBelow blocks (dues p.left) → HasPlayed blocks journal k p q → HasEnded blocks journal k p q
-player_ends blocks k journal p q below h =
-    let all : dues p.left ≡ dues h.sent ++ dues q.left = ap dues h.split ∙ dues_append h.sent q.left in
-    record {
-      sent = h.sent;
-      split = h.split;
-      list = h.list;
-      line = h.line;
-      number = h.number;
-      logged = h.kept.many ∙ length-map h.sent (λ (c : PlanData). c.due) ∙ sym (ap length h.list ∙ length-entries k 0 h.sent);
-      timed = subst (λ (ds : List ℕ). AreTimed p.end.line.places (others_of p.end) blocks ds (blocks_of k journal) q.end.refusals) (sym all)
-          (times p.end.line.places (others_of p.end) blocks (dues h.sent) (dues q.left) (blocks_of k journal) q.end.refusals (below_left blocks (dues h.sent) (dues q.left) (subst (AllBelow blocks) all below)) h.kept);
-    }
-
 -- the players after the sends of a turn, before anything of it was counted
-pub noted_first : (t : ℕ) (line : LineView) (before : List PlayerView) (s0 o0 : RoomView) (r : RendererView) (ps ps1 : List PlayerView) (s o : RoomView)
-    → AfterTurns t line before s0 o0 r ps s o → HaveTurned line t ps ps1 → length ps1 ≡ length ps → Noted r.journal ps1 ps1 o0.bytes o.bytes
-noted_first t line before s0 o0 r ps ps1 s o h turned many = record {
+noted_first : (t : ℕ) (line : LineView) (before : List PlayerView) (r : RendererView) (ps ps1 : List PlayerView)
+    → AfterTurns t line before r ps → HaveTurned line t ps ps1 → length ps1 ≡ length ps → Noted r.journal ps1 ps1
+noted_first t line before r ps ps1 h turned many = record {
   many = refl;
   each = λ k d lt.
       let in_ps : k < length ps = omega (arith, lt, many) in
       let in_before : k < length before = omega (arith, in_ps, h.many) in
       ap (λ (n : ℕ). let q : PlayerView = record (get_or ps1 k d) { logged = n } in q) ((turned.1 k d in_ps).0.logged ∙ (h.played k d in_before).logged);
-  lines = h.lines;
 }
+
+-- what the settling of a turn begins with
+pub noted_start : (t : ℕ) (line : LineView) (before : List PlayerView) (r r1 : RendererView) (items : List Logged) (ps ps1 : List PlayerView)
+    → AfterTurns t line before r ps → HaveTurned line t ps ps1 → length ps1 ≡ length ps → LogsSome (at_block t r) r1 → journal_data items ≡ r.journal
+    → Noted (take (length items) r1.journal) ps1 ps1
+noted_start t line before r r1 items ps ps1 h turned many logs same =
+    let len : length items ≡ length r.journal = sym (length-map items logged_data) ∙ ap length same in
+    subst (λ (j : List LoggedData). Noted j ps1 ps1) (sym (ap (λ (n : ℕ). take n r1.journal) len ∙ (front_logged (at_block t r) r1 logs).0))
+    (noted_first t line before r ps ps1 h turned many)
 
 ready_same : (line : LineView) (p q : PlayerView) → IsReady line p → q.end ≡ p.end → q.left ≡ p.left → IsReady line q
 ready_same line p q h end left = record {
   line_is = ap (λ (e : SendView). e.line) end ∙ h.line_is;
   quota = (λ i. length (end i).list + length (left i)) ∙ h.quota ∙ sym (ap quota_of end);
-  plan = subst (IsPlan 0) (sym left) h.plan;
 }
 
--- the sound so far
-heard_more : (t : ℕ) (before now : List LoggedData) (samples : List ℤ) (first s s2 : List ℕ) → s ≡ first ++ wav_blocks before (t - 1)
-    → ((b : ℕ) → b < t → sound now b ≡ sound before b) → (0 < t → samples ≡ sound before (t - 1)) → (t ≡ 0 → s2 ≡ s) → (0 < t → s2 ≡ s ++ wav_block samples)
-    → s2 ≡ first ++ wav_blocks now t
-heard_more zero before now samples first s s2 h kept heard none more =
-    none refl ∙ h ∙ ap (λ (xs : List ℕ). first ++ xs) (wav_none before ∙ sym (wav_none now))
-heard_more (suc n) before now samples first s s2 h kept heard none more =
-    let e : suc n - 1 ≡ n = omega arith in
-    more (omega arith) ∙ (λ i. h i ++ wav_block (heard (omega arith) i)) ∙ append_assoc first (wav_blocks before (suc n - 1)) (wav_block (sound before (suc n - 1)))
-    ∙ ap (λ (m : ℕ). first ++ (wav_blocks before m ++ wav_block (sound before m))) e
-    ∙ ap (λ (xs : List ℕ). first ++ xs) (sym (wav_more before n) ∙ sym (wav_kept before now (suc n) kept))
-
 -- a whole turn
-pub turn_more : (t : ℕ) (line : LineView) (before : List PlayerView) (s0 o0 : RoomView) (r r1 r2 : RendererView) (ps ps1 ps2 : List PlayerView) (s s2 o o2 : RoomView) (samples : List ℤ)
-    → t < 4294967295 → AfterTurns t line before s0 o0 r ps s o → HaveTurned line t ps ps1 → length ps1 ≡ length ps
-    → LogsSome (at_block t r) r1 → KeepsSound (at_block t r) r1 → (0 < t → samples ≡ sound r.journal (t - 1))
-    → (t ≡ 0 → s2 ≡ s) → (0 < t → (s2.bytes ≡ s.bytes ++ wav_block samples) × (s2.spare + 128 ≡ s.spare))
-    → LogsSome r1 r2 → KeepsSound r1 r2 → Noted r2.journal ps1 ps2 o0.bytes o2.bytes → ((k : ℕ) (d : PlayerView) → k < length ps2 → (get_or ps2 k d).logged ≡ length (get_or ps2 k d).end.list)
-    → AfterTurns (t + 1) line before s0 o0 r2 ps2 s2 o2
-turn_more t line before s0 o0 r r1 r2 ps ps1 ps2 s s2 o o2 samples small h turned many logs keeps heard none more logs2 keeps2 noted met =
+pub turn_more : (t : ℕ) (line : LineView) (before : List PlayerView) (r r1 r2 : RendererView) (ps ps1 ps2 : List PlayerView)
+    → t < 4294967295 → AfterTurns t line before r ps → HaveTurned line t ps ps1 → length ps1 ≡ length ps
+    → LogsSome (at_block t r) r1 → LogsSome r1 r2 → Noted r2.journal ps1 ps2 → All (λ (p : PlayerView). p.logged ≡ length p.end.list) ps2
+    → AfterTurns (t + 1) line before r2 ps2
+turn_more t line before r r1 r2 ps ps1 ps2 small h turned many logs logs2 noted met =
     let all : LogsSome (at_block t r) r2 = logs_join (at_block t r) r1 r2 logs logs2 in
-    let keep : KeepsSound (at_block t r) r2 = keeps_more (at_block t r) r1 r2 logs keeps keeps2 in
     let log : r2.journal ≡ r.journal ++ map (logged_at t) all.1.entries = all.1.journal in
     let later : (t + 1) - 1 ≡ t = omega arith in
     record {
@@ -198,53 +169,32 @@ turn_more t line before s0 o0 r r1 r2 ps ps1 ps2 s s2 o o2 samples small h turne
           let in_ps1 : k < length ps1 = omega (arith, in_ps, many) in
           let in_ps2 : k < length ps2 = omega (arith, in_ps1, noted.many) in
           let is = noted.each k d in_ps1 in
-          subst (λ (j : List LoggedData). HasPlayed (t + 1) j k (get_or before k d) (get_or ps2 k d)) (sym log)
+          subst (λ (j : List LoggedData). HadTurns (t + 1) j k (get_or before k d) (get_or ps2 k d)) (sym log)
           (player_more t k r.journal all.1.entries (get_or before k d) (get_or ps k d) (get_or ps1 k d) (get_or ps2 k d) small (h.played k d lt) (turned.1 k d in_ps)
           (ap (λ (p : PlayerView). p.end) is) (ap (λ (p : PlayerView). p.left) is) (ap (λ (p : PlayerView). p.logged) is ∙ ap (λ (j : List LoggedData). length (blocks_of k j)) log) (met k d in_ps2));
       ready = λ k d lt.
           let in_ps1 : k < length ps1 = omega (arith, lt, noted.many) in
           let is = noted.each k d in_ps1 in
           ready_same line (get_or ps1 k d) (get_or ps2 k d) (turned.0 k d in_ps1) (ap (λ (p : PlayerView). p.end) is) (ap (λ (p : PlayerView). p.left) is);
-      lines = noted.lines;
-      heard = heard_more t r.journal r2.journal samples s0.bytes s.bytes s2.bytes h.heard keep heard (λ z. ap (λ (x : RoomView). x.bytes) (none z)) (λ p. (more p).0) ∙ ap (λ (n : ℕ). s0.bytes ++ wav_blocks r2.journal n) (sym later);
-      room = room_more t s s2 h.room none (λ p. (more p).1);
-    } where
-      room_more : (t : ℕ) (s s2 : RoomView) → s.spare + 128 * (t - 1) ≡ s0.spare → (t ≡ 0 → s2 ≡ s) → (0 < t → s2.spare + 128 ≡ s.spare) → s2.spare + 128 * ((t + 1) - 1) ≡ s0.spare
-      room_more zero s s2 h none more = let e : s2.spare ≡ s.spare = ap (λ (x : RoomView). x.spare) (none refl) in omega (arith, e, h)
-      room_more (suc n) s s2 h none more = omega (arith, more (omega arith), h)
+    }
 
 -- before the first turn
-pub turns_none : (line : LineView) (r : RendererView) (ps : List PlayerView) (s o : RoomView) → AreFresh line ps → IsFreshRenderer line r → AfterTurns 0 line ps s o r ps s o
-turns_none line r ps s o fresh new = record {
+pub turns_none : (line : LineView) (r : RendererView) (ps : List PlayerView) → AreFresh line ps → IsFreshRenderer line r → AfterTurns 0 line ps r ps
+turns_none line r ps fresh new = record {
   taker = ap (λ (e : TakeView). e.line) new.0;
   blocks = new.2 ∙ (let z : 0 ≡ 0 - 1 = omega arith in z);
   many = refl;
-  played = λ k d lt. subst (λ (j : List LoggedData). HasPlayed 0 j k (get_or ps k d) (get_or ps k d)) (sym new.1) (player_none line k (get_or ps k d) (fresh.1 k d lt));
+  played = λ k d lt. subst (λ (j : List LoggedData). HadTurns 0 j k (get_or ps k d) (get_or ps k d)) (sym new.1) (player_none line k (get_or ps k d) (fresh.1 k d lt));
   ready = λ k d lt. let f = fresh.1 k d lt in record {
     line_is = f.line_is;
     quota = let e : length (get_or ps k d).end.list ≡ 0 = ap length f.list in omega (arith, e, f.quota);
-    plan = f.plan;
   };
-  lines = sym (ap (λ (j : List LoggedData). o.bytes ++ order_lines j) new.1 ∙ append-nil o.bytes);
-  heard = sym (ap (λ (n : ℕ). s.bytes ++ wav_blocks r.journal n) (let z : 0 - 1 ≡ 0 = omega arith in z) ∙ ap (λ (xs : List ℕ). s.bytes ++ xs) (wav_none r.journal) ∙ append-nil s.bytes);
-  room = omega arith;
 }
 
--- the last block
-pub heard_last : (t b : ℕ) (journal now : List LoggedData) (first s s2 : List ℕ) (out : List ℤ) → 1 ≤ t → s ≡ first ++ wav_blocks journal (t - 1) → b ≡ t - 1 → out ≡ sound journal b → s2 ≡ s ++ wav_block out → now ≡ journal
-    → s2 ≡ first ++ wav_blocks now t
-heard_last zero b journal now first s s2 out some h at heard more same = absurd (omega (arith, some))
-heard_last (suc n) b journal now first s s2 out some h at heard more same =
-    let e : suc n - 1 ≡ n = omega arith in
-    more ∙ (λ i. h i ++ wav_block (heard i)) ∙ append_assoc first (wav_blocks journal (suc n - 1)) (wav_block (sound journal b))
-    ∙ (λ i. first ++ (wav_blocks journal (e i) ++ wav_block (sound journal ((at ∙ e) i))))
-    ∙ ap (λ (xs : List ℕ). first ++ xs) (sym (wav_more journal n) ∙ ap (λ (j : List LoggedData). wav_blocks j (suc n)) (sym same))
-
--- what the settling of a turn begins with
-pub noted_start : (t : ℕ) (line : LineView) (before : List PlayerView) (s0 o0 : RoomView) (r r1 : RendererView) (items : List Logged) (ps ps1 : List PlayerView) (s o : RoomView)
-    → AfterTurns t line before s0 o0 r ps s o → HaveTurned line t ps ps1 → length ps1 ≡ length ps → LogsSome (at_block t r) r1 → journal_data items ≡ r.journal
-    → Noted (take (length items) r1.journal) ps1 ps1 o0.bytes o.bytes
-noted_start t line before s0 o0 r r1 items ps ps1 s o h turned many logs same =
-    let len : length items ≡ length r.journal = sym (length-map items logged_data) ∙ ap length same in
-    subst (λ (j : List LoggedData). Noted j ps1 ps1 o0.bytes o.bytes) (sym (ap (λ (n : ℕ). take n r1.journal) len ∙ (front_logged (at_block t r) r1 logs).0))
-    (noted_first t line before s0 o0 r ps ps1 s o h turned many)
+-- a whole turn, as the code goes through it
+pub turn_after : (t : ℕ) (line : LineView) (r r1 r2 : RendererView) (items : List Logged) (ps ps1 ps2 : List PlayerView)
+    → t < 4294967295 → HaveTurned line t ps ps1 → length ps1 ≡ length ps → LogsSome (at_block t r) r1 → journal_data items ≡ r.journal → LogsSome r1 r2
+    → ((b : List PlayerView) → Noted (take (length items) r1.journal) b ps1 → Noted r2.journal b ps2) → All (λ (p : PlayerView). p.logged ≡ length p.end.list) ps2
+    → (before : List PlayerView) → AfterTurns t line before r ps → AfterTurns (t + 1) line before r2 ps2
+turn_after t line r r1 r2 items ps ps1 ps2 small turned many logs same logs2 noted met before h =
+    turn_more t line before r r1 r2 ps ps1 ps2 small h turned many logs logs2 (noted ps1 (noted_start t line before r r1 items ps ps1 h turned many logs same)) met

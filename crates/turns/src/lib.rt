@@ -4,6 +4,7 @@
 mod half;
 mod joined;
 mod note;
+mod turn;
 mod turns;
 mod write;
 

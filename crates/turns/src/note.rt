@@ -26,7 +26,8 @@ fn note_new(renderer: &LiveRenderer, seen: usize, players: &mut [Player])
     requires scripts { length players.old ≡ length renderer.now.taker.line.quotas }
     requires noted { (before : List PlayerView) × Noted (take seen renderer.now.journal) before players.old }
     requires seen { seen ≤ length renderer.now.journal }
-    ensures { (before : List PlayerView) → Noted (take seen renderer.now.journal) before players.old → Noted renderer.now.journal before players.new }
+    ensures noted { (before : List PlayerView) → Noted (take seen renderer.now.journal) before players.old → Noted renderer.now.journal before players.new }
+    ensures live { IsLive renderer.now }
 {
     let journal = renderer.journal();
     for i in seen..journal.len() {
@@ -62,6 +63,7 @@ pub(crate) fn settle<R: Wait>(
     ensures kept { KeepsSound renderer.old renderer.new }
     ensures noted { (before : List PlayerView) → Noted (take seen renderer.old.journal) before players.old → Noted renderer.new.journal before players.new }
     ensures logged { All (λ p. p.logged ≡ length p.end.list) players.new }
+    ensures live { IsLive renderer.new }
 {
     let mut seen = seen;
     for _ in rt.forever() {

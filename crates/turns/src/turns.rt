@@ -10,8 +10,7 @@ ghost use Rattle.players.specs.Players.{PlayerView};
 ghost use Rattle.turns.specs.Turns.{AreFresh, IsFreshRenderer, HavePlayed, AreOnTime, plans_of, many_commands};
 ghost use Rattle.turns.specs.Written.{order_lines, both_appended, BothBegun};
 
-use crate::half::run_halves;
-use crate::note::settle;
+use crate::turn::run_turn;
 use crate::write::{write_block, write_lines};
 use command_queue::Line;
 use live_renderer::LiveRenderer;
@@ -61,10 +60,10 @@ pub fn play_turns<R: Threads + Wait + Sync, S: Shelf, G: Gate>(
     let mut samples = [0i16; 64];
     for t in 0..blocks {
         let seen = renderer.journal().len();
-        run_halves(rt, line, gate, t, actor, renderer, &mut samples, players);
-        settle(rt, line, renderer, seen, players);
+        run_turn(rt, line, gate, t, actor, renderer, &mut samples, players);
         write_block(t, &samples, shelf, sound)?;
-        write_lines(renderer.journal(), seen, shelf, order)?;
+        let (_, new) = renderer.journal().split_at(seen);
+        write_lines(new, shelf, order)?;
     }
     renderer.render(&mut samples);
     append_all(shelf, sound, &wav_block(&samples))

@@ -1,6 +1,6 @@
 //! What is made in a turn is appended to the two files.
-ghost use Rattle.std.specs.Prelude.{◌≡◌, ◌<◌, ◌≤◌, All, OnOk, OnErr, length, drop, option_map};
-ghost use Rattle.command_set.specs.Command.{IsInRange, content};
+ghost use Rattle.std.specs.Prelude.{◌≡◌, All, OnOk, OnErr, option_map};
+ghost use Rattle.command_set.specs.Command.{IsInRange};
 ghost use Rattle.command_set.specs.Entries.{journal_data};
 ghost use Rattle.outside.specs.Files.{Lacks, AppendedSome, appended};
 ghost use Rattle.outside.specs.Faults.{HasCause};
@@ -30,22 +30,20 @@ pub(crate) fn write_block<S: Shelf>(
     append_all(shelf, sound, &wav_block(samples))
 }
 
-/// Appends the lines of the entries of a journal from a number on.
+/// Appends the lines of entries.
 pub(crate) fn write_lines<S: Shelf>(
-    journal: &[Logged],
-    seen: usize,
+    entries: &[Logged],
     shelf: &mut S,
     order: &str,
 ) -> Result<(), Failed>
     requires told { ¬ (Lacks (S.files shelf.old) order.now) }
-    requires seen { seen ≤ length journal.now }
-    requires range { All (λ l. IsInRange l.entry.command) (journal_data journal.now) }
-    ensures all { OnOk result (S.files shelf.new ≡ option_map (appended order.now (order_lines (drop seen (journal_data journal.now)))) (S.files shelf.old)) }
-    ensures some { OnErr result (AppendedSome order.now (order_lines (drop seen (journal_data journal.now))) (S.files shelf.old) (S.files shelf.new)) }
+    requires range { All (λ l. IsInRange l.entry.command) (journal_data entries.now) }
+    ensures all { OnOk result (S.files shelf.new ≡ option_map (appended order.now (order_lines (journal_data entries.now))) (S.files shelf.old)) }
+    ensures some { OnErr result (AppendedSome order.now (order_lines (journal_data entries.now)) (S.files shelf.old) (S.files shelf.new)) }
     ensures cause { HasCause (S.writing shelf.old) (S.writing shelf.new) (S.reading shelf.old) (S.reading shelf.new) ⊥ result }
     ensures reads { S.reads shelf.new ≡ S.reads shelf.old }
 {
-    for logged in &journal[seen..] {
+    for logged in entries {
         let mut text = LineText::new();
         order_line(logged, &mut text);
         append_all(shelf, order, text.as_slice())?;
