@@ -174,13 +174,14 @@ impl LiveRenderer {
         if self.spare == 0 {
             return TakeOne::NoRoom;
         }
+        let block = self.blocks;
         let is_taken = log_next(
             rt,
             line,
             &mut self.taker,
             &mut self.journal,
             &mut self.instrument,
-            self.blocks,
+            block,
         );
         if is_taken {
             self.spare -= 1;

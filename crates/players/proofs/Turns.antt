@@ -17,7 +17,7 @@ pub length-entries : (script seq : ℕ) (cs : List PlannedData) → length (entr
 length-entries script seq [] = refl
 length-entries script seq (c ∷ cs) = omega (arith, length-entries script (seq + 1) cs)
 
-due_push : (t : ℕ) (cs : List PlannedData) (c : PlannedData) → AllBelow (t + 1) (dues cs) → c.due ≤ t → AllBelow (t + 1) (dues (cs ++ c ∷ []))
+pub due_push : (t : ℕ) (cs : List PlannedData) (c : PlannedData) → AllBelow (t + 1) (dues cs) → c.due ≤ t → AllBelow (t + 1) (dues (cs ++ c ∷ []))
 due_push t [] c all due = (omega (arith, due), tt)
 due_push t (d ∷ ds) c all due = (all.0, due_push t ds c all.1 due)
 

@@ -4,10 +4,12 @@
 mod half;
 mod joined;
 mod note;
+mod opening;
 mod turn;
 mod turns;
 mod write;
 
 pub use joined::{close, play_scripts};
+pub use opening::new_players;
 pub use turns::play_turns;
 
