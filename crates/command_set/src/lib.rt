@@ -3,6 +3,7 @@
 
 mod command;
 mod entry;
+mod message;
 mod read;
 mod read_bytes;
 mod read_numbers;
@@ -10,8 +11,11 @@ mod text;
 
 pub use command::Command;
 pub use entry::{Entry, Logged};
+pub use message::{CommandFault, from_message};
 pub use plain_text::LineText;
 pub use read::{TextFault, texts_are_unique};
 
+#[cfg(test)]
+mod message_tests;
 #[cfg(test)]
 mod tests;
