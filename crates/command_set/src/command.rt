@@ -63,8 +63,8 @@ impl Command {
     }
 }
 
-/// Whether a control acts on the instrument.
-pub(crate) fn is_known_control(number: u8) -> bool
+/// Whether a control acts on the instrument: modulation wheel, hold pedal and all notes off do.
+pub fn is_known_control(number: u8) -> bool
     ensures known { IsTrue result ↔ IsKnownControl number }
     ensures value { result ≡ acts number }
 {
