@@ -2,9 +2,10 @@
 use Rattle.std.proofs.Common.{◌≡◌, ℕ, ◌+◌, ◌<◌, ◌%◌, List, [], length, get_or, min, sym, ◌∙◌, arith}
 use Rattle.std.proofs.lemmas.List.{ext_get_or}
 use Rattle.std.proofs.lemmas.List.FromFn.{length-map-range_with_len, get_or-map-range_with_len}
-use Rattle.voice_record.specs.Voice.{greatest_value, IsClamped}
+use Rattle.voice_record.specs.Voice.{greatest_value, IsClamped, IsVoice}
 use Rattle.voice_record.proofs.Packed.{unpacks_unique}
-use Rattle.cartridge.specs.Cartridge.{voice_at, voices_of, slot_bytes, UnpacksAll}
+use Rattle.voice_record.proofs.Packed.{unpacked_is_voice}
+use Rattle.cartridge.specs.Cartridge.{IsCartridge, voice_at, voices_of, slot_bytes, UnpacksAll}
 use Rattle.cartridge.proofs.Voices.{unpacks_all}
 use Rattle.command_set.specs.Message.{clamped_voice}
 
@@ -28,3 +29,13 @@ voices_known payload voices u =
     let own = unpacks_all payload in
     ext_get_or [] voices (voices_of payload) (u.count ∙ sym (own.count))
     (λ k l. let below : k < 32 = rw u.count at l in unpacks_unique (slot_bytes payload k) (voice_at voices k) (voice_at (voices_of payload) k) (u.slots k below) (own.slots k below))
+
+-- the voice that bytes send is theirs
+pub clamped_clamps : (bytes : List ℕ) → IsClamped bytes (clamped_voice bytes)
+clamped_clamps bytes = record { count = clamped_count bytes; clamped = λ k l. clamped_at bytes k l }
+
+-- the voices of any bytes are those of a cartridge
+pub voices_cartridge : (bytes : List ℕ) → IsCartridge (voices_of bytes)
+voices_cartridge bytes =
+    let own = unpacks_all bytes in
+    record { count = own.count; slots = λ slot l. unpacked_is_voice _ _ (own.slots slot l) }

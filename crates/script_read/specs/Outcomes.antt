@@ -91,12 +91,14 @@ abbrev pub is_late : Option ℕ → ℕ → Bool
 is_late None block = false
 is_late (Some blocks) block = nat_le blocks block
 
--- what comes of a line with a block: a fault where it falls or is late
-abbrev pub timed : Option ℕ → ℕ → Place → ℕ → List Outcome → List Outcome
-timed blocks least at block outcomes =
-    if nat_lt block least then Fails at kind.Falls ∷ []
-    else if is_late blocks block then Fails at kind.Late ∷ []
-    else outcomes
+-- what is wrong with a line's block: it is below the block of a line before, or not one of the run's
+abbrev pub time_fault : Option ℕ → ℕ → ℕ → Option ScriptKind
+time_fault blocks least block = if nat_lt block least then Some kind.Falls else if is_late blocks block then Some kind.Late else None
+
+-- what comes of a line with a block, where nothing is wrong with that
+abbrev pub timed : Option ScriptKind → Place → List Outcome → List Outcome
+timed None at outcomes = outcomes
+timed (Some why) at outcomes = Fails at why ∷ []
 
 -- the place of a line behind some others; the first line of a text tells its kind, and is not among them
 abbrev pub line_behind : List Said → Place
@@ -107,9 +109,9 @@ unfoldable pub line_outcomes : Option ℕ → List Said → Said → List Outcom
 line_outcomes blocks before Blank = []
 line_outcomes blocks before (Maps curve) = []
 line_outcomes blocks before (Orders block command) =
-    timed blocks (block_behind 0 before) (line_behind before) block (Gives (planned_at block (curved (curve_behind Linear before) command)) ∷ [])
+    timed (time_fault blocks (block_behind 0 before) block) (line_behind before) (Gives (planned_at block (curved (curve_behind Linear before) command)) ∷ [])
 line_outcomes blocks before (Feeds block bytes) =
-    timed blocks (block_behind 0 before) (line_behind before) block
+    timed (time_fault blocks (block_behind 0 before) block) (line_behind before)
     (fed_outcomes (λ stream. line_behind before) block (curve_behind Linear before) (stream_of before) bytes)
 line_outcomes blocks before Wrong = Fails (line_behind before) kind.Line ∷ []
 

@@ -1,8 +1,9 @@
 -- The lines of a text, their words, and the numbers and bytes that words write.
-use Rattle.std.specs.Prelude.{ℕ, ◌+◌, ◌*◌, ◌==◌, ◌&&◌, Bool, true, false, nat_lt, nat_le, List, [], ◌∷◌, filter, length, Option, Some, None, if◌then◌else◌}
+use Rattle.std.specs.Prelude.{ℕ, ◌==◌, ◌&&◌, Bool, true, false, nat_lt, nat_le, List, [], ◌∷◌, filter, length, Option, Some, None, if◌then◌else◌}
 use Rattle.std.specs.Str.{all_ascii_digits}
 use Rattle.std.specs.Str.Parse.{digits_value}
-use Rattle.hex.specs.Hex.{hex_digit_value}
+use Rattle.std.specs.Result.{result_ok}
+use Rattle.hex.specs.Hex.{decode_of}
 use Rattle.plain_text.specs.Parts.{parts}
 
 -- a line without a carriage return at its end
@@ -37,15 +38,6 @@ is_numeral word = all_ascii_digits word && (nat_lt 0 (length word) && nat_le (le
 unfoldable pub number_to : ℕ → List ℕ → Option ℕ
 number_to most word = if is_numeral word && nat_le (digits_value 10 word) most then Some (digits_value 10 word) else None
 
--- a byte and those behind it, where all are there
-abbrev pub with_byte : Option ℕ → Option ℕ → Option (List ℕ) → Option (List ℕ)
-with_byte (Some high) (Some low) (Some bytes) = Some ((16 * high + low) ∷ bytes)
-with_byte (Some high) (Some low) None = None
-with_byte (Some high) None bytes = None
-with_byte None low bytes = None
-
 -- the bytes that pairs of hex digits of either case write
 unfoldable pub hex_bytes : List ℕ → Option (List ℕ)
-hex_bytes [] = Some []
-hex_bytes (digit ∷ []) = None
-hex_bytes (high ∷ low ∷ more) = with_byte (hex_digit_value high) (hex_digit_value low) (hex_bytes more)
+hex_bytes word = result_ok (decode_of word)

@@ -8,7 +8,7 @@ ghost use Rattle.command_set.specs.Command.{IsInRange, content};
 ghost use Rattle.command_set.specs.Message.{command_of};
 ghost use Rattle.script_plan.specs.Plan.{last_due, planned_at};
 ghost use Rattle.script_read.specs.Stream.{heard_with};
-ghost use Rattle.script_read.specs.Outcomes.{Gives, heard_outcomes, told_outcomes};
+ghost use Rattle.script_read.specs.Outcomes.{Gives, fed_outcomes, heard_outcomes, told_outcomes};
 ghost use Rattle.script_read.specs.Reading.{Stops, all_given};
 
 use crate::fault::{Place, ScriptFault, ScriptKind};
@@ -71,6 +71,34 @@ impl Feed {
             }
         }
     }
+}
+
+/// Takes all bytes of a line.
+pub(crate) fn take_all(
+    alloc: Global,
+    feed: &mut Feed,
+    bytes: &[u8],
+    spot: Spot,
+    map: &VelocityMap,
+    room: u32,
+) -> Result<(), ScriptFault>
+    requires due { last_due feed.old.script ≤ spot.block }
+    requires few { length feed.old.script ≤ room }
+    ensures reads { OnOk result ((stream : List ℕ) → Reads feed.old.reader stream → Reads feed.new.reader (stream ++ bytes.now)) }
+    ensures given { OnOk result ((stream : List ℕ) → Reads feed.old.reader stream
+        → all_given feed.new.script ≡ all_given feed.old.script ++ fed_outcomes (λ before. spot.place) spot.block (curve_of map.now) stream bytes.now) }
+    ensures stops { IfErr result (λ why. (stream : List ℕ) → Reads feed.old.reader stream
+        → Stops why room (all_given feed.old.script ++ fed_outcomes (λ before. spot.place) spot.block (curve_of map.now) stream bytes.now)) }
+    ensures due { OnOk result (last_due feed.new.script ≤ spot.block) }
+    ensures few { OnOk result (length feed.new.script ≤ room) }
+{
+    for byte in bytes {
+        match feed.take(alloc, *byte, spot, map, room) {
+            Ok(()) => {}
+            Err(fault) => return Err(fault),
+        }
+    }
+    Ok(())
 }
 
 /// Takes a message with its bytes.

@@ -7,32 +7,32 @@ ghost use Rattle.script_read.specs.Lines.{block_said, fed, is_comment, map_said,
 ghost use Rattle.script_read.specs.Says.{IsSound, says};
 ghost use Rattle.command_set.specs.Command.{IsInRange, content};
 
-use crate::digits::is_hex;
 use crate::grammar::{read_more, read_one};
 use crate::words::{next_word, read_number};
 use command_set::Command;
+use hex::FromHexError;
 use plain_text::is_word;
 use std::alloc::{AllocError, Global};
 use velocity_map::Curve;
 
 /// What a line says.
 #[derive(Drop)]
-pub(crate) enum Line<'a> {
+pub(crate) enum Line {
     /// Nothing: it is passed over.
     Blank,
     /// The curve of the lines behind it.
     Map(Curve),
     /// A command at a block, before its curve.
     Command { block: u32, command: Command },
-    /// MIDI bytes at a block, as hex digits.
-    Bytes { block: u32, hex: &'a [u8] },
+    /// MIDI bytes at a block.
+    Bytes { block: u32, bytes: Vec<u8> },
     /// It isn't of the grammar.
     Wrong,
 }
 
 /// Reads a line, without its line feed.
 #[tactic(auto, unfolding(crate::specs::Lines::said))]
-pub(crate) fn read_line(alloc: Global, line: &[u8]) -> Result<Line<'_>, AllocError>
+pub(crate) fn read_line(alloc: Global, line: &[u8]) -> Result<Line, AllocError>
     ensures said { IfOk result (λ found. says found ≡ said line.now) }
     ensures sound { IfOk result IsSound }
 {
@@ -54,7 +54,7 @@ fn starts_comment(line: &[u8]) -> bool
 }
 
 #[tactic(auto, unfolding(crate::specs::Lines::words_said))]
-fn read_words(alloc: Global, line: &[u8]) -> Result<Line<'_>, AllocError>
+fn read_words(alloc: Global, line: &[u8]) -> Result<Line, AllocError>
     ensures said { IfOk result (λ found. says found ≡ words_said (words_of line.now)) }
     ensures sound { IfOk result IsSound }
 {
@@ -74,7 +74,7 @@ fn read_words(alloc: Global, line: &[u8]) -> Result<Line<'_>, AllocError>
 }
 
 /// The name of a curve.
-fn read_map(words: &[u8]) -> Line<'_>
+fn read_map(words: &[u8]) -> Line
     ensures said { says result ≡ map_said (words_of words.now) }
     ensures sound { IsSound result }
 {
@@ -87,7 +87,7 @@ fn read_map(words: &[u8]) -> Line<'_>
     }
 }
 
-fn read_curve<'a>(name: &[u8]) -> Line<'a>
+fn read_curve(name: &[u8]) -> Line
     ensures said { says result ≡ map_said (name.now ∷ []) }
     ensures sound { IsSound result }
 {
@@ -103,7 +103,7 @@ fn read_curve<'a>(name: &[u8]) -> Line<'a>
 }
 
 /// What stands behind a block.
-fn read_at(alloc: Global, block: u32, words: &[u8]) -> Result<Line<'_>, AllocError>
+fn read_at(alloc: Global, block: u32, words: &[u8]) -> Result<Line, AllocError>
     ensures said { IfOk result (λ found. says found ≡ said_at block (words_of words.now)) }
     ensures sound { IfOk result IsSound }
 {
@@ -117,13 +117,13 @@ fn read_at(alloc: Global, block: u32, words: &[u8]) -> Result<Line<'_>, AllocErr
 }
 
 /// What stands behind a block, by its first two words and those of what is left of the line.
-fn read_behind<'a>(
+fn read_behind(
     alloc: Global,
     block: u32,
-    kind: &'a [u8],
-    first: &'a [u8],
-    rest: &'a [u8],
-) -> Result<Line<'a>, AllocError>
+    kind: &[u8],
+    first: &[u8],
+    rest: &[u8],
+) -> Result<Line, AllocError>
     ensures said { IfOk result (λ found. says found ≡ said_at block (kind.now ∷ first.now ∷ words_of rest.now)) }
     ensures sound { IfOk result IsSound }
 {
@@ -134,17 +134,17 @@ fn read_behind<'a>(
 }
 
 /// A kind and one word.
-fn read_word<'a>(
+fn read_word(
     alloc: Global,
     block: u32,
-    kind: &'a [u8],
-    word: &'a [u8],
-) -> Result<Line<'a>, AllocError>
+    kind: &[u8],
+    word: &[u8],
+) -> Result<Line, AllocError>
     ensures said { IfOk result (λ found. says found ≡ one_word_said block kind.now word.now) }
     ensures sound { IfOk result IsSound }
 {
     if is_word(kind, b"bytes") {
-        return Ok(bytes_of(block, word));
+        return read_bytes(alloc, block, word);
     }
     match read_one(alloc, kind, word) {
         Ok(command) => Ok(line_of(block, command)),
@@ -153,7 +153,7 @@ fn read_word<'a>(
 }
 
 /// The line of a command, where there is one.
-fn line_of<'a>(block: u32, command: Option<Command>) -> Line<'a>
+fn line_of(block: u32, command: Option<Command>) -> Line
     requires { IfSome command (λ command. IsInRange (content command)) }
     ensures said { says result ≡ ordered block (option_map content command) }
     ensures sound { IsSound result }
@@ -165,14 +165,14 @@ fn line_of<'a>(block: u32, command: Option<Command>) -> Line<'a>
 }
 
 /// The line of MIDI bytes, where the word is pairs of hex digits.
-fn bytes_of(block: u32, word: &[u8]) -> Line<'_>
-    ensures said { says result ≡ fed block (hex_bytes word.now) }
-    ensures sound { IsSound result }
+#[tactic(auto, unfolding(crate::specs::Words::hex_bytes))]
+fn read_bytes(alloc: Global, block: u32, word: &[u8]) -> Result<Line, AllocError>
+    ensures said { IfOk result (λ found. says found ≡ fed block (hex_bytes word.now)) }
+    ensures sound { IfOk result IsSound }
 {
-    if is_hex(word) {
-        Line::Bytes { block, hex: word }
-    } else {
-        Line::Wrong
+    match hex::decode(alloc, word) {
+        Ok(bytes) => Ok(Line::Bytes { block, bytes }),
+        Err(FromHexError::OutOfMemory) => Err(AllocError),
+        Err(_) => Ok(Line::Wrong),
     }
 }
-

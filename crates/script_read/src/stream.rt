@@ -1,11 +1,13 @@
 //! A script that is a stream of MIDI bytes.
 
-ghost use Rattle.std.specs.Prelude.{ℕ, List, ◌≡◌, ◌+◌, ◌≤◌, ◌||◌, length, not, if◌then◌else◌, IfErr, IfOk};
+ghost use Rattle.std.specs.Prelude.{ℕ, List, ◌≡◌, ◌+◌, ◌≤◌, ◌||◌, length, not, true, false, if◌then◌else◌, IfErr, IfOk, OnErr, OnOk};
+ghost use Rattle.midi_stream.specs.Messages.{is_unfinished};
+ghost use Rattle.midi_stream.specs.Reading.{Reads};
 ghost use Rattle.velocity_map.specs.declared.curve.Curve.TheVariants.{Linear};
 ghost use Rattle.velocity_map.specs.Map.{curve_of};
 ghost use Rattle.script_read.specs.Stream.{is_status};
 ghost use Rattle.script_read.specs.Outcomes.{stream_outcomes};
-ghost use Rattle.script_read.specs.Reading.{Stops, all_given};
+ghost use Rattle.script_read.specs.Reading.{Settles};
 
 use crate::fault::{Place, ScriptFault, ScriptKind};
 use crate::feed::{Feed, Spot};
@@ -22,9 +24,7 @@ pub(crate) fn read_stream(
 ) -> Result<Script, ScriptFault>
     requires bytes { length bytes.now ≤ 536870912 }
     requires linear { curve_of map.now ≡ Linear }
-    ensures given { IfOk result (λ script. stream_outcomes bytes.now ≡ all_given script) }
-    ensures few { IfOk result (λ script. length script ≤ room) }
-    ensures stops { IfErr result (λ why. Stops why room (stream_outcomes bytes.now)) }
+    ensures { Settles result room (stream_outcomes bytes.now) }
 {
     let mut feed = match Feed::new(alloc) {
         Ok(feed) => feed,
@@ -58,6 +58,10 @@ fn start_behind(start: u32, at: u32, byte: u8, at_rest: bool) -> u32
 
 /// The commands, where the stream doesn't end within a message.
 fn end(feed: Feed, start: u32) -> Result<Script, ScriptFault>
+    ensures given { IfOk result (λ script. script ≡ feed.script) }
+    ensures whole { OnOk result ((stream : List ℕ) → Reads feed.reader stream → is_unfinished stream ≡ false) }
+    ensures cut { IfErr result (λ why. why ≡ ScriptFault.Refused (Place.Byte start) ScriptKind.Cut) }
+    ensures unfinished { OnErr result ((stream : List ℕ) → Reads feed.reader stream → is_unfinished stream ≡ true) }
 {
     if feed.reader.at_rest() {
         Ok(feed.script)

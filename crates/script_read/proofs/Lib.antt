@@ -1,0 +1,6 @@
+pub mod Plans
+pub mod Hearing
+pub mod Wording
+pub mod Numerals
+pub mod Dumps
+pub mod Streaming
