@@ -4,3 +4,4 @@ pub mod Wording
 pub mod Numerals
 pub mod Dumps
 pub mod Streaming
+pub mod Lining

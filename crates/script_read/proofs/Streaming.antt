@@ -117,3 +117,44 @@ stream_settled (Ok script) bytes room start cs given few began same whole cut un
     (stream_whole bytes cs given whole ∙ ap all_given (sym same), subst (λ (x : List PlannedData). length x ≤ room) (sym same) few)
 stream_settled (Err why) bytes room start cs given few began same whole cut unfinished =
     subst (λ (w : ScriptFault). Stops w room (stream_outcomes bytes)) (sym cut) (stream_cut bytes room start cs given few unfinished began)
+
+-- ---- bytes of a line
+
+pub fed_none : (place_of : List ℕ → Place) (block : ℕ) (curve : Curve) (before : List ℕ) → fed_outcomes place_of block curve before [] ≡ []
+unfolding fed_outcomes
+fed_none place_of block curve before = refl
+
+fed_front : (place_of : List ℕ → Place) (block : ℕ) (curve : Curve) (before bytes : List ℕ) (at byte : ℕ) (first : List Outcome) → at < length bytes → get_or bytes at 0 ≡ byte
+    → first ++ fed_outcomes place_of block curve before (take (at + 1) bytes)
+    ≡ first ++ fed_outcomes place_of block curve before (take at bytes) ++ heard_outcomes (place_of (before ++ take at bytes)) block curve (heard_with (before ++ take at bytes) byte)
+fed_front place_of block curve before bytes at byte first below is =
+    ap (λ (s : List ℕ). first ++ fed_outcomes place_of block curve before s) (take_next bytes at byte below is)
+    ∙ ap (λ (os : List Outcome). first ++ os) (fed_more place_of block curve before (take at bytes) byte)
+    ∙ sym (append_assoc first _ _)
+
+pub fed_step : (place_of : List ℕ → Place) (block : ℕ) (curve : Curve) (before bytes : List ℕ) (at byte : ℕ) (old now new : List PlannedData)
+    → at < length bytes → get_or bytes at 0 ≡ byte
+    → all_given now ≡ all_given old ++ fed_outcomes place_of block curve before (take at bytes)
+    → all_given new ≡ all_given now ++ heard_outcomes (place_of (before ++ take at bytes)) block curve (heard_with (before ++ take at bytes) byte)
+    → all_given new ≡ all_given old ++ fed_outcomes place_of block curve before (take (at + 1) bytes)
+fed_step place_of block curve before bytes at byte old now new below is was more =
+    more ∙ ap (λ (os : List Outcome). os ++ heard_outcomes (place_of (before ++ take at bytes)) block curve (heard_with (before ++ take at bytes) byte)) was
+    ∙ sym (fed_front place_of block curve before bytes at byte (all_given old) below is)
+
+pub fed_stopped : (place_of : List ℕ → Place) (block : ℕ) (curve : Curve) (before bytes : List ℕ) (at byte : ℕ) (why : ScriptFault) (room : ℕ) (old now : List PlannedData)
+    → at < length bytes → get_or bytes at 0 ≡ byte
+    → all_given now ≡ all_given old ++ fed_outcomes place_of block curve before (take at bytes)
+    → Stops why room (all_given now ++ heard_outcomes (place_of (before ++ take at bytes)) block curve (heard_with (before ++ take at bytes) byte))
+    → Stops why room (all_given old ++ fed_outcomes place_of block curve before bytes)
+fed_stopped place_of block curve before bytes at byte why room old now below is was stops =
+    let parts : all_given old ++ fed_outcomes place_of block curve before bytes
+        ≡ all_given old ++ fed_outcomes place_of block curve before (take (at + 1) bytes) ++ fed_outcomes place_of block curve (before ++ take (at + 1) bytes) (drop (at + 1) bytes) =
+        ap (λ (s : List ℕ). all_given old ++ fed_outcomes place_of block curve before s) (sym (take-append-drop (at + 1) bytes))
+        ∙ ap (λ (os : List Outcome). all_given old ++ os) (fed_append place_of block curve before (take (at + 1) bytes) (drop (at + 1) bytes))
+        ∙ sym (append_assoc (all_given old) _ _) in
+    let front : all_given now ++ heard_outcomes (place_of (before ++ take at bytes)) block curve (heard_with (before ++ take at bytes) byte)
+        ≡ all_given old ++ fed_outcomes place_of block curve before (take (at + 1) bytes) =
+        ap (λ (os : List Outcome). os ++ heard_outcomes (place_of (before ++ take at bytes)) block curve (heard_with (before ++ take at bytes) byte)) was
+        ∙ sym (fed_front place_of block curve before bytes at byte (all_given old) below is) in
+    subst (λ (os : List Outcome). Stops why room os) (sym parts)
+    (stops_more why room _ _ (subst (λ (os : List Outcome). Stops why room os) front stops))

@@ -33,7 +33,7 @@ impl Progress {
     ghost use Rattle.midi_stream.specs.Messages.{is_unfinished};
     ghost use Rattle.midi_stream.specs.Reading.{Reads};
     ghost use Rattle.command_set.specs.Command.{IsInRange, content};
-    ghost use Rattle.script_read.specs.Lines.{Said, Feeds, Orders};
+    ghost use Rattle.script_read.specs.Lines.{Said, Blank, Feeds, Maps, Orders, Wrong};
     ghost use Rattle.script_read.specs.Says.{IsSound, says};
     ghost use Rattle.script_read.specs.Outcomes.{outcomes_behind};
     ghost use Rattle.script_read.specs.Reading.{HasOrder, IsBehind, Stops};
@@ -75,18 +75,46 @@ impl Progress {
     {
         match said {
             Line::Blank => {
-                self.number += 1;
+                self.pass_over();
                 Ok(())
             }
             Line::Map(curve) => {
-                self.curve = curve;
-                self.number += 1;
+                self.set_curve(curve);
                 Ok(())
             }
             Line::Command { block, command } => self.take_command(block, command, maps, bounds),
             Line::Bytes { block, bytes } => self.take_bytes(alloc, block, &bytes, maps, bounds),
-            Line::Wrong => Err(refused(self.number, ScriptKind::Line)),
+            Line::Wrong => Err(self.refuse()),
         }
+    }
+
+    /// Passes over the next line.
+    fn pass_over(&mut self)
+        requires { self.old.number < 2 ^ 32 - 1 }
+        ensures behind { (blocks : Option ℕ) (lines : List Said) → IsBehind self.old blocks lines → IsBehind self.new blocks (lines ++ Blank ∷ []) }
+        ensures order { (room : ℕ) → HasOrder self.old room → HasOrder self.new room }
+        ensures number { self.new.number ≡ self.old.number + 1 }
+    {
+        self.number += 1;
+    }
+
+    /// Takes the curve of the lines behind the next one.
+    fn set_curve(&mut self, curve: Curve)
+        requires { self.old.number < 2 ^ 32 - 1 }
+        ensures behind { (blocks : Option ℕ) (lines : List Said) → IsBehind self.old blocks lines → IsBehind self.new blocks (lines ++ Maps curve ∷ []) }
+        ensures order { (room : ℕ) → HasOrder self.old room → HasOrder self.new room }
+        ensures number { self.new.number ≡ self.old.number + 1 }
+    {
+        self.curve = curve;
+        self.number += 1;
+    }
+
+    /// The refusal of a next line that isn't of the grammar.
+    fn refuse(&self) -> ScriptFault
+        ensures { (blocks : Option ℕ) (room : ℕ) (lines : List Said) → IsBehind self.now blocks lines → HasOrder self.now room
+            → Stops result room (outcomes_behind blocks [] (lines ++ Wrong ∷ [])) }
+    {
+        refused(self.number, ScriptKind::Line)
     }
 
     /// Takes a command at a block.
@@ -106,8 +134,9 @@ impl Progress {
         ensures stops { IfErr result (λ why. (lines : List Said) → IsBehind self.old bounds.blocks lines
             → Stops why bounds.room (outcomes_behind bounds.blocks [] (lines ++ Orders block (content command) ∷ []))) }
     {
-        if let Some(kind) = fault_of_block(block, self.least, bounds.blocks) {
-            return Err(refused(self.number, kind));
+        match fault_of_block(block, self.least, bounds.blocks) {
+            Some(kind) => return Err(refused(self.number, kind)),
+            None => {}
         }
         let command = on_curve(command, maps.map(self.curve));
         match give(&mut self.feed.script, block, command, bounds.room) {
@@ -137,8 +166,9 @@ impl Progress {
         ensures stops { IfErr result (λ why. (lines : List Said) → IsBehind self.old bounds.blocks lines
             → Stops why bounds.room (outcomes_behind bounds.blocks [] (lines ++ Feeds block bytes.now ∷ []))) }
     {
-        if let Some(kind) = fault_of_block(block, self.least, bounds.blocks) {
-            return Err(refused(self.number, kind));
+        match fault_of_block(block, self.least, bounds.blocks) {
+            Some(kind) => return Err(refused(self.number, kind)),
+            None => {}
         }
         let spot = Spot {
             place: Place::Line(self.number),
