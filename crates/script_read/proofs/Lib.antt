@@ -5,3 +5,5 @@ pub mod Numerals
 pub mod Dumps
 pub mod Streaming
 pub mod Lining
+pub mod Early
+pub mod Answering

@@ -35,7 +35,7 @@ not_more : (room n : ℕ) → n ≤ room → nat_lt room n ≡ false
 not_more room n l = le-ltb room n l
 
 -- commands for which there is room, and a fault behind them
-fails_behind : (room : ℕ) (cs : List PlannedData) (at : Place) (why : ScriptKind) (more : List Outcome) → length cs ≤ room
+pub fails_behind : (room : ℕ) (cs : List PlannedData) (at : Place) (why : ScriptKind) (more : List Outcome) → length cs ≤ room
     → plan_of room (all_given cs ++ Fails at why ∷ more) ≡ Refused at why
 unfolding plan_of
 fails_behind room cs at why more few =

@@ -1,5 +1,5 @@
 -- The lines of a text, their words, and the numbers and bytes that words write.
-use Rattle.std.specs.Prelude.{ℕ, ◌==◌, ◌&&◌, Bool, true, false, nat_lt, nat_le, List, [], ◌∷◌, filter, length, Option, Some, None, if◌then◌else◌}
+use Rattle.std.specs.Prelude.{ℕ, ◌-◌, ◌==◌, ◌&&◌, Bool, true, false, nat_lt, nat_le, List, [], ◌∷◌, filter, length, take, slice_index, Option, Some, None, if◌then◌else◌}
 use Rattle.std.specs.Str.{all_ascii_digits}
 use Rattle.std.specs.Str.Parse.{digits_value}
 use Rattle.std.specs.Result.{result_ok}
@@ -8,9 +8,7 @@ use Rattle.plain_text.specs.Parts.{parts}
 
 -- a line without a carriage return at its end
 abbrev pub without_return : List ℕ → List ℕ
-without_return [] = []
-without_return (byte ∷ []) = if byte == 13 then [] else byte ∷ []
-without_return (byte ∷ next ∷ more) = byte ∷ without_return (next ∷ more)
+without_return line = if slice_index line (length line - 1) == 13 then take (length line - 1) line else line
 
 -- of the parts that line feeds separate, the lines: one carriage return directly before a line feed is no part of its line
 abbrev pub ended : List (List ℕ) → List (List ℕ)

@@ -1,6 +1,6 @@
 //! A script that is text.
 
-ghost use Rattle.std.specs.Prelude.{ℕ, List, ◌≡◌, ◌+◌, ◌≤◌, ◌<◌, ◌^◌, ◌-◌, [], ◌∷◌, ◌++◌, length, IfErr, OnOk};
+ghost use Rattle.std.specs.Prelude.{ℕ, List, ◌≡◌, ◌+◌, ◌≤◌, ◌<◌, ◌^◌, ◌-◌, ◌==◌, [], ◌∷◌, ◌++◌, length, slice_index, IfErr, IsTrue, OnOk};
 ghost use Rattle.script_read.specs.Words.{lines_of, without_return};
 ghost use Rattle.script_read.specs.Lines.{Said, said, sayings};
 ghost use Rattle.script_read.specs.Outcomes.{outcomes_behind, text_outcomes};
@@ -19,10 +19,19 @@ use velocity_map::MapSet;
 pub(crate) fn without_return(line: &[u8]) -> &[u8]
     ensures { result.now ≡ without_return line.now }
 {
-    match line {
-        [front @ .., b'\r'] => front,
-        _ => line,
+    if has_return(line) {
+        &line[..line.len() - 1]
+    } else {
+        line
     }
+}
+
+/// Whether a carriage return stands at the end.
+fn has_return(line: &[u8]) -> bool
+    ensures value { result ≡ (slice_index line.now (length line.now - 1) == 13) }
+    ensures some { IsTrue result → 1 ≤ length line.now }
+{
+    !line.is_empty() && line[line.len() - 1] == b'\r'
 }
 
 /// Reads the lines behind the first one.

@@ -23,7 +23,7 @@ returns-in-Ok-clause-behind g c = λ lines b.
     let bytes = c.args.bytes.now in
     behind_more p _ c.args.bounds.blocks lines (Feeds c.args.block bytes) b (c.in-Ok.ensures.reads (stream_of lines) b.reads) refl refl refl refl
     (c.in-Ok.ensures.given (stream_of lines) b.reads
-    ∙ ap (λ (x : Curve). all_given p.feed.script ++ fed_outcomes (λ before. place.Line p.number) c.args.block x (stream_of lines) bytes) c.map.ensures
+    ∙ ap (λ (x : Curve). all_given p.feed.script ++ fed_outcomes (λ before. place.Line p.number) c.args.block x (stream_of lines) bytes) c.map-map.ensures
     ∙ ap (λ (os : List Outcome). all_given p.feed.script ++ os) (sym (feed_outcomes p c.args.bounds.blocks lines c.args.block bytes b ∙ timed_none _ (line_behind lines) _ (sym c.fault_of_block.ensures ∙ c.in-None.is))))
 
 pub returns-in-Err-clause-stops : goal.returns-in-Err-clause-stops
@@ -32,6 +32,6 @@ returns-in-Err-clause-stops g c = λ lines b.
     let bytes = c.args.bytes.now in
     stops_in_line p c.args.bounds.blocks c.args.bounds.room lines (Feeds c.args.block bytes) c.in-Err.fault b
     (subst (λ (os : List Outcome). Stops c.in-Err.fault c.args.bounds.room os)
-    (ap (λ (x : Curve). all_given p.feed.script ++ fed_outcomes (λ before. place.Line p.number) c.args.block x (stream_of lines) bytes) c.map.ensures
+    (ap (λ (x : Curve). all_given p.feed.script ++ fed_outcomes (λ before. place.Line p.number) c.args.block x (stream_of lines) bytes) c.map-map.ensures
     ∙ ap (λ (os : List Outcome). all_given p.feed.script ++ os) (sym (feed_outcomes p c.args.bounds.blocks lines c.args.block bytes b ∙ timed_none _ (line_behind lines) _ (sym c.fault_of_block.ensures ∙ c.in-None.is))))
     (c.in-Err.ensures.stops (stream_of lines) b.reads))
