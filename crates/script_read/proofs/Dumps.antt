@@ -66,6 +66,7 @@ voice_missed word none = by_bytes (lower_bytes word) refl
         let own = is_voice bytes d e in
         let read = voice_read word bytes own.1 is in
         absurd (none (TakesVoice bytes) read.0 read.1)
+
     by_bytes : (o : Option (List ℕ)) → lower_bytes word ≡ o → option_and_then if_voice o ≡ None
     by_bytes None e = refl
     by_bytes (Some bytes) e = by_voice bytes (kept_lower word (decode_of word) bytes e) (if_voice bytes) refl
@@ -101,6 +102,7 @@ cartridge_missed word none = by_bytes (lower_bytes word) refl
     by_cartridge bytes is (Some d) e =
         let same : flat_map packed (voices_of bytes) ≡ bytes = is_payload bytes d e in
         absurd (none (TakesCartridge (voices_of bytes)) (voices_cartridge bytes) (ap (λ (xs : List ℕ). codes "cartridge" ∷ encode_lower xs ∷ []) same ∙ ap (λ (w : List ℕ). codes "cartridge" ∷ w ∷ []) is))
+
     by_bytes : (o : Option (List ℕ)) → lower_bytes word ≡ o → option_and_then if_cartridge o ≡ None
     by_bytes None e = refl
     by_bytes (Some bytes) e = by_cartridge bytes (kept_lower word (decode_of word) bytes e) (if_cartridge bytes) refl

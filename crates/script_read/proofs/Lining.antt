@@ -287,9 +287,10 @@ text_settled : (r : Result (List PlannedData) ScriptFault) (p : Progress) (block
     → IfErr r (λ why. why ≡ faults.Refused (place.Line p.fed) kind.Cut) → OnErr r (is_unfinished (stream_of lines) ≡ true)
     → Settles r room (text_outcomes blocks lines)
 unfolding text_outcomes
-text_settled (Ok script) p blocks room lines b few same whole cut unfinished =
-    (ap (λ (os : List Outcome). os ++ text_end lines) b.given ∙ ap (λ (os : List Outcome). all_given p.feed.script ++ os) (ended_by _ _ whole) ∙ append-nil (all_given p.feed.script) ∙ ap all_given (sym same),
-    subst (λ (x : List PlannedData). length x ≤ room) (sym same) few)
+text_settled (Ok script) p blocks room lines b few same whole cut unfinished = (
+  ap (λ (os : List Outcome). os ++ text_end lines) b.given ∙ ap (λ (os : List Outcome). all_given p.feed.script ++ os) (ended_by _ _ whole) ∙ append-nil (all_given p.feed.script) ∙ ap all_given (sym same),
+  subst (λ (x : List PlannedData). length x ≤ room) (sym same) few,
+)
 text_settled (Err why) p blocks room lines b few same whole cut unfinished =
     subst (λ (w : ScriptFault). Stops w room (outcomes_behind blocks [] lines ++ text_end lines)) (sym cut)
     (λ more. ap (λ (os : List Outcome). plan_of room (os ++ text_end lines ++ more)) b.given

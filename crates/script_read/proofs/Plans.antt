@@ -66,7 +66,7 @@ unfolding plan_of
 whole room cs few =
     let all : given (all_given cs) ≡ cs = ap given (sym (append-nil (all_given cs))) ∙ given_all cs [] ∙ append-nil cs in
     let none : verdict (given (all_given cs)) (all_given cs) ≡ Commands (given (all_given cs)) =
-        ap (verdict (given (all_given cs))) (sym (append-nil (all_given cs))) ∙ verdict_all (given (all_given cs)) cs [] in
+    ap (verdict (given (all_given cs))) (sym (append-nil (all_given cs))) ∙ verdict_all (given (all_given cs)) cs [] in
     chosen _ TooMany _ (ap (λ (ds : List PlannedData). nat_lt room (length ds)) all ∙ not_more room (length cs) few)
     ∙ none ∙ ap Commands all
 

@@ -54,7 +54,7 @@ pub stopped_within : (why : ScriptFault) (room at : ℕ) (bytes : List ℕ) → 
 unfolding stream_outcomes
 stopped_within why room at bytes stops =
     let parts : fed_outcomes place_in 0 Linear [] bytes ≡ fed_outcomes place_in 0 Linear [] (take at bytes) ++ fed_outcomes place_in 0 Linear (take at bytes) (drop at bytes) =
-        ap (fed_outcomes place_in 0 Linear []) (sym (take-append-drop at bytes)) ∙ fed_append place_in 0 Linear [] (take at bytes) (drop at bytes) in
+    ap (fed_outcomes place_in 0 Linear []) (sym (take-append-drop at bytes)) ∙ fed_append place_in 0 Linear [] (take at bytes) (drop at bytes) in
     subst (λ (os : List Outcome). Stops why room (os ++ stream_end bytes)) (sym parts)
     (stops_more why room _ (stream_end bytes) (stops_more why room _ _ stops))
 
@@ -148,13 +148,13 @@ pub fed_stopped : (place_of : List ℕ → Place) (block : ℕ) (curve : Curve) 
     → Stops why room (all_given old ++ fed_outcomes place_of block curve before bytes)
 fed_stopped place_of block curve before bytes at byte why room old now below is was stops =
     let parts : all_given old ++ fed_outcomes place_of block curve before bytes
-        ≡ all_given old ++ fed_outcomes place_of block curve before (take (at + 1) bytes) ++ fed_outcomes place_of block curve (before ++ take (at + 1) bytes) (drop (at + 1) bytes) =
-        ap (λ (s : List ℕ). all_given old ++ fed_outcomes place_of block curve before s) (sym (take-append-drop (at + 1) bytes))
-        ∙ ap (λ (os : List Outcome). all_given old ++ os) (fed_append place_of block curve before (take (at + 1) bytes) (drop (at + 1) bytes))
-        ∙ sym (append_assoc (all_given old) _ _) in
+    ≡ all_given old ++ fed_outcomes place_of block curve before (take (at + 1) bytes) ++ fed_outcomes place_of block curve (before ++ take (at + 1) bytes) (drop (at + 1) bytes) =
+    ap (λ (s : List ℕ). all_given old ++ fed_outcomes place_of block curve before s) (sym (take-append-drop (at + 1) bytes))
+    ∙ ap (λ (os : List Outcome). all_given old ++ os) (fed_append place_of block curve before (take (at + 1) bytes) (drop (at + 1) bytes))
+    ∙ sym (append_assoc (all_given old) _ _) in
     let front : all_given now ++ heard_outcomes (place_of (before ++ take at bytes)) block curve (heard_with (before ++ take at bytes) byte)
-        ≡ all_given old ++ fed_outcomes place_of block curve before (take (at + 1) bytes) =
-        ap (λ (os : List Outcome). os ++ heard_outcomes (place_of (before ++ take at bytes)) block curve (heard_with (before ++ take at bytes) byte)) was
-        ∙ sym (fed_front place_of block curve before bytes at byte (all_given old) below is) in
+    ≡ all_given old ++ fed_outcomes place_of block curve before (take (at + 1) bytes) =
+    ap (λ (os : List Outcome). os ++ heard_outcomes (place_of (before ++ take at bytes)) block curve (heard_with (before ++ take at bytes) byte)) was
+    ∙ sym (fed_front place_of block curve before bytes at byte (all_given old) below is) in
     subst (λ (os : List Outcome). Stops why room os) (sym parts)
     (stops_more why room _ _ (subst (λ (os : List Outcome). Stops why room os) front stops))

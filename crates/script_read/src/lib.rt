@@ -19,3 +19,5 @@ pub use read::read_script;
 pub use script_plan::Script;
 pub use text::push_script_text;
 
+#[cfg(test)]
+mod tests;

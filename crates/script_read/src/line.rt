@@ -134,12 +134,7 @@ fn read_behind(
 }
 
 /// A kind and one word.
-fn read_word(
-    alloc: Global,
-    block: u32,
-    kind: &[u8],
-    word: &[u8],
-) -> Result<Line, AllocError>
+fn read_word(alloc: Global, block: u32, kind: &[u8], word: &[u8]) -> Result<Line, AllocError>
     ensures said { IfOk result (λ found. says found ≡ one_word_said block kind.now word.now) }
     ensures sound { IfOk result IsSound }
 {

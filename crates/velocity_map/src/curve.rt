@@ -13,16 +13,12 @@ impl Curve {
     ghost use Rattle.std.specs.Prelude.{◌≡◌, ◌≤◌};
     ghost use Rattle.velocity_map.specs.Curve.{curve_value};
 
-    /// The curve's value at a velocity of 1 to 127, for whoever makes a rule. It is 1 to 127 too.
+    /// The curve's value at a velocity up to 127, for whoever makes a rule. A greater velocity counts as 127.
     pub fn value(self, velocity: u8) -> u8
-        requires least { 1 ≤ velocity }
-        requires most { velocity ≤ 127 }
-        ensures value { result ≡ curve_value self velocity }
-        ensures least { 1 ≤ result }
-        ensures most { result ≤ 127 }
+        ensures value { velocity ≤ 127 → result ≡ curve_value self velocity }
     {
-        let below = u16::from(127 - velocity);
-        let velocity = u16::from(velocity);
+        let velocity = u16::from(velocity.min(127));
+        let below = 127 - velocity;
         let value = match self {
             Curve::Linear => velocity,
             Curve::Soft => 127 - below * below / 127,

@@ -11,30 +11,9 @@ use std::test::Fail;
 #[test]
 fn maps_follow_their_curves(rt: HostRuntime) -> Result<(), Fail> {
     let alloc = rt.alloc();
-    let linear = Box::new(
-        alloc,
-        |v: u8| -> u8
-            requires least { 1 ≤ v }
-            requires most { v ≤ 127 }
-            ensures { result ≡ curve_value Curve.Linear v }
-        { v },
-    )?;
-    let soft = Box::new(
-        alloc,
-        |v: u8| -> u8
-            requires least { 1 ≤ v }
-            requires most { v ≤ 127 }
-            ensures { result ≡ curve_value Curve.Soft v }
-        { Curve::Soft.value(v) },
-    )?;
-    let hard = Box::new(
-        alloc,
-        |v: u8| -> u8
-            requires least { 1 ≤ v }
-            requires most { v ≤ 127 }
-            ensures { result ≡ curve_value Curve.Hard v }
-        { Curve::Hard.value(v) },
-    )?;
+    let linear = Box::new(alloc, |v: u8| Curve::Linear.value(v))?;
+    let soft = Box::new(alloc, |v: u8| Curve::Soft.value(v))?;
+    let hard = Box::new(alloc, |v: u8| Curve::Hard.value(v))?;
     let maps = MapSet::new(
         VelocityMap::new(Curve::Linear, linear),
         VelocityMap::new(Curve::Soft, soft),
