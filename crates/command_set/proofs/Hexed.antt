@@ -30,14 +30,14 @@ decoded_of word count bytes e = sym (decode_sized-twice word count (decode_sized
 second_word : (a b : List (List ℕ)) → a ≡ b → get_or a 1 [] ≡ get_or b 1 []
 second_word a b e = ap (λ ws. get_or ws 1 []) e
 
-as_voice : (word : List ℕ) (d : CommandData) → IsInRange d → words d ≡ codes "voice" ∷ word ∷ []
+pub as_voice : (word : List ℕ) (d : CommandData) → IsInRange d → words d ≡ codes "voice" ∷ word ∷ []
     → (voice : List ℕ) × (d ≡ TakesVoice voice) × IsVoice voice × (encode_lower voice ≡ word)
 as_voice word d r same =
     let found = some_bytes TakesVoice (decode_of word) d (sym (voice_words word) ∙ sym (one_word (codes "voice") word) ∙ read_as _ d r same) in
     let is : d ≡ TakesVoice found.0 = found.2 in
     (found.0, is, subst IsInRange is r, second_word (words (TakesVoice found.0)) _ (subst (λ x. words x ≡ codes "voice" ∷ word ∷ []) is same))
 
-as_cartridge : (word : List ℕ) (d : CommandData) → IsInRange d → words d ≡ codes "cartridge" ∷ word ∷ []
+pub as_cartridge : (word : List ℕ) (d : CommandData) → IsInRange d → words d ≡ codes "cartridge" ∷ word ∷ []
     → (voices : List (List ℕ)) × (d ≡ TakesCartridge voices) × IsCartridge voices × (encode_lower (flat_map packed voices) ≡ word)
 as_cartridge word d r same =
     let found = some_bytes (λ bytes. TakesCartridge (voices_of bytes)) (decode_of word) d (sym (cartridge_words word) ∙ sym (one_word (codes "cartridge") word) ∙ read_as _ d r same) in

@@ -1,0 +1,92 @@
+-- What an answer says of the plan.
+use Rattle.std.proofs.Common.{◌≡◌, ℕ, ◌<◌, ◌≤◌, List, [], ◌∷◌, ◌++◌, length, true, false, refl, ap, sym, ◌∙◌, subst, arith}
+use Rattle.std.specs.Prelude.{All, Option, Some, None, Result, Ok, Err, IfOk, IfSome, bytes_eq, codes}
+use Rattle.midi_stream.specs.Messages.{is_unfinished}
+use Rattle.script_plan.specs.Plan.{PlannedData}
+use Rattle.script_read.specs.declared.fault.Place.{Place}
+use Rattle.script_read.specs.declared.fault.Place.TheVariants as place
+use Rattle.script_read.specs.declared.fault.ScriptKind.{ScriptKind}
+use Rattle.script_read.specs.declared.fault.ScriptKind.TheVariants as kind
+use Rattle.script_read.specs.declared.fault.ScriptFault.{ScriptFault}
+use Rattle.script_read.specs.declared.fault.ScriptFault.TheVariants as faults
+use Rattle.script_read.specs.Lines.{Said, sayings}
+use Rattle.script_read.specs.Outcomes.{Outcome, stream_of, outcomes_behind, text_outcomes}
+use Rattle.script_read.specs.Plan.{Commands, Refused, TooMany, at_first, is_stream, is_midi_file, lines_outcomes, outcomes, plan, plan_of}
+use Rattle.script_read.specs.Reading.{Settles, Stops, all_given}
+use Rattle.script_read.proofs.Plans.{fails_behind, stopped_refused, stopped_many, whole}
+use Rattle.script_read.proofs.Early.{AllEarly, all_early, given_early}
+
+-- an answer as that of what comes of the script
+of_result : (r s : Result (List PlannedData) ScriptFault) (room : ℕ) (os : List Outcome) → r ≡ s → Settles r room os → Settles s room os
+of_result r s room os e h = subst (λ (x : Result (List PlannedData) ScriptFault). Settles x room os) e h
+
+pub plan_ok : (r : Result (List PlannedData) ScriptFault) (bytes : List ℕ) (blocks : Option ℕ) (room : ℕ) → Settles r room (outcomes blocks bytes)
+    → IfOk r (λ script. plan bytes blocks room ≡ Commands script)
+unfolding plan
+plan_ok (Ok script) bytes blocks room h = ap (plan_of room) h.0 ∙ whole room script h.1
+plan_ok (Err why) bytes blocks room h = tt
+
+pub plan_few : (r : Result (List PlannedData) ScriptFault) (room : ℕ) (os : List Outcome) → Settles r room os → IfOk r (λ script. length script ≤ room)
+plan_few (Ok script) room os h = h.1
+plan_few (Err why) room os h = tt
+
+pub plan_refused : (r : Result (List PlannedData) ScriptFault) (bytes : List ℕ) (blocks : Option ℕ) (room : ℕ) (at : Place) (why : ScriptKind)
+    → Settles r room (outcomes blocks bytes) → r ≡ Err (faults.Refused at why) → plan bytes blocks room ≡ Refused at why
+unfolding plan
+plan_refused r bytes blocks room at why h e = stopped_refused at why room (outcomes blocks bytes) (of_result r (Err (faults.Refused at why)) room (outcomes blocks bytes) e h)
+
+pub plan_many : (r : Result (List PlannedData) ScriptFault) (bytes : List ℕ) (blocks : Option ℕ) (room : ℕ)
+    → Settles r room (outcomes blocks bytes) → r ≡ Err faults.TooMany → plan bytes blocks room ≡ TooMany
+unfolding plan
+plan_many r bytes blocks room h e = stopped_many room (outcomes blocks bytes) (of_result r (Err faults.TooMany) room (outcomes blocks bytes) e h)
+
+pub plan_early : (r : Result (List PlannedData) ScriptFault) (bytes : List ℕ) (blocks : Option ℕ) (room : ℕ) → Settles r room (outcomes blocks bytes)
+    → IfOk r (λ script. IfSome blocks (λ n. 0 < n → All (λ (c : PlannedData). c.due < n) script))
+plan_early (Ok script) bytes None room h = tt
+plan_early (Ok script) bytes (Some n) room h = λ some. given_early n script (subst (λ (os : List Outcome). AllEarly n os) h.0 (all_early n bytes some))
+plan_early (Err why) bytes blocks room h = tt
+
+-- ---- first lines
+
+pub midi_first : (blocks : Option ℕ) (first : List ℕ) (lines : List (List ℕ)) → bytes_eq first (codes "midi 1") ≡ true
+    → lines_outcomes blocks (first ∷ lines) ≡ text_outcomes blocks (sayings lines)
+midi_first blocks first lines e = rw e refl
+
+edit_first : (blocks : Option ℕ) (first : List ℕ) (lines : List (List ℕ)) → bytes_eq first (codes "midi 1") ≡ false → bytes_eq first (codes "edit 1") ≡ true
+    → lines_outcomes blocks (first ∷ lines) ≡ at_first kind.NotYet
+edit_first blocks first lines e f = rw (e, f) refl
+
+other_first : (blocks : Option ℕ) (first : List ℕ) (lines : List (List ℕ)) → bytes_eq first (codes "midi 1") ≡ false → bytes_eq first (codes "edit 1") ≡ false
+    → lines_outcomes blocks (first ∷ lines) ≡ at_first kind.Kind
+other_first blocks first lines e f = rw (e, f) refl
+
+pub stops_first : (room : ℕ) (why : ScriptKind) → Stops (faults.Refused (place.Line 1) why) room (at_first why)
+stops_first room why = λ more. fails_behind room [] (place.Line 1) why more (omega arith)
+
+refused_with : (fault : ScriptFault) (room : ℕ) (why : ScriptKind) (os : List Outcome) → os ≡ at_first why → fault ≡ faults.Refused (place.Line 1) why → Stops fault room os
+refused_with fault room why os is e =
+    subst (λ (xs : List Outcome). Stops fault room xs) (sym is) (subst (λ (w : ScriptFault). Stops w room (at_first why)) (sym e) (stops_first room why))
+
+pub edit_refused : (fault : ScriptFault) (room : ℕ) (blocks : Option ℕ) (first : List ℕ) (lines : List (List ℕ)) → bytes_eq first (codes "midi 1") ≡ false → bytes_eq first (codes "edit 1") ≡ true
+    → fault ≡ faults.Refused (place.Line 1) kind.NotYet → Stops fault room (lines_outcomes blocks (first ∷ lines))
+edit_refused fault room blocks first lines e f is = refused_with fault room kind.NotYet _ (edit_first blocks first lines e f) is
+
+pub other_refused : (fault : ScriptFault) (room : ℕ) (blocks : Option ℕ) (first : List ℕ) (lines : List (List ℕ)) → bytes_eq first (codes "midi 1") ≡ false → bytes_eq first (codes "edit 1") ≡ false
+    → fault ≡ faults.Refused (place.Line 1) kind.Kind → Stops fault room (lines_outcomes blocks (first ∷ lines))
+other_refused fault room blocks first lines e f is = refused_with fault room kind.Kind _ (other_first blocks first lines e f) is
+
+-- a text of its first line alone
+pub nothing_comes : (blocks : Option ℕ) → text_outcomes blocks [] ≡ []
+unfolding text_outcomes outcomes_behind stream_of is_unfinished
+nothing_comes blocks = refl
+
+pub midi_alone : (blocks : Option ℕ) (room : ℕ) (first : List ℕ) (script : List PlannedData) → bytes_eq first (codes "midi 1") ≡ true → script ≡ []
+    → (lines_outcomes blocks (first ∷ []) ≡ all_given script) × (length script ≤ room)
+midi_alone blocks room first script e none =
+    (midi_first blocks first [] e ∙ nothing_comes blocks ∙ ap all_given (sym none), rw none (omega arith))
+
+-- a MIDI file
+pub midi_file_refused : (fault : ScriptFault) (room : ℕ) (blocks : Option ℕ) (bytes : List ℕ) → is_stream bytes ≡ false → is_midi_file bytes ≡ true
+    → fault ≡ faults.Refused (place.Line 1) kind.NotYet → Stops fault room (outcomes blocks bytes)
+unfolding outcomes
+midi_file_refused fault room blocks bytes e f is = refused_with fault room kind.NotYet _ (rw (e, f) refl) is

@@ -1,0 +1,26 @@
+-- The first word of a line.
+use Rattle.std.proofs.Common.{◌≡◌, ℕ, ◌<◌, List, [], ◌∷◌, length, Bool, true, false, refl, ap, ◌∙◌, arith, lt-ltb}
+use Rattle.std.specs.Prelude.{filter, cond}
+use Rattle.plain_text.specs.Parts.{parts}
+use Rattle.script_read.specs.Words.{is_some_word, words_of}
+
+pub word_first : (line word behind : List ℕ) → parts 32 line ≡ word ∷ parts 32 behind → 0 < length word → words_of line ≡ word ∷ words_of behind
+unfolding words_of
+word_first line word behind e some = ap (filter is_some_word) e ∙ rw (lt-ltb 0 (length word) some) refl
+
+pub word_skipped : (line behind : List ℕ) (word : List ℕ) → parts 32 line ≡ word ∷ parts 32 behind → length word ≡ 0 → words_of line ≡ words_of behind
+unfolding words_of
+word_skipped line behind word e none = ap (filter is_some_word) e ∙ rw none refl
+
+pub word_last : (line : List ℕ) → parts 32 line ≡ line ∷ [] → 0 < length line → words_of line ≡ line ∷ []
+unfolding words_of
+word_last line e some = ap (filter is_some_word) e ∙ rw (lt-ltb 0 (length line) some) refl
+
+pub word_none : (line : List ℕ) → parts 32 line ≡ line ∷ [] → length line ≡ 0 → words_of line ≡ []
+unfolding words_of
+word_none line e none = ap (filter is_some_word) e ∙ rw none refl
+
+-- a line without bytes has no words
+pub none_of_empty : words_of [] ≡ []
+unfolding words_of
+none_of_empty = refl

@@ -1,0 +1,41 @@
+use Rattle.std.proofs.Common.{◌≡◌, ◌+◌, ◌++◌, ℕ, List, [], ◌∷◌, take, drop, get_or, length, refl, ap, sym, subst, ◌∙◌, append_assoc, append-nil}
+use Rattle.std.proofs.lemmas.List.{take_all}
+use Rattle.midi_stream.specs.Reading.{Reads}
+use Rattle.velocity_map.specs.Map.{curve_of}
+use Rattle.script_read.specs.Outcomes.{Outcome, fed_outcomes}
+use Rattle.script_read.specs.Reading.{Stops, all_given}
+use Rattle.script_read.proofs.Streaming.{fed_none, fed_step, fed_stopped, take_next}
+use Rattle.script_read.proofs.feed.take_all.Goals as goal
+
+pub loop-byte-init : goal.loop-byte-init
+loop-byte-init g c = record {
+  reads = λ stream reads. rw append-nil reads;
+  given = λ stream reads. sym (ap (λ (os : List Outcome). all_given c.args.feed.now.script ++ os) (fed_none (λ before. c.args.spot.place) c.args.spot.block (curve_of c.args.map.now) stream) ∙ append-nil (all_given c.args.feed.now.script));
+  few = c.requires.few;
+  due = c.requires.due;
+}
+
+pub returns-in-Err-clause-stops : goal.returns-in-Err-clause-stops
+returns-in-Err-clause-stops g c = λ stream reads.
+    let i = c.loop-byte.invariant in
+    let at : ℕ = c.loop-byte.byte-index in
+    let bytes : List ℕ = c.args.bytes.now in
+    fed_stopped (λ before. c.args.spot.place) c.args.spot.block (curve_of c.args.map.now) stream bytes at (get_or bytes at 0) c.in-Err.fault c.args.room
+    c.args.feed.now.script c.loop-byte.feed.script c.loop-byte-test.true refl (i.given stream reads)
+    (c.in-Err.ensures.stops (stream ++ take at bytes) (i.reads stream reads))
+
+pub loop-byte-preserved : goal.loop-byte-preserved
+loop-byte-preserved g c =
+    let i = c.loop-byte.invariant in
+    let at : ℕ = c.loop-byte.byte-index in
+    let bytes : List ℕ = c.args.bytes.now in
+    let next = take_next bytes at (get_or bytes at 0) c.loop-byte-test.true refl in
+    record {
+      reads = λ stream reads. subst (λ (s : List ℕ). Reads c.take.new.self.reader s) (append_assoc stream (take at bytes) (get_or bytes at 0 ∷ []) ∙ ap (λ (s : List ℕ). stream ++ s) (sym next))
+          (c.take.ensures.reads (stream ++ take at bytes) (i.reads stream reads));
+      given = λ stream reads. fed_step (λ before. c.args.spot.place) c.args.spot.block (curve_of c.args.map.now) stream bytes at (get_or bytes at 0)
+          c.args.feed.now.script c.loop-byte.feed.script c.take.new.self.script c.loop-byte-test.true refl (i.given stream reads)
+          (c.in-Ok.ensures.given (stream ++ take at bytes) (i.reads stream reads));
+      few = c.in-Ok.ensures.few;
+      due = c.in-Ok.ensures.due;
+    }

@@ -1,0 +1,85 @@
+//! A script that is text.
+
+ghost use Rattle.std.specs.Prelude.{ℕ, List, ◌≡◌, ◌+◌, ◌≤◌, ◌<◌, ◌^◌, ◌-◌, ◌==◌, [], ◌∷◌, ◌++◌, length, slice_index, IfErr, IsTrue, OnOk};
+ghost use Rattle.script_read.specs.Words.{lines_of, without_return};
+ghost use Rattle.script_read.specs.Lines.{Said, said, sayings};
+ghost use Rattle.script_read.specs.Outcomes.{outcomes_behind, text_outcomes};
+ghost use Rattle.script_read.specs.Reading.{HasOrder, IsBehind, Settles, Stops};
+
+use crate::bounds::Bounds;
+use crate::fault::ScriptFault;
+use crate::line::read_line;
+use crate::progress::Progress;
+use plain_text::cut;
+use script_plan::Script;
+use std::alloc::Global;
+use velocity_map::MapSet;
+
+/// A line without a carriage return at its end.
+pub(crate) fn without_return(line: &[u8]) -> &[u8]
+    ensures { result.now ≡ without_return line.now }
+{
+    if has_return(line) {
+        &line[..line.len() - 1]
+    } else {
+        line
+    }
+}
+
+/// Whether a carriage return stands at the end.
+fn has_return(line: &[u8]) -> bool
+    ensures value { result ≡ (slice_index line.now (length line.now - 1) == 13) }
+    ensures some { IsTrue result → 1 ≤ length line.now }
+{
+    !line.is_empty() && line[line.len() - 1] == b'\r'
+}
+
+/// Reads the lines behind the first one.
+pub(crate) fn read_lines(
+    alloc: Global,
+    text: &[u8],
+    maps: &MapSet,
+    bounds: Bounds,
+) -> Result<Script, ScriptFault>
+    requires { length text.now ≤ 536870912 }
+    ensures { Settles result bounds.room (text_outcomes bounds.blocks (sayings (lines_of text.now))) }
+{
+    let mut progress = match Progress::new(alloc) {
+        Ok(progress) => progress,
+        Err(_) => return Err(ScriptFault::Memory),
+    };
+    let mut rest = text;
+    while let Some((line, behind)) = cut(rest, b'\n') {
+        match take_line(alloc, &mut progress, without_return(line), maps, bounds) {
+            Ok(()) => {}
+            Err(fault) => return Err(fault),
+        }
+        rest = behind;
+    }
+    match take_line(alloc, &mut progress, rest, maps, bounds) {
+        Ok(()) => progress.end(),
+        Err(fault) => Err(fault),
+    }
+}
+
+/// Takes the next line.
+fn take_line(
+    alloc: Global,
+    progress: &mut Progress,
+    line: &[u8],
+    maps: &MapSet,
+    bounds: Bounds,
+) -> Result<(), ScriptFault>
+    requires order { HasOrder progress.old bounds.room }
+    requires number { progress.old.number < 2 ^ 32 - 1 }
+    ensures behind { OnOk result ((lines : List Said) → IsBehind progress.old bounds.blocks lines → IsBehind progress.new bounds.blocks (lines ++ said line.now ∷ [])) }
+    ensures order { OnOk result (HasOrder progress.new bounds.room) }
+    ensures number { OnOk result (progress.new.number ≡ progress.old.number + 1) }
+    ensures stops { IfErr result (λ why. (lines : List Said) → IsBehind progress.old bounds.blocks lines
+        → Stops why bounds.room (outcomes_behind bounds.blocks [] (lines ++ said line.now ∷ []))) }
+{
+    match read_line(alloc, line) {
+        Ok(said) => progress.take(alloc, said, maps, bounds),
+        Err(_) => Err(ScriptFault::Memory),
+    }
+}

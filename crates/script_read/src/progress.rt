@@ -1,0 +1,255 @@
+//! A text script in the middle of its lines.
+
+ghost use Rattle.std.specs.Prelude.{ℕ, ◌≡◌, Option, if◌then◌else◌};
+ghost use Rattle.velocity_map.specs.Map.{curve_of};
+ghost use Rattle.command_set.specs.Command.{IsInRange, content};
+ghost use Rattle.script_read.specs.Outcomes.{curved, is_late, time_fault};
+
+use crate::bounds::Bounds;
+use crate::fault::{Place, ScriptFault, ScriptKind};
+use crate::feed::{Feed, Spot, give, take_all};
+use crate::line::Line;
+use command_set::Command;
+use script_plan::Script;
+use std::alloc::{AllocError, Global};
+use velocity_map::{Curve, MapSet, VelocityMap};
+
+/// Where the reader of a text stands behind some lines.
+#[derive(Drop)]
+pub(crate) struct Progress {
+    pub(crate) feed: Feed,
+    /// The curve in force.
+    pub(crate) curve: Curve,
+    /// The block of the last line that has one.
+    pub(crate) least: u32,
+    /// The number of the next line.
+    pub(crate) number: u32,
+    /// The number of the last `bytes` line.
+    pub(crate) fed: u32,
+}
+
+impl Progress {
+    ghost use Rattle.std.specs.Prelude.{ℕ, List, Option, ◌≡◌, ◌+◌, ◌^◌, ◌-◌, ◌<◌, [], ◌∷◌, ◌++◌, true, false, IfErr, IfOk, OnErr, OnOk};
+    ghost use Rattle.midi_stream.specs.Messages.{is_unfinished};
+    ghost use Rattle.midi_stream.specs.Reading.{Reads};
+    ghost use Rattle.command_set.specs.Command.{IsInRange, content};
+    ghost use Rattle.script_read.specs.Lines.{Said, Blank, Feeds, Maps, Orders, Wrong};
+    ghost use Rattle.script_read.specs.Says.{IsSound, says};
+    ghost use Rattle.script_read.specs.Outcomes.{outcomes_behind};
+    ghost use Rattle.script_read.specs.Reading.{HasOrder, IsBehind, Stops};
+
+    /// Before the line behind the first. It takes the memory that a reader of MIDI bytes needs.
+    pub(crate) fn new(alloc: Global) -> Result<Progress, AllocError>
+        ensures behind { IfOk result (λ p. (blocks : Option ℕ) → IsBehind p blocks []) }
+        ensures order { IfOk result (λ p. (room : ℕ) → HasOrder p room) }
+        ensures number { IfOk result (λ p. p.number ≡ 2) }
+    {
+        match Feed::new(alloc) {
+            Ok(feed) => Ok(Progress {
+                feed,
+                curve: Curve::Linear,
+                least: 0,
+                number: 2,
+                fed: 0,
+            }),
+            Err(fault) => Err(fault),
+        }
+    }
+
+    /// Takes what the next line says.
+    pub(crate) fn take(
+        &mut self,
+        alloc: Global,
+        said: Line,
+        maps: &MapSet,
+        bounds: Bounds,
+    ) -> Result<(), ScriptFault>
+        requires order { HasOrder self.old bounds.room }
+        requires number { self.old.number < 2 ^ 32 - 1 }
+        requires sound { IsSound said }
+        ensures behind { OnOk result ((lines : List Said) → IsBehind self.old bounds.blocks lines → IsBehind self.new bounds.blocks (lines ++ says said ∷ [])) }
+        ensures order { OnOk result (HasOrder self.new bounds.room) }
+        ensures number { OnOk result (self.new.number ≡ self.old.number + 1) }
+        ensures stops { IfErr result (λ why. (lines : List Said) → IsBehind self.old bounds.blocks lines
+            → Stops why bounds.room (outcomes_behind bounds.blocks [] (lines ++ says said ∷ []))) }
+    {
+        match said {
+            Line::Blank => {
+                self.pass_over();
+                Ok(())
+            }
+            Line::Map(curve) => {
+                self.set_curve(curve);
+                Ok(())
+            }
+            Line::Command { block, command } => self.take_command(block, command, maps, bounds),
+            Line::Bytes { block, bytes } => self.take_bytes(alloc, block, &bytes, maps, bounds),
+            Line::Wrong => Err(self.refuse()),
+        }
+    }
+
+    /// Passes over the next line.
+    fn pass_over(&mut self)
+        requires { self.old.number < 2 ^ 32 - 1 }
+        ensures behind { (blocks : Option ℕ) (lines : List Said) → IsBehind self.old blocks lines → IsBehind self.new blocks (lines ++ Blank ∷ []) }
+        ensures order { (room : ℕ) → HasOrder self.old room → HasOrder self.new room }
+        ensures number { self.new.number ≡ self.old.number + 1 }
+    {
+        self.number += 1;
+    }
+
+    /// Takes the curve of the lines behind the next one.
+    fn set_curve(&mut self, curve: Curve)
+        requires { self.old.number < 2 ^ 32 - 1 }
+        ensures behind { (blocks : Option ℕ) (lines : List Said) → IsBehind self.old blocks lines → IsBehind self.new blocks (lines ++ Maps curve ∷ []) }
+        ensures order { (room : ℕ) → HasOrder self.old room → HasOrder self.new room }
+        ensures number { self.new.number ≡ self.old.number + 1 }
+    {
+        self.curve = curve;
+        self.number += 1;
+    }
+
+    /// The refusal of a next line that isn't of the grammar.
+    fn refuse(&self) -> ScriptFault
+        ensures { (blocks : Option ℕ) (room : ℕ) (lines : List Said) → IsBehind self.now blocks lines → HasOrder self.now room
+            → Stops result room (outcomes_behind blocks [] (lines ++ Wrong ∷ [])) }
+    {
+        refused(self.number, ScriptKind::Line)
+    }
+
+    /// Takes a command at a block.
+    fn take_command(
+        &mut self,
+        block: u32,
+        command: Command,
+        maps: &MapSet,
+        bounds: Bounds,
+    ) -> Result<(), ScriptFault>
+        requires order { HasOrder self.old bounds.room }
+        requires number { self.old.number < 2 ^ 32 - 1 }
+        requires range { IsInRange (content command) }
+        ensures behind { OnOk result ((lines : List Said) → IsBehind self.old bounds.blocks lines → IsBehind self.new bounds.blocks (lines ++ Orders block (content command) ∷ [])) }
+        ensures order { OnOk result (HasOrder self.new bounds.room) }
+        ensures number { OnOk result (self.new.number ≡ self.old.number + 1) }
+        ensures stops { IfErr result (λ why. (lines : List Said) → IsBehind self.old bounds.blocks lines
+            → Stops why bounds.room (outcomes_behind bounds.blocks [] (lines ++ Orders block (content command) ∷ []))) }
+    {
+        match fault_of_block(block, self.least, bounds.blocks) {
+            Some(kind) => return Err(refused(self.number, kind)),
+            None => {}
+        }
+        let command = on_curve(command, maps.map(self.curve));
+        match give(&mut self.feed.script, block, command, bounds.room) {
+            Ok(()) => {
+                self.least = block;
+                self.number += 1;
+                Ok(())
+            }
+            Err(fault) => Err(fault),
+        }
+    }
+
+    /// Takes MIDI bytes at a block.
+    fn take_bytes(
+        &mut self,
+        alloc: Global,
+        block: u32,
+        bytes: &[u8],
+        maps: &MapSet,
+        bounds: Bounds,
+    ) -> Result<(), ScriptFault>
+        requires order { HasOrder self.old bounds.room }
+        requires number { self.old.number < 2 ^ 32 - 1 }
+        ensures behind { OnOk result ((lines : List Said) → IsBehind self.old bounds.blocks lines → IsBehind self.new bounds.blocks (lines ++ Feeds block bytes.now ∷ [])) }
+        ensures order { OnOk result (HasOrder self.new bounds.room) }
+        ensures number { OnOk result (self.new.number ≡ self.old.number + 1) }
+        ensures stops { IfErr result (λ why. (lines : List Said) → IsBehind self.old bounds.blocks lines
+            → Stops why bounds.room (outcomes_behind bounds.blocks [] (lines ++ Feeds block bytes.now ∷ []))) }
+    {
+        match fault_of_block(block, self.least, bounds.blocks) {
+            Some(kind) => return Err(refused(self.number, kind)),
+            None => {}
+        }
+        let spot = Spot {
+            place: Place::Line(self.number),
+            block,
+        };
+        let map = maps.map(self.curve);
+        match take_all(alloc, &mut self.feed, bytes, spot, map, bounds.room) {
+            Ok(()) => {
+                self.least = block;
+                self.fed = self.number;
+                self.number += 1;
+                Ok(())
+            }
+            Err(fault) => Err(fault),
+        }
+    }
+
+    /// The commands, where the text doesn't end within a message.
+    pub(crate) fn end(self) -> Result<Script, ScriptFault>
+        ensures given { IfOk result (λ script. script ≡ self.feed.script) }
+        ensures whole { OnOk result ((stream : List ℕ) → Reads self.feed.reader stream → is_unfinished stream ≡ false) }
+        ensures cut { IfErr result (λ why. why ≡ ScriptFault.Refused (Place.Line self.fed) ScriptKind.Cut) }
+        ensures unfinished { OnErr result ((stream : List ℕ) → Reads self.feed.reader stream → is_unfinished stream ≡ true) }
+    {
+        if self.feed.reader.at_rest() {
+            Ok(self.feed.script)
+        } else {
+            Err(refused(self.fed, ScriptKind::Cut))
+        }
+    }
+}
+
+/// The refusal of a line.
+fn refused(number: u32, kind: ScriptKind) -> ScriptFault
+    ensures { result ≡ ScriptFault.Refused (Place.Line number) kind }
+{
+    ScriptFault::Refused {
+        place: Place::Line(number),
+        kind,
+    }
+}
+
+/// What is wrong with a line's block.
+fn fault_of_block(block: u32, least: u32, blocks: Option<u32>) -> Option<ScriptKind>
+    ensures { result ≡ time_fault blocks least block }
+{
+    if block < least {
+        Some(ScriptKind::Falls)
+    } else if is_late(block, blocks) {
+        Some(ScriptKind::Late)
+    } else {
+        None
+    }
+}
+
+/// Whether a block is not one of the run's.
+fn is_late(block: u32, blocks: Option<u32>) -> bool
+    ensures { result ≡ is_late blocks block }
+{
+    match blocks {
+        Some(blocks) => block >= blocks,
+        None => false,
+    }
+}
+
+/// A note-on with its velocity on a curve; any other command as it is.
+fn on_curve(command: Command, map: &VelocityMap) -> Command
+    requires { IsInRange (content command) }
+    ensures curved { content result ≡ curved (curve_of map.now) (content command) }
+    ensures range { IsInRange (content result) }
+{
+    match command {
+        Command::NoteOn {
+            channel,
+            key,
+            velocity,
+        } => Command::NoteOn {
+            channel,
+            key,
+            velocity: map.apply(velocity),
+        },
+        other => other,
+    }
+}
