@@ -3,3 +3,4 @@ pub mod Entries
 pub mod Text
 pub mod Words
 pub mod Unique
+pub mod VoiceAfter
