@@ -1,5 +1,5 @@
 -- What a command that edits makes of the voice.
-use Rattle.std.specs.Prelude.{ℕ, ◌≡◌, ◌==◌, if◌then◌else◌, List, slice_set}
+use Rattle.std.specs.Prelude.{ℕ, ◌≡◌, ◌==◌, if◌then◌else◌, List, [], ◌∷◌, slice_set}
 use Rattle.command_set.specs.Command.{CommandData, StartsNote, EndsNote, Bends, Controls, PicksProgram, SetsNumber, StoresVoice, TakesVoice, TakesCartridge}
 
 -- The voice after a command that sets a number of it or replaces it whole. Number 155 is the operator switch, which is no number of the voice.
@@ -31,3 +31,8 @@ IsEdit (TakesCartridge voices) = ⊥
 pub record Turns (old : List ℕ) (command : CommandData) (new : List ℕ) : Type 0 where
   pub edit : IsEdit command
   pub voice : voice_after old command ≡ new
+
+-- one command after the other
+abbrev pub TurnsAll : List ℕ → List CommandData → List ℕ → Type 0
+TurnsAll old [] new = old ≡ new
+TurnsAll old (c ∷ cs) new = (between : List ℕ) × (Turns old c between × TurnsAll between cs new)

@@ -2,7 +2,7 @@
 
 ghost use Rattle.std.specs.Prelude.{◌≡◌, ◌≤◌, IfOk, OnErr, slice_index, slice_set};
 ghost use Rattle.voice_record.specs.Voice.{greatest_value};
-ghost use Rattle.command_set.specs.Command.{content};
+ghost use Rattle.command_set.specs.Command.{content, IsInRange};
 
 use command_set::Command;
 use std::alloc::{AllocError, Global};
@@ -47,6 +47,7 @@ impl Change {
     /// The command that makes the change.
     pub(crate) fn command(&self, alloc: Global) -> Result<Command, AllocError>
         ensures command { IfOk result (λ command. content command ≡ command_of self.now) }
+        ensures range { IfOk result (λ command. IsInRange (content command)) }
         ensures memory { OnErr result (kind_of self.now ≡ WholeVoice) }
     {
         match self {
@@ -54,7 +55,10 @@ impl Change {
                 number: *number,
                 value: *value,
             }),
-            Change::Whole(voice) => Ok(Command::Voice(Box::new(alloc, **voice)?)),
+            Change::Whole(voice) => {
+                let _ = voice.get(0);
+                Ok(Command::Voice(Box::new(alloc, **voice)?))
+            }
         }
     }
 

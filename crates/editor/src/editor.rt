@@ -76,6 +76,7 @@ impl Editor {
         ensures acted { OnOk result (self.new ≡ acted self.old (OneNumber number) (slice_set self.old.voice number value)) }
         ensures command { IfOk result (λ command. content command ≡ SetsNumber number value) }
         ensures follows { IfOk result (λ command. Turns self.old.voice (content command) self.new.voice) }
+        ensures range { IfOk result (λ command. IsInRange (content command)) }
         ensures refused { IfErr result (λ fault. fault ≡ EditFault.ValueHigh number value (greatest_value number)) }
         ensures kept { OnErr result (self.new ≡ self.old) }
     {
@@ -91,6 +92,7 @@ impl Editor {
         ensures acted { OnOk result (self.new ≡ acted self.old WholeVoice (renamed self.old.voice name.now)) }
         ensures command { IfOk result (λ command. content command ≡ TakesVoice self.new.voice) }
         ensures follows { IfOk result (λ command. Turns self.old.voice (content command) self.new.voice) }
+        ensures range { IfOk result (λ command. IsInRange (content command)) }
         ensures high { (place : ℕ) → (result ≡ Err (EditFault.NameByte place)) ↔ (first_high name.now ≡ Some place) }
         ensures refused { IfErr result (λ fault. (fault ≡ EditFault.Memory) ⊎ ((place : ℕ) × (fault ≡ EditFault.NameByte place))) }
         ensures kept { OnErr result (self.new ≡ self.old) }
@@ -107,6 +109,7 @@ impl Editor {
         ensures acted { OnOk result (self.new ≡ acted self.old WholeVoice voice.now) }
         ensures command { IfOk result (λ command. content command ≡ TakesVoice voice.now) }
         ensures follows { IfOk result (λ command. Turns self.old.voice (content command) self.new.voice) }
+        ensures range { IfOk result (λ command. IsInRange (content command)) }
         ensures refused { IfErr result (λ fault. fault ≡ EditFault.Memory) }
         ensures kept { OnErr result (self.new ≡ self.old) }
     {
@@ -117,8 +120,10 @@ impl Editor {
     fn replace(&mut self, alloc: Global, voice: &Voice) -> Result<Command, AllocError>
         ensures acted { OnOk result (self.new ≡ acted self.old WholeVoice voice.now) }
         ensures command { IfOk result (λ command. content command ≡ TakesVoice voice.now) }
+        ensures range { IfOk result (λ command. IsInRange (content command)) }
         ensures kept { OnErr result (self.new ≡ self.old) }
     {
+        let _ = voice.get(0);
         let command = Command::Voice(Box::new(alloc, *voice)?);
         let old = Box::new(alloc, self.voice)?;
         keep(&mut self.past, &mut self.future, Change::Whole(old));
@@ -130,6 +135,7 @@ impl Editor {
     pub fn undo(&mut self, alloc: Global) -> Result<Command, EditFault>
         ensures undone { IfOk result (λ command. undone self.old ≡ Some (self.new, content command)) }
         ensures follows { IfOk result (λ command. Turns self.old.voice (content command) self.new.voice) }
+        ensures range { IfOk result (λ command. IsInRange (content command)) }
         ensures nothing { (result ≡ Err EditFault.NothingToUndo) ↔ (self.old.past ≡ []) }
         ensures refused { IfErr result (λ fault. (fault ≡ EditFault.NothingToUndo) ⊎ ((fault ≡ EditFault.Memory) × IsWholeNext self.old.past)) }
         ensures kept { OnErr result (self.new ≡ self.old) }
@@ -144,6 +150,7 @@ impl Editor {
     pub fn redo(&mut self, alloc: Global) -> Result<Command, EditFault>
         ensures redone { IfOk result (λ command. redone self.old ≡ Some (self.new, content command)) }
         ensures follows { IfOk result (λ command. Turns self.old.voice (content command) self.new.voice) }
+        ensures range { IfOk result (λ command. IsInRange (content command)) }
         ensures nothing { (result ≡ Err EditFault.NothingToRedo) ↔ (self.old.future ≡ []) }
         ensures refused { IfErr result (λ fault. (fault ≡ EditFault.NothingToRedo) ⊎ ((fault ≡ EditFault.Memory) × IsWholeNext self.old.future)) }
         ensures kept { OnErr result (self.new ≡ self.old) }

@@ -9,3 +9,6 @@ mod step;
 
 pub use editor::Editor;
 pub use fault::EditFault;
+
+#[cfg(test)]
+mod tests;

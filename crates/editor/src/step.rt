@@ -2,7 +2,7 @@
 
 ghost use Rattle.std.specs.Prelude.{◌≡◌, ◌+◌, ◌<◌, [], ◌∷◌, take, length, IfOk, IfSome, IfNone, OnErr, option_map};
 ghost use Rattle.circular_buffer.specs.Buffer.{buffer};
-ghost use Rattle.command_set.specs.Command.{content};
+ghost use Rattle.command_set.specs.Command.{content, IsInRange};
 ghost use Rattle.command_set.specs.VoiceAfter.{Turns};
 ghost use Rattle.editor.specs.Changes.{left_by, IsSame};
 ghost use Rattle.editor.specs.History.{step, IsWholeNext};
@@ -36,6 +36,7 @@ pub(crate) fn turn(
     requires { 0 < length from.old.items → length to.old.items < to.old.capacity }
     ensures turned { IfOk result (λ o. step voice.old (left_by voice.old from.old.items) (left_by voice.old to.old.items) ≡ option_map (λ command. record { voice = voice.new; from = left_by voice.new from.new.items; to = left_by voice.new to.new.items; command = content command }) o) }
     ensures follows { IfOk result (λ o. IfSome o (λ command. Turns voice.old (content command) voice.new)) }
+    ensures range { IfOk result (λ o. IfSome o (λ command. IsInRange (content command))) }
     ensures rings { (from.new.capacity ≡ from.old.capacity) × (to.new.capacity ≡ to.old.capacity) × (length from.new.items + length to.new.items ≡ length from.old.items + length to.old.items) }
     ensures none { IfOk result (λ o. IfNone o (IsSame voice.old voice.new from.old from.new to.old to.new)) }
     ensures memory { OnErr result (IsWholeNext (left_by voice.old from.old.items) × IsSame voice.old voice.new from.old from.new to.old to.new) }

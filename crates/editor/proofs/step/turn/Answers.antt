@@ -14,7 +14,7 @@ returns-in_err-command-in-Some-clause-memory c =
     let from = c.args.from.now in
     let to = c.args.to.now in
     let same : IsWholeNext (left_by voice from.items) × IsSame voice voice from from to to =
-        (whole_first voice from.items _ c.in-Some.ensures c.in_err-command-in-Some.ensures.memory, record { voice = refl; past = refl; future = refl }) in
+    (whole_first voice from.items _ c.in-Some.ensures c.in_err-command-in-Some.ensures.memory, record { voice = refl; past = refl; future = refl }) in
     on_err _ same
 
 pub returns-clause-turned : goal.returns-clause-turned
