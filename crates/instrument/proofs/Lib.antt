@@ -2,3 +2,4 @@ pub mod Sums
 pub mod AllSlots
 pub mod Rounds
 pub mod States
+pub mod Following
