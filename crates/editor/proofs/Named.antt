@@ -1,10 +1,10 @@
 -- A voice with another name.
-use Rattle.std.proofs.Common.{◌≡◌, ◌≢◌, ℕ, zero, suc, ◌+◌, ◌-◌, ◌<◌, ◌≤◌, true, false, Bool, List, [], ◌∷◌, ◌++◌, length, take, drop, cond, get_or, Option, Some, None, refl, sym, ap, ◌∙◌, arith, nat_le, inl, inr}
-use Rattle.std.specs.Prelude.{nat_lt, nat_eq, not, if◌then◌else◌}
-use Rattle.std.specs.List.{position, position_or_len, prefix_len}
+use Rattle.std.proofs.Common.{◌≡◌, ℕ, ◌+◌, ◌-◌, ◌<◌, ◌≤◌, true, false, Bool, List, [], ◌++◌, length, take, drop, cond, get_or, Some, None, refl, arith, nat_le, inl, inr}
+use Rattle.std.specs.Prelude.{nat_lt, not}
+use Rattle.std.specs.List.{position_or_len}
 use Rattle.std.proofs.lemmas.Bool.{leb-true, ltb-false, cases_lt}
 use Rattle.std.proofs.lemmas.List.{get_or_append_left, get_or-append_right, get_or-take, length-append, length-take-le, length-drop, append-nil, drop_all}
-use Rattle.std.proofs.lemmas.List.Sums.{prefix_len_passes, prefix_len-le-length}
+use Rattle.std.proofs.lemmas.List.Sums.{prefix_len_passes}
 use borrow.Rule.Slice.PartMut.{put_mid, post_of}
 use Rattle.voice_record.specs.Voice.{greatest_value, IsVoice}
 use Rattle.voice_record.proofs.Every.{every, every_at}

@@ -1,4 +1,3 @@
-use Rattle.std.proofs.Common.{sym}
 use Rattle.editor.proofs.Named.{renamed_is_voice, written_name}
 use Rattle.editor.proofs.editor.with_name.Goals as goal
 

@@ -1,8 +1,8 @@
-use Rattle.std.proofs.Common.{◌≡◌, ◌<◌, ◌≤◌, length, sym, ap, refl, arith, ◌∙◌}
+use Rattle.std.proofs.Common.{◌<◌, length, sym, ap, refl, arith, ◌∙◌}
 use Rattle.std.proofs.lemmas.List.{take_all}
 use Rattle.editor.specs.Changes.{command_of, left_by, IsSame}
 use Rattle.editor.specs.History.{IsWholeNext}
-use Rattle.editor.proofs.Left.{no_first, stepped_by, turns_by, whole_first, on_err, has_first, same_first}
+use Rattle.editor.proofs.Left.{no_first, stepped_by, whole_first, on_err, has_first, same_first}
 use Rattle.editor.proofs.step.turn.Goals as goal
 
 pub returns-in-None-clause-turned : goal.returns-in-None-clause-turned
