@@ -4,3 +4,4 @@ pub mod Writing
 pub mod Reading
 pub mod Hexed
 pub mod Numbers
+pub mod Messages

@@ -4,3 +4,4 @@ pub mod Text
 pub mod Words
 pub mod Unique
 pub mod VoiceAfter
+pub mod Message

@@ -1,5 +1,6 @@
-ghost use Rattle.std.specs.Prelude.{◌↔◌, IsTrue};
+ghost use Rattle.std.specs.Prelude.{◌≡◌, ◌↔◌, IsTrue};
 ghost use Rattle.command_set.specs.Command.{IsKnownControl};
+ghost use Rattle.command_set.specs.Message.{acts};
 
 use cartridge::Cartridge;
 use voice_record::{Voice, greatest};
@@ -62,9 +63,10 @@ impl Command {
     }
 }
 
-/// Whether a control acts on the instrument.
-fn is_known_control(number: u8) -> bool
-    ensures { IsTrue result ↔ IsKnownControl number }
+/// Whether a control acts on the instrument: modulation wheel, hold pedal and all notes off do.
+pub fn is_known_control(number: u8) -> bool
+    ensures known { IsTrue result ↔ IsKnownControl number }
+    ensures value { result ≡ acts number }
 {
     number == 1 || number == 64 || number == 123
 }

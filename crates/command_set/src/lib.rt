@@ -3,15 +3,20 @@
 
 mod command;
 mod entry;
+mod message;
 mod read;
 mod read_bytes;
 mod read_numbers;
 mod text;
 
-pub use command::Command;
+pub use command::{Command, is_known_control};
 pub use entry::{Entry, Logged};
+pub use message::{CommandFault, from_message};
 pub use plain_text::LineText;
+pub use read_bytes::{read_cartridge, read_voice};
 pub use read::{TextFault, texts_are_unique};
 
+#[cfg(test)]
+mod message_tests;
 #[cfg(test)]
 mod tests;

@@ -17,7 +17,7 @@ use std::alloc::Global;
 use voice_record::Voice;
 
 /// `voice` and the 310 digits of its numbers.
-pub(crate) fn read_voice(alloc: Global, word: &[u8]) -> Result<Command, TextFault>
+pub fn read_voice(alloc: Global, word: &[u8]) -> Result<Command, TextFault>
     ensures read { IfOk result (λ c. AreWordsOf (codes "voice" ∷ word.now ∷ []) (content c)) }
     ensures refused { result ≡ Err NotCommand → AreWordsOfNone (codes "voice" ∷ word.now ∷ []) }
     ensures memory { result ≡ Err Memory → AreWordsOfSome (codes "voice" ∷ word.now ∷ []) }
@@ -37,7 +37,7 @@ pub(crate) fn read_voice(alloc: Global, word: &[u8]) -> Result<Command, TextFaul
 }
 
 /// `cartridge` and the 8192 digits of its packed bytes.
-pub(crate) fn read_cartridge(alloc: Global, word: &[u8]) -> Result<Command, TextFault>
+pub fn read_cartridge(alloc: Global, word: &[u8]) -> Result<Command, TextFault>
     ensures read { IfOk result (λ c. AreWordsOf (codes "cartridge" ∷ word.now ∷ []) (content c)) }
     ensures refused { result ≡ Err NotCommand → AreWordsOfNone (codes "cartridge" ∷ word.now ∷ []) }
     ensures memory { result ≡ Err Memory → AreWordsOfSome (codes "cartridge" ∷ word.now ∷ []) }

@@ -1,0 +1,137 @@
+-- What comes of the lines of a text script, and of the bytes of a stream: commands and faults, in reading order.
+use Rattle.std.specs.Prelude.{ℕ, ◌+◌, ◌==◌, nat_lt, nat_le, Bool, true, false, List, [], ◌∷◌, ◌++◌, length, Option, Some, None, if◌then◌else◌}
+use Rattle.midi_stream.specs.Messages.{is_unfinished}
+use Rattle.velocity_map.specs.declared.curve.Curve.{Curve}
+use Rattle.velocity_map.specs.declared.curve.Curve.TheVariants.{Linear}
+use Rattle.velocity_map.specs.Curve.{curve_value}
+use Rattle.command_set.specs.Command.{CommandData, StartsNote, EndsNote, Bends, Controls, PicksProgram, SetsNumber, StoresVoice, TakesVoice, TakesCartridge}
+use Rattle.command_set.specs.Message.{Told, Tells, PassedOver, Overlong, Faulty, command_of}
+use Rattle.script_plan.specs.Plan.{PlannedData, planned_at}
+use Rattle.script_read.specs.declared.fault.Place.{Place}
+use Rattle.script_read.specs.declared.fault.Place.TheVariants as place
+use Rattle.script_read.specs.declared.fault.ScriptKind.{ScriptKind}
+use Rattle.script_read.specs.declared.fault.ScriptKind.TheVariants as kind
+use Rattle.script_read.specs.Lines.{Said, Blank, Maps, Orders, Feeds, Wrong}
+use Rattle.script_read.specs.Stream.{Heard, heard_with, begun_at}
+
+-- a command at its block, or a fault at its place
+pub data Outcome : Type 0 where
+  Gives : PlannedData → Outcome
+  Fails : Place → ScriptKind → Outcome
+
+-- what comes of a message
+abbrev pub told_outcomes : Place → ℕ → Told → List Outcome
+told_outcomes at block (Tells command) = Gives (planned_at block command) ∷ []
+told_outcomes at block PassedOver = []
+told_outcomes at block (Overlong count) = Fails at kind.Long ∷ []
+told_outcomes at block (Faulty fault) = Fails at (kind.Message fault) ∷ []
+
+abbrev pub heard_outcomes : Place → ℕ → Curve → Option Heard → List Outcome
+heard_outcomes at block curve None = []
+heard_outcomes at block curve (Some heard) = told_outcomes at block (command_of heard.message heard.bytes curve)
+
+-- What comes of bytes behind the stream before them. A message comes of its last byte; the place of a fault is one that the stream before that byte tells.
+unfoldable pub fed_outcomes : (List ℕ → Place) → ℕ → Curve → List ℕ → List ℕ → List Outcome
+fed_outcomes place_of block curve before [] = []
+fed_outcomes place_of block curve before (byte ∷ bytes) =
+    heard_outcomes (place_of before) block curve (heard_with before byte) ++ fed_outcomes place_of block curve (before ++ byte ∷ []) bytes
+
+-- ---- text
+
+-- the curve that is in force behind some lines: that of the last one that sets it
+unfoldable pub curve_behind : Curve → List Said → Curve
+curve_behind curve [] = curve
+curve_behind curve (Blank ∷ later) = curve_behind curve later
+curve_behind curve (Maps next ∷ later) = curve_behind next later
+curve_behind curve (Orders block command ∷ later) = curve_behind curve later
+curve_behind curve (Feeds block bytes ∷ later) = curve_behind curve later
+curve_behind curve (Wrong ∷ later) = curve_behind curve later
+
+-- the block of the last line that has one
+unfoldable pub block_behind : ℕ → List Said → ℕ
+block_behind last [] = last
+block_behind last (Blank ∷ later) = block_behind last later
+block_behind last (Maps next ∷ later) = block_behind last later
+block_behind last (Orders block command ∷ later) = block_behind block later
+block_behind last (Feeds block bytes ∷ later) = block_behind block later
+block_behind last (Wrong ∷ later) = block_behind last later
+
+-- the bytes of all `bytes` lines, one stream
+unfoldable pub stream_of : List Said → List ℕ
+stream_of [] = []
+stream_of (Blank ∷ later) = stream_of later
+stream_of (Maps next ∷ later) = stream_of later
+stream_of (Orders block command ∷ later) = stream_of later
+stream_of (Feeds block bytes ∷ later) = bytes ++ stream_of later
+stream_of (Wrong ∷ later) = stream_of later
+
+-- the number of the last `bytes` line, the first of the lines having this number
+unfoldable pub fed_line : ℕ → ℕ → List Said → ℕ
+fed_line last number [] = last
+fed_line last number (Blank ∷ later) = fed_line last (number + 1) later
+fed_line last number (Maps next ∷ later) = fed_line last (number + 1) later
+fed_line last number (Orders block command ∷ later) = fed_line last (number + 1) later
+fed_line last number (Feeds block bytes ∷ later) = fed_line number (number + 1) later
+fed_line last number (Wrong ∷ later) = fed_line last (number + 1) later
+
+-- a note-on with its velocity on a curve; any other command
+abbrev pub curved : Curve → CommandData → CommandData
+curved curve (StartsNote channel key velocity) = StartsNote channel key (curve_value curve velocity)
+curved curve (EndsNote channel key) = EndsNote channel key
+curved curve (Bends channel value) = Bends channel value
+curved curve (Controls channel number value) = Controls channel number value
+curved curve (PicksProgram channel number) = PicksProgram channel number
+curved curve (SetsNumber number value) = SetsNumber number value
+curved curve (StoresVoice slot) = StoresVoice slot
+curved curve (TakesVoice voice) = TakesVoice voice
+curved curve (TakesCartridge voices) = TakesCartridge voices
+
+-- a block is not one of the run's, where their number is known
+abbrev pub is_late : Option ℕ → ℕ → Bool
+is_late None block = false
+is_late (Some blocks) block = nat_le blocks block
+
+-- what comes of a line with a block: a fault where it falls or is late
+abbrev pub timed : Option ℕ → ℕ → Place → ℕ → List Outcome → List Outcome
+timed blocks least at block outcomes =
+    if nat_lt block least then Fails at kind.Falls ∷ []
+    else if is_late blocks block then Fails at kind.Late ∷ []
+    else outcomes
+
+-- the place of a line behind some others; the first line of a text tells its kind, and is not among them
+abbrev pub line_behind : List Said → Place
+line_behind before = place.Line (length before + 2)
+
+-- what comes of a line behind those before it
+unfoldable pub line_outcomes : Option ℕ → List Said → Said → List Outcome
+line_outcomes blocks before Blank = []
+line_outcomes blocks before (Maps curve) = []
+line_outcomes blocks before (Orders block command) =
+    timed blocks (block_behind 0 before) (line_behind before) block (Gives (planned_at block (curved (curve_behind Linear before) command)) ∷ [])
+line_outcomes blocks before (Feeds block bytes) =
+    timed blocks (block_behind 0 before) (line_behind before) block
+    (fed_outcomes (λ stream. line_behind before) block (curve_behind Linear before) (stream_of before) bytes)
+line_outcomes blocks before Wrong = Fails (line_behind before) kind.Line ∷ []
+
+-- what comes of lines behind those before them
+unfoldable pub outcomes_behind : Option ℕ → List Said → List Said → List Outcome
+outcomes_behind blocks before [] = []
+outcomes_behind blocks before (line ∷ later) = line_outcomes blocks before line ++ outcomes_behind blocks (before ++ line ∷ []) later
+
+-- a text that ends within a message is cut at its last `bytes` line
+abbrev pub text_end : List Said → List Outcome
+text_end lines = if is_unfinished (stream_of lines) then Fails (place.Line (fed_line 0 2 lines)) kind.Cut ∷ [] else []
+
+-- what comes of the lines behind the first one
+unfoldable pub text_outcomes : Option ℕ → List Said → List Outcome
+text_outcomes blocks lines = outcomes_behind blocks [] lines ++ text_end lines
+
+-- ---- streams
+
+-- a stream that ends within a message is cut where that begins
+abbrev pub stream_end : List ℕ → List Outcome
+stream_end bytes = if is_unfinished bytes then Fails (place.Byte (begun_at bytes)) kind.Cut ∷ [] else []
+
+-- what comes of a stream: all at block 0, on the linear curve, and faults where their messages begin
+unfoldable pub stream_outcomes : List ℕ → List Outcome
+stream_outcomes bytes = fed_outcomes (λ before. place.Byte (begun_at before)) 0 Linear [] bytes ++ stream_end bytes

@@ -1,0 +1,66 @@
+-- The plan of a script: its commands with their blocks, or its first fault.
+use Rattle.std.specs.Prelude.{ℕ, ◌==◌, nat_lt, Bool, false, List, [], ◌∷◌, length, codes, bytes_eq, Option, if◌then◌else◌}
+use Rattle.std.specs.List.{starts_with}
+use Rattle.std.specs.Prelude.{nat_eq}
+use Rattle.script_plan.specs.Plan.{PlannedData}
+use Rattle.script_read.specs.declared.fault.Place.{Place}
+use Rattle.script_read.specs.declared.fault.Place.TheVariants as place
+use Rattle.script_read.specs.declared.fault.ScriptKind.{ScriptKind}
+use Rattle.script_read.specs.declared.fault.ScriptKind.TheVariants as kind
+use Rattle.script_read.specs.Words.{lines_of}
+use Rattle.script_read.specs.Lines.{sayings}
+use Rattle.script_read.specs.Outcomes.{Outcome, Gives, Fails, stream_outcomes, text_outcomes}
+
+-- what a script says: its commands in order; or its first fault; or more commands before that than there is room for
+pub data Plan : Type 0 where
+  Commands : List PlannedData → Plan
+  Refused : Place → ScriptKind → Plan
+  TooMany : Plan
+
+-- the commands before the first fault
+abbrev pub given : List Outcome → List PlannedData
+given [] = []
+given (Gives command ∷ later) = command ∷ given later
+given (Fails at why ∷ later) = []
+
+-- the first fault, or these commands
+abbrev pub verdict : List PlannedData → List Outcome → Plan
+verdict commands [] = Commands commands
+verdict commands (Gives command ∷ later) = verdict commands later
+verdict commands (Fails at why ∷ later) = Refused at why
+
+-- the plan by all that comes of a script, in reading order
+unfoldable pub plan_of : ℕ → List Outcome → Plan
+plan_of room outcomes = if nat_lt room (length (given outcomes)) then TooMany else verdict (given outcomes) outcomes
+
+-- a script that is refused at its first line
+abbrev pub at_first : ScriptKind → List Outcome
+at_first why = Fails (place.Line 1) why ∷ []
+
+-- a text tells its kind by its first line
+abbrev pub lines_outcomes : Option ℕ → List (List ℕ) → List Outcome
+lines_outcomes blocks [] = at_first kind.Kind
+lines_outcomes blocks (first ∷ lines) =
+    if bytes_eq first (codes "midi 1") then text_outcomes blocks (sayings lines)
+    else if bytes_eq first (codes "edit 1") then at_first kind.NotYet
+    else at_first kind.Kind
+
+-- a stream begins with F0
+abbrev pub is_stream : List ℕ → Bool
+is_stream [] = false
+is_stream (byte ∷ bytes) = byte == 240
+
+-- a MIDI file begins with the name of its header
+abbrev pub is_midi_file : List ℕ → Bool
+is_midi_file bytes = starts_with nat_eq bytes (codes "MThd")
+
+-- what comes of a script, by its kind
+unfoldable pub outcomes : Option ℕ → List ℕ → List Outcome
+outcomes blocks bytes =
+    if is_stream bytes then stream_outcomes bytes
+    else if is_midi_file bytes then at_first kind.NotYet
+    else lines_outcomes blocks (lines_of bytes)
+
+-- the plan of a script, with the number of blocks where it is known, and the room for commands
+unfoldable pub plan : List ℕ → Option ℕ → ℕ → Plan
+plan bytes blocks room = plan_of room (outcomes blocks bytes)

@@ -1,0 +1,51 @@
+-- The lines of a text, their words, and the numbers and bytes that words write.
+use Rattle.std.specs.Prelude.{ℕ, ◌+◌, ◌*◌, ◌==◌, ◌&&◌, Bool, true, false, nat_lt, nat_le, List, [], ◌∷◌, filter, length, Option, Some, None, if◌then◌else◌}
+use Rattle.std.specs.Str.{all_ascii_digits}
+use Rattle.std.specs.Str.Parse.{digits_value}
+use Rattle.hex.specs.Hex.{hex_digit_value}
+use Rattle.plain_text.specs.Parts.{parts}
+
+-- a line without a carriage return at its end
+abbrev pub without_return : List ℕ → List ℕ
+without_return [] = []
+without_return (byte ∷ []) = if byte == 13 then [] else byte ∷ []
+without_return (byte ∷ next ∷ more) = byte ∷ without_return (next ∷ more)
+
+-- of the parts that line feeds separate, the lines: one carriage return directly before a line feed is no part of its line
+abbrev pub ended : List (List ℕ) → List (List ℕ)
+ended [] = []
+ended (last ∷ []) = last ∷ []
+ended (line ∷ next ∷ more) = without_return line ∷ ended (next ∷ more)
+
+-- the lines of a text; behind a last line feed there is an empty one
+unfoldable pub lines_of : List ℕ → List (List ℕ)
+lines_of text = ended (parts 10 text)
+
+-- a word has one byte at least
+abbrev pub is_some_word : List ℕ → Bool
+is_some_word word = nat_lt 0 (length word)
+
+-- the words of a line, which one or more spaces part; spaces at its ends don't count
+unfoldable pub words_of : List ℕ → List (List ℕ)
+words_of line = filter is_some_word (parts 32 line)
+
+-- 1 to 10 digits, zeros in front among them
+abbrev pub is_numeral : List ℕ → Bool
+is_numeral word = all_ascii_digits word && (nat_lt 0 (length word) && nat_le (length word) 10)
+
+-- the number that a word writes, where it is at most this
+unfoldable pub number_to : ℕ → List ℕ → Option ℕ
+number_to most word = if is_numeral word && nat_le (digits_value 10 word) most then Some (digits_value 10 word) else None
+
+-- a byte and those behind it, where all are there
+abbrev pub with_byte : Option ℕ → Option ℕ → Option (List ℕ) → Option (List ℕ)
+with_byte (Some high) (Some low) (Some bytes) = Some ((16 * high + low) ∷ bytes)
+with_byte (Some high) (Some low) None = None
+with_byte (Some high) None bytes = None
+with_byte None low bytes = None
+
+-- the bytes that pairs of hex digits of either case write
+unfoldable pub hex_bytes : List ℕ → Option (List ℕ)
+hex_bytes [] = Some []
+hex_bytes (digit ∷ []) = None
+hex_bytes (high ∷ low ∷ more) = with_byte (hex_digit_value high) (hex_digit_value low) (hex_bytes more)

@@ -1,0 +1,178 @@
+//! One line of a text script.
+
+ghost use Rattle.std.specs.Prelude.{◌≡◌, [], ◌∷◌, option_map, IfOk, IfSome};
+ghost use Rattle.script_read.specs.Words.{hex_bytes, words_of};
+ghost use Rattle.script_read.specs.Grammar.{command_said};
+ghost use Rattle.script_read.specs.Lines.{block_said, fed, is_comment, map_said, one_word_said, ordered, said, said_at, words_said};
+ghost use Rattle.script_read.specs.Says.{IsSound, says};
+ghost use Rattle.command_set.specs.Command.{IsInRange, content};
+
+use crate::digits::is_hex;
+use crate::grammar::{read_more, read_one};
+use crate::words::{next_word, read_number};
+use command_set::Command;
+use plain_text::is_word;
+use std::alloc::{AllocError, Global};
+use velocity_map::Curve;
+
+/// What a line says.
+#[derive(Drop)]
+pub(crate) enum Line<'a> {
+    /// Nothing: it is passed over.
+    Blank,
+    /// The curve of the lines behind it.
+    Map(Curve),
+    /// A command at a block, before its curve.
+    Command { block: u32, command: Command },
+    /// MIDI bytes at a block, as hex digits.
+    Bytes { block: u32, hex: &'a [u8] },
+    /// It isn't of the grammar.
+    Wrong,
+}
+
+/// Reads a line, without its line feed.
+#[tactic(auto, unfolding(crate::specs::Lines::said))]
+pub(crate) fn read_line(alloc: Global, line: &[u8]) -> Result<Line<'_>, AllocError>
+    ensures said { IfOk result (λ found. says found ≡ said line.now) }
+    ensures sound { IfOk result IsSound }
+{
+    if starts_comment(line) {
+        Ok(Line::Blank)
+    } else {
+        read_words(alloc, line)
+    }
+}
+
+/// Whether the very first byte is a number sign.
+fn starts_comment(line: &[u8]) -> bool
+    ensures { result ≡ is_comment line.now }
+{
+    match line {
+        [first, ..] => *first == b'#',
+        [] => false,
+    }
+}
+
+#[tactic(auto, unfolding(crate::specs::Lines::words_said))]
+fn read_words(alloc: Global, line: &[u8]) -> Result<Line<'_>, AllocError>
+    ensures said { IfOk result (λ found. says found ≡ words_said (words_of line.now)) }
+    ensures sound { IfOk result IsSound }
+{
+    match next_word(line) {
+        None => Ok(Line::Blank),
+        Some((word, rest)) => {
+            if is_word(word, b"map") {
+                Ok(read_map(rest))
+            } else {
+                match read_number(word, u32::MAX) {
+                    None => Ok(Line::Wrong),
+                    Some(block) => read_at(alloc, block, rest),
+                }
+            }
+        }
+    }
+}
+
+/// The name of a curve.
+fn read_map(words: &[u8]) -> Line<'_>
+    ensures said { says result ≡ map_said (words_of words.now) }
+    ensures sound { IsSound result }
+{
+    match next_word(words) {
+        None => Line::Wrong,
+        Some((name, rest)) => match next_word(rest) {
+            None => read_curve(name),
+            Some(_) => Line::Wrong,
+        },
+    }
+}
+
+fn read_curve<'a>(name: &[u8]) -> Line<'a>
+    ensures said { says result ≡ map_said (name.now ∷ []) }
+    ensures sound { IsSound result }
+{
+    if is_word(name, b"linear") {
+        Line::Map(Curve::Linear)
+    } else if is_word(name, b"soft") {
+        Line::Map(Curve::Soft)
+    } else if is_word(name, b"hard") {
+        Line::Map(Curve::Hard)
+    } else {
+        Line::Wrong
+    }
+}
+
+/// What stands behind a block.
+fn read_at(alloc: Global, block: u32, words: &[u8]) -> Result<Line<'_>, AllocError>
+    ensures said { IfOk result (λ found. says found ≡ said_at block (words_of words.now)) }
+    ensures sound { IfOk result IsSound }
+{
+    match next_word(words) {
+        None => Ok(Line::Wrong),
+        Some((kind, rest)) => match next_word(rest) {
+            None => Ok(Line::Wrong),
+            Some((first, rest)) => read_behind(alloc, block, kind, first, rest),
+        },
+    }
+}
+
+/// What stands behind a block, by its first two words and those of what is left of the line.
+fn read_behind<'a>(
+    alloc: Global,
+    block: u32,
+    kind: &'a [u8],
+    first: &'a [u8],
+    rest: &'a [u8],
+) -> Result<Line<'a>, AllocError>
+    ensures said { IfOk result (λ found. says found ≡ said_at block (kind.now ∷ first.now ∷ words_of rest.now)) }
+    ensures sound { IfOk result IsSound }
+{
+    match next_word(rest) {
+        None => read_word(alloc, block, kind, first),
+        Some((second, rest)) => Ok(line_of(block, read_more(kind, first, second, rest))),
+    }
+}
+
+/// A kind and one word.
+fn read_word<'a>(
+    alloc: Global,
+    block: u32,
+    kind: &'a [u8],
+    word: &'a [u8],
+) -> Result<Line<'a>, AllocError>
+    ensures said { IfOk result (λ found. says found ≡ one_word_said block kind.now word.now) }
+    ensures sound { IfOk result IsSound }
+{
+    if is_word(kind, b"bytes") {
+        return Ok(bytes_of(block, word));
+    }
+    match read_one(alloc, kind, word) {
+        Ok(command) => Ok(line_of(block, command)),
+        Err(fault) => Err(fault),
+    }
+}
+
+/// The line of a command, where there is one.
+fn line_of<'a>(block: u32, command: Option<Command>) -> Line<'a>
+    requires { IfSome command (λ command. IsInRange (content command)) }
+    ensures said { says result ≡ ordered block (option_map content command) }
+    ensures sound { IsSound result }
+{
+    match command {
+        Some(command) => Line::Command { block, command },
+        None => Line::Wrong,
+    }
+}
+
+/// The line of MIDI bytes, where the word is pairs of hex digits.
+fn bytes_of(block: u32, word: &[u8]) -> Line<'_>
+    ensures said { says result ≡ fed block (hex_bytes word.now) }
+    ensures sound { IsSound result }
+{
+    if is_hex(word) {
+        Line::Bytes { block, hex: word }
+    } else {
+        Line::Wrong
+    }
+}
+
