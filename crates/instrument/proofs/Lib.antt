@@ -3,3 +3,4 @@ pub mod AllSlots
 pub mod Rounds
 pub mod States
 pub mod Journals
+pub mod Following
