@@ -108,7 +108,7 @@ legal_none quotas places = record {
 }
 
 -- the entries of the ends below n
-abbrev below : ℕ → List EntryData → List EntryData
+abbrev pub below : ℕ → List EntryData → List EntryData
 below n xs = filter (λ x. ltb x.script n) xs
 
 length_cond : (b : Bool) (x : EntryData) (xs : List EntryData) → length (cond b (x ∷ xs) xs) ≡ length xs + cond b 1 0
@@ -118,7 +118,7 @@ length_cond false x xs = omega arith
 tests : (s n : ℕ) → cond (ltb s (n + 1)) 1 0 ≡ cond (ltb s n) 1 0 + cond (s == n) 1 0
 tests s n = grind (arith, nat_tests)
 
-below_more : (n : ℕ) (xs : List EntryData) → length (below (n + 1) xs) ≡ length (below n xs) + length (sent_by n xs)
+pub below_more : (n : ℕ) (xs : List EntryData) → length (below (n + 1) xs) ≡ length (below n xs) + length (sent_by n xs)
 below_more n [] = omega arith
 below_more n (x ∷ xs) =
     omega (arith, below_more n xs, tests x.script n, length_cond (ltb x.script (n + 1)) x (below (n + 1) xs), length_cond (ltb x.script n) x (below n xs), length_cond (x.script == n) x (sent_by n xs))
@@ -126,11 +126,11 @@ below_more n (x ∷ xs) =
 not_below : (s : ℕ) → ◌≡◌ {A = ℕ} (cond (ltb s 0) 1 0) 0
 not_below s = grind (arith, nat_tests)
 
-below_none : (xs : List EntryData) → length (below 0 xs) ≡ 0
+pub below_none : (xs : List EntryData) → length (below 0 xs) ≡ 0
 below_none [] = refl
 below_none (x ∷ xs) = omega (arith, below_none xs, length_cond (ltb x.script 0) x (below 0 xs), not_below x.script)
 
-below_all : (n : ℕ) (xs : List EntryData) → All (λ x. x.script < n) xs → length (below n xs) ≡ length xs
+pub below_all : (n : ℕ) (xs : List EntryData) → All (λ x. x.script < n) xs → length (below n xs) ≡ length xs
 below_all n [] h = refl
 below_all n (x ∷ xs) h =
     let is : x.script < n = All-head (λ y. y.script < n) x xs h in

@@ -4,3 +4,5 @@ pub mod Rounds
 pub mod States
 pub mod Journals
 pub mod Following
+pub mod Marks
+pub mod Begun

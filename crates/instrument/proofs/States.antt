@@ -1,5 +1,5 @@
 -- What a command does, by what was found or which number it names.
-use Rattle.std.proofs.Common.{ℕ, Option, Some, None, true, false, Result, Ok, Err, IsOk, OnOk, List, set, ◌≤◌, ◌≢◌, ◌≡◌, refl}
+use Rattle.std.proofs.Common.{ℕ, Option, Some, None, true, false, Result, Ok, Err, IsOk, OnOk, List, set, cond, eqb, subst, ◌≤◌, ◌≢◌, ◌≡◌, refl}
 use Rattle.std.proofs.lemmas.Bool.{ne_eqb}
 use Rattle.voice_record.specs.Voice.{greatest_value}
 use Rattle.command_set.specs.Command.{StartsNote, SetsNumber}
@@ -8,7 +8,7 @@ use Rattle.block_rates.specs.Oscillators.{oscillator_settings, assigned, key_pre
 use Rattle.block_rates.specs.OscillatorStates.{IsOscillator}
 use Rattle.note_voice.specs.Note.{begun}
 use Rattle.instrument.specs.declared.slot.Slot.{Slot}
-use Rattle.instrument.specs.Running.{IsSlot}
+use Rattle.instrument.specs.Running.{AreSlots}
 use Rattle.instrument.specs.State.{State, free_slot, fresh, taken, apply}
 
 pub apply_free : (s : State) (channel key velocity f : ℕ) → free_slot s ≡ Some f → apply s (StartsNote channel key velocity) ≡ taken s (fresh s channel key velocity) f
@@ -20,8 +20,11 @@ unfolding apply
 apply_full s channel key velocity e = rw e
 
 -- a note of the voice whose key goes down
-pub fresh_is : (v : Slot) (s : State) (voice : List ℕ) (switch channel key velocity : ℕ) → voice ≡ s.voice → switch ≡ s.switch → IsSlot v (Some (record { channel = channel; note = begun voice switch key velocity; is_down = true; is_held = false })) → IsSlot v (Some (fresh s channel key velocity))
-fresh_is v s voice switch channel key velocity vo sw h = rw (← vo, ← sw) h
+pub fresh_slots : (vs : List Slot) (s : State) (voice : List ℕ) (switch channel key velocity f : ℕ) → voice ≡ s.voice → switch ≡ s.switch → AreSlots vs (λ i. cond (eqb i f) (Some (record { channel = channel; note = begun voice switch key velocity; is_down = true; is_held = false })) (s.slots i)) → AreSlots vs (λ i. cond (eqb i f) (Some (fresh s channel key velocity)) (s.slots i))
+fresh_slots vs s voice switch channel key velocity f vo sw h =
+    let P : List ℕ → Type 0 = λ v. AreSlots vs (λ i. cond (eqb i f) (Some (record { channel = channel; note = begun v s.switch key velocity; is_down = true; is_held = false })) (s.slots i)) in
+    let Q : ℕ → Type 0 = λ t. AreSlots vs (λ i. cond (eqb i f) (Some (record { channel = channel; note = begun voice t key velocity; is_down = true; is_held = false })) (s.slots i)) in
+    subst P vo (subst Q sw h)
 
 -- the oscillator takes the settings of the voice, and a key goes down
 pub pressed_is : (l : Lfo) (s : State) (voice : List ℕ) → voice ≡ s.voice → IsOscillator l (key_pressed (assigned (oscillator_settings voice) s.oscillation s.steps) 0) 0 → IsOscillator l (key_pressed (assigned (oscillator_settings s.voice) s.oscillation s.steps) 0) 0

@@ -1,5 +1,6 @@
 pub mod Mix
 pub mod State
+pub mod Groups
 pub mod Journal
 pub mod Logging
 pub mod Running

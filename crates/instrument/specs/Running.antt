@@ -1,8 +1,12 @@
 -- What a slot of a running instrument, and what moves its notes in a block, stand for.
-use Rattle.std.specs.Prelude.{ℕ, ◌≡◌, ◌<◌, Bool, false, List, slice_index_or, Option, Some, None, unsigned_abs}
+use Rattle.std.specs.Prelude.{ℕ, ◌≡◌, ◌<◌, Bool, false, List, length, slice_index_or, Option, Some, None, pos, unsigned_abs}
+use Rattle.algorithm_bus.specs.declared.note_block.NoteBlock.{NoteBlock}
+use Rattle.algorithm_bus.specs.Signals.{note_output}
+use Rattle.algorithm_bus.specs.NoteBlocks.{block_patch}
 use Rattle.note_voice.specs.declared.note.Note.{Note}
 use Rattle.note_voice.specs.Modulation.{Modulation}
-use Rattle.note_voice.specs.Running.{IsNote}
+use Rattle.note_voice.specs.Note.{heard, note_patch}
+use Rattle.note_voice.specs.Running.{IsNote, IsNoteBegun}
 use Rattle.instrument.specs.declared.movement.Movement.{Movement}
 use Rattle.instrument.specs.declared.slot.Slot.{Slot}
 use Rattle.instrument.specs.State.{SlotData}
@@ -29,6 +33,27 @@ pub record IsTaken (channel key : ℕ) (note : Note) (is_down is_held : Bool) (w
 abbrev pub IsSlot : Slot → Option SlotData → Type 0
 IsSlot v None = IsEmpty v.note v.is_down v.is_held
 IsSlot v (Some w) = IsTaken v.channel v.key v.note v.is_down v.is_held w
+
+-- what is kept of a slot whose note's block has begun, and what is to be run
+pub record IsTakenBegun (channel key : ℕ) (note : Note) (is_down is_held : Bool) (b : NoteBlock) (m : Modulation) (w : SlotData) : Type 0 where
+  pub channel_is : channel ≡ w.channel
+  pub key_is : key ≡ w.note.key
+  pub note_is : IsNoteBegun note (heard w.note m)
+  pub block_is : block_patch b ≡ note_patch (heard w.note m) (length w.note.past)
+  pub is_down_is : is_down ≡ w.is_down
+  pub is_held_is : is_held ≡ w.is_held
+
+-- an empty slot, whose block has no sound
+pub record IsEmptyBegun (note : Note) (is_down is_held : Bool) (b : NoteBlock) : Type 0 where
+  pub empty : IsEmpty note is_down is_held
+  pub silent : (j : ℕ) → note_output (block_patch b) j ≡ pos 0
+
+abbrev pub IsSlotBegun : Slot → NoteBlock → Modulation → Option SlotData → Type 0
+IsSlotBegun v b m None = IsEmptyBegun v.note v.is_down v.is_held b
+IsSlotBegun v b m (Some w) = IsTakenBegun v.channel v.key v.note v.is_down v.is_held b m w
+
+abbrev pub AreSlotsBegun : List Slot → List NoteBlock → Modulation → (ℕ → Option SlotData) → Type 0
+AreSlotsBegun vs bs m ws = (i : ℕ) (d : Slot) (e : NoteBlock) → i < 16 → IsSlotBegun (slice_index_or vs i d) (slice_index_or bs i e) m (ws i)
 
 -- sixteen slots hold what the plain data says
 abbrev pub AreSlots : List Slot → (ℕ → Option SlotData) → Type 0

@@ -7,7 +7,7 @@ ghost use Rattle.instrument.specs.State.{State, apply, controlled, free_slot, mo
 use crate::mix::{output, silence};
 use crate::movement::Movement;
 use crate::slot::Slot;
-use crate::slots::{lift_all, silence_all, sound_all, unhold_all};
+use crate::slots::{lift_all, silence_all, sound_all, start_at, unhold_all};
 use block_rates::Lfo;
 use cartridge::Cartridge;
 use command_set::Command;
@@ -129,7 +129,9 @@ impl Instrument {
         let Some(free) = self.free_slot() else {
             return;
         };
-        self.slots[free].start(
+        start_at(
+            &mut self.slots,
+            free,
             &self.tables,
             &self.voice,
             self.switch,

@@ -1,6 +1,7 @@
 //! The instrument: sixteen slots for notes, played block by block.
 #![tactic(auto)]
 
+mod groups;
 mod instrument;
 mod mix;
 mod movement;

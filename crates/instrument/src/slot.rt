@@ -1,9 +1,14 @@
 ghost use Rattle.std.specs.Prelude.{◌≡◌, ◌≤◌, ◌+◌, ◌^◌, ℕ, true, false, Option, Some, None};
-ghost use Rattle.note_voice.specs.Mix.{IsAdded, IsSmall};
+ghost use Rattle.operator_kernel.specs.Operator.{memory_of};
+ghost use Rattle.algorithm_bus.specs.declared.note_block.NoteBlock.{NoteBlock};
+ghost use Rattle.algorithm_bus.specs.Signals.{memory_left};
+ghost use Rattle.algorithm_bus.specs.NoteBlocks.{block_patch};
+ghost use Rattle.note_voice.specs.Modulation.{Modulation};
 ghost use Rattle.note_voice.specs.Note.{begun};
-ghost use Rattle.instrument.specs.State.{SlotData, held, is_up, lifted, released, silenced, slot_later, slot_sample, unheld};
+ghost use Rattle.instrument.specs.State.{SlotData, held, is_up, lifted, released, silenced, slot_later, unheld};
 
 use crate::movement::Movement;
+use algorithm_bus::NoteBlock;
 use dx_tables::Tables;
 use note_voice::Note;
 use voice_record::Voice;
@@ -19,7 +24,7 @@ pub(crate) struct Slot {
 }
 
 impl Slot {
-    ghost use Rattle.instrument.specs.Running.{IsSlot, modulation_of};
+    ghost use Rattle.instrument.specs.Running.{IsSlot, IsSlotBegun, modulation_of};
 
     /// A slot that had no note yet.
     pub(crate) fn empty() -> Slot
@@ -104,20 +109,23 @@ impl Slot {
         }
     }
 
-    /// Adds the 64 samples of the slot's next block to a sum of notes.
-    pub(crate) fn sound(&mut self, tables: &Tables, movement: &Movement, mix: &mut [i64; 64])
-        requires { IsSmall (2 ^ 40) mix.old }
-        ensures samples { (w : Option SlotData) → IsSlot self.old w → IsAdded (slot_sample (modulation_of movement.now) w) mix.old mix.new }
-        ensures small { (bound : ℕ) → IsSmall bound mix.old → IsSmall (bound + 2 ^ 31) mix.new }
-        ensures passed { (w : Option SlotData) → IsSlot self.old w → IsSlot self.new (slot_later (modulation_of movement.now) w) }
+    /// What is to be run of the slot's note in the next block; of an empty slot a block with no sound.
+    pub(crate) fn begin_block(&mut self, tables: &Tables, movement: &Movement) -> NoteBlock
+        ensures { (w : Option SlotData) → IsSlot self.old w → IsSlotBegun self.new result (modulation_of movement.now) w }
     {
-        self.note.block(
+        self.note.begin_block(
             tables,
             movement.lfo,
             movement.delay,
             movement.bend,
             movement.wheel,
-            mix,
-        );
+        )
+    }
+
+    /// Ends a block that was run, with the two samples that it left.
+    pub(crate) fn end_block(&mut self, memory: [i32; 2])
+        ensures { (b : NoteBlock) (m : Modulation) (w : Option SlotData) → IsSlotBegun self.old b m w → memory_of memory ≡ memory_left (block_patch b) → IsSlot self.new (slot_later m w) }
+    {
+        self.note.end_block(memory);
     }
 }

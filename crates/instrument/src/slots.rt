@@ -1,14 +1,41 @@
 //! What is done with all sixteen slots.
 
-ghost use Rattle.std.specs.Prelude.{ℕ, Option};
+ghost use Rattle.std.specs.Prelude.{ℕ, ◌≤◌, ◌<◌, ◌==◌, if◌then◌else◌, true, false, Option, Some, List};
+ghost use Rattle.algorithm_bus.specs.declared.note_block.NoteBlock.{NoteBlock};
+ghost use Rattle.note_voice.specs.Modulation.{Modulation};
+ghost use Rattle.note_voice.specs.Note.{begun};
 ghost use Rattle.note_voice.specs.Mix.{IsAdded};
 ghost use Rattle.instrument.specs.Mix.{AreZeros};
-ghost use Rattle.instrument.specs.Running.{AreSlots, modulation_of};
+ghost use Rattle.instrument.specs.Running.{AreSlots, AreSlotsBegun, modulation_of};
+ghost use Rattle.instrument.specs.Groups.{AreLeft};
 ghost use Rattle.instrument.specs.State.{SlotData, lifted, mix_of, silenced, slot_later, unheld};
 
+use crate::groups::run_all;
 use crate::movement::Movement;
 use crate::slot::Slot;
+use algorithm_bus::NoteBlock;
 use dx_tables::Tables;
+use voice_record::Voice;
+
+/// Begins a note of the voice in a slot.
+pub(crate) fn start_at(
+    slots: &mut [Slot; 16],
+    at: usize,
+    tables: &Tables,
+    voice: &Voice,
+    switch: u8,
+    channel: u8,
+    key: u8,
+    velocity: u8,
+)
+    requires at { at < 16 }
+    requires switch { switch ≤ 63 }
+    requires key { key ≤ 127 }
+    requires velocity { (1 ≤ velocity) × (velocity ≤ 127) }
+    ensures { (ws : ℕ → Option SlotData) → AreSlots slots.old ws → AreSlots slots.new (λ i. if i == at then Some (record { channel = channel; note = begun voice.now switch key velocity; is_down = true; is_held = false }) else ws i) }
+{
+    slots[at].start(tables, voice, switch, channel, key, velocity);
+}
 
 /// A key goes up in each slot where it is down.
 pub(crate) fn lift_all(slots: &mut [Slot; 16], is_pedal_down: bool, channel: u8, key: u8)
@@ -37,6 +64,27 @@ pub(crate) fn silence_all(slots: &mut [Slot; 16])
     }
 }
 
+/// What is to be run in the next block, slot by slot.
+fn begin_all(slots: &mut [Slot; 16], tables: &Tables, movement: &Movement) -> [NoteBlock; 16]
+    ensures { (ws : ℕ → Option SlotData) → AreSlots slots.old ws → AreSlotsBegun slots.new result (modulation_of movement.now) ws }
+{
+    let mut blocks = [NoteBlock::silent(); 16];
+    for i in 0..16usize {
+        blocks[i] = slots[i].begin_block(tables, movement);
+    }
+    blocks
+}
+
+/// Ends the blocks that were run.
+fn end_all(slots: &mut [Slot; 16], blocks: &[NoteBlock; 16])
+    ensures { (bs : List NoteBlock) (m : Modulation) (ws : ℕ → Option SlotData) → AreSlotsBegun slots.old bs m ws → AreLeft bs blocks.now → AreSlots slots.new (λ i. slot_later m (ws i)) }
+{
+    for i in 0..16usize {
+        let memory = blocks[i].memory;
+        slots[i].end_block(memory);
+    }
+}
+
 /// Adds up the 64 samples of the next block of all slots, over the sum of no notes.
 pub(crate) fn sound_all(
     slots: &mut [Slot; 16],
@@ -48,7 +96,7 @@ pub(crate) fn sound_all(
     ensures samples { (ws : ℕ → Option SlotData) → AreSlots slots.old ws → IsAdded (mix_of (modulation_of movement.now) ws 16) mix.old mix.new }
     ensures passed { (ws : ℕ → Option SlotData) → AreSlots slots.old ws → AreSlots slots.new (λ i. slot_later (modulation_of movement.now) (ws i)) }
 {
-    for i in 0..16usize {
-        slots[i].sound(tables, movement, mix);
-    }
+    let mut blocks = begin_all(slots, tables, movement);
+    run_all(tables, &mut blocks, mix);
+    end_all(slots, &blocks);
 }

@@ -1,62 +1,50 @@
 -- A whole note, from block to block and at its release.
 use Rattle.std.proofs.Common.{ℕ, zero, suc, ℤ, pos, ◌+ℤ◌, ◌+◌, ◌-◌, ◌<◌, ◌≤◌, ◌≢◌, ◌≡◌, ◌∙◌, ap, refl, sym, subst, add-one, List, [], ◌∷◌, length, get_or, set, None, cond, below_more, get_or-set_other, get_or-set_same, arith}
 use Rattle.std.proofs.lemmas.List.{same_lists}
-use Rattle.dx_tables.specs.Powers.{frequency}
 use Rattle.block_rates.specs.declared.pitch_envelope.PitchEnvelope.{PitchEnvelope}
 use Rattle.block_rates.specs.Pitches.{PitchEnvelopeSettings, pitch_envelope_level}
 use Rattle.block_rates.specs.PitchEnvelopes.{IsPitchEnvelope}
 use Rattle.block_rates.specs.Stages.{released_after}
-use Rattle.key_scale.specs.Pitch.{pitch_of_operator}
 use Rattle.operator_kernel.specs.declared.OpBlock.{OpBlock}
 use Rattle.operator_kernel.specs.Operator.{HasGains, Memory, memory_of}
 use Rattle.algorithm_bus.specs.Signals.{Patch, memory_left, note_output}
 use Rattle.algorithm_bus.specs.Buses.{HaveGains, IsBus, op_of, no_operator, patch_of}
 use Rattle.note_voice.specs.declared.operator.Operator.{Operator}
-use Rattle.note_voice.specs.Modulation.{Modulation, pitch_modulation, level_drop}
+use Rattle.note_voice.specs.Modulation.{Modulation, bend_pitch, pitch_modulation, vibrato, vibrato_depth}
 use Rattle.note_voice.specs.Note.{NoteData, begun, let_go, heard, played_note, four_from, pitch_settings, pitch_shift_in, step_in, drop_in, operator_in, is_on, muted, heard_in, operators_in, memory_before, note_patch, note_sample}
-use Rattle.note_voice.specs.Running.{IsOperator, AreOperators, IsPlaying, IsMoved}
+use Rattle.note_voice.specs.Running.{IsOperator, AreOperators, IsMoved}
 use Rattle.note_voice.proofs.Prefix.{agrees_let_go, agrees_heard, memory_same}
 use Rattle.note_voice.proofs.Steps.{length_more, moved_last}
 
 -- what is added to the pitch of the next block
-pub shift_is : (n : NoteData) (m : Modulation) (voice : List ℕ) (level r : ℤ) → voice ≡ n.voice → r ≡ pitch_modulation voice m level → level ≡ pitch_envelope_level (pitch_settings n.voice) (length n.past + 1) n.off → r ≡ pitch_shift_in (heard n m) (length n.past)
+pub shift_is : (n : NoteData) (m : Modulation) (depth sensitivity : ℕ) (level r : ℤ) → depth ≡ get_or n.voice 139 0 → sensitivity ≡ get_or n.voice 143 0 → r ≡ level +ℤ vibrato (vibrato_depth depth m.delay m.wheel) sensitivity m.lfo +ℤ bend_pitch m.bend → level ≡ pitch_envelope_level (pitch_settings n.voice) (length n.past + 1) n.off → r ≡ pitch_shift_in (heard n m) (length n.past)
 unfolding pitch_shift_in
-shift_is n m voice level r v e l =
-    e ∙ ap (λ w. pitch_modulation w m level) v ∙ ap (pitch_modulation n.voice m) l ∙ ap (λ x. pitch_modulation n.voice x (pitch_envelope_level (pitch_settings n.voice) (length n.past + 1) n.off)) (sym (moved_last n m))
-
--- the phase step of an operator in the next block
-pub step_is : (voice : List ℕ) (switch : ℕ) (note shift lfo : ℤ) (delay operator : ℕ) (n : NoteData) (m : Modulation) (r : ℤ) → IsMoved voice switch note shift lfo delay n m → r ≡ frequency (pitch_of_operator voice operator note +ℤ shift) → r ≡ step_in (heard n m) operator (length n.past)
-unfolding step_in
-step_is voice switch note shift lfo delay operator n m r h e = e ∙ rw (h.voice_is, h.note_is, h.shift_is) refl
-
--- how far the level of an operator is taken down in the next block
-pub drop_is : (voice : List ℕ) (switch : ℕ) (note shift lfo : ℤ) (delay operator : ℕ) (n : NoteData) (m : Modulation) (r : ℤ) → IsMoved voice switch note shift lfo delay n m → r ≡ level_drop voice operator m → r ≡ drop_in (heard n m) operator (length n.past)
-unfolding drop_in
-drop_is voice switch note shift lfo delay operator n m r h e = e ∙ ap (λ w. level_drop w operator m) h.voice_is ∙ ap (level_drop n.voice operator) (sym (moved_last n m))
+shift_is n m depth sensitivity level r d v e l =
+    e ∙ rw (d, v) refl ∙ ap (pitch_modulation n.voice m) l ∙ ap (λ x. pitch_modulation n.voice x (pitch_envelope_level (pitch_settings n.voice) (length n.past + 1) n.off)) (sym (moved_last n m))
 
 -- an operator as it is heard in the next block
-pub heard_is : (voice : List ℕ) (switch : ℕ) (note shift lfo : ℤ) (delay operator : ℕ) (n : NoteData) (m : Modulation) (op r : OpBlock) → IsMoved voice switch note shift lfo delay n m → r ≡ cond (is_on switch operator) op (muted op) → op ≡ operator_in (heard n m) operator (length n.past) → r ≡ heard_in (heard n m) operator (length n.past)
+pub heard_is : (switch : ℕ) (shift lfo : ℤ) (delay operator : ℕ) (n : NoteData) (m : Modulation) (op r : OpBlock) → IsMoved switch shift lfo delay n m → r ≡ cond (is_on switch operator) op (muted op) → op ≡ operator_in (heard n m) operator (length n.past) → r ≡ heard_in (heard n m) operator (length n.past)
 unfolding heard_in
-heard_is voice switch note shift lfo delay operator n m op r h e o = e ∙ rw (o, h.switch_is) refl
+heard_is switch shift lfo delay operator n m op r h e o = e ∙ rw (o, h.switch_is) refl
 
 -- the operators that a loop has gone through up to a place, and the others as before
-pub record ArePassedUpTo (i : ℕ) (n n' : NoteData) (os : List Operator) : Type 0 where
-  pub done : (k : ℕ) (d : Operator) → k < i → IsOperator (get_or os k d) (k + 1) n'
-  pub rest : (k : ℕ) (d : Operator) → i ≤ k → k < 6 → IsOperator (get_or os k d) (k + 1) n
+pub record ArePassedUpTo (i : ℕ) (shift shift' : ℤ) (n n' : NoteData) (os : List Operator) : Type 0 where
+  pub done : (k : ℕ) (d : Operator) → k < i → IsOperator (get_or os k d) shift' (k + 1) n'
+  pub rest : (k : ℕ) (d : Operator) → i ≤ k → k < 6 → IsOperator (get_or os k d) shift (k + 1) n
 
-pub passed_none : (n n' : NoteData) (os : List Operator) → AreOperators os n → ArePassedUpTo 0 n n' os
-passed_none n n' os h = record { done = λ k d lt. absurd (omega (arith, lt)); rest = λ k d le lt. h k d lt }
+pub passed_none : (shift shift' : ℤ) (n n' : NoteData) (os : List Operator) → AreOperators os shift n → ArePassedUpTo 0 shift shift' n n' os
+passed_none shift shift' n n' os h = record { done = λ k d lt. absurd (omega (arith, lt)); rest = λ k d le lt. h k d lt }
 
-pub passed_next : (i : ℕ) (n n' : NoteData) (os : List Operator) (o : Operator) → length os ≡ 6 → i < 6 → ArePassedUpTo i n n' os → IsOperator o (i + 1) n' → ArePassedUpTo (i + 1) n n' (set os i o)
-passed_next i n n' os o e lt m h = record {
-  done = λ k d l. below_more (λ k. (d : Operator) → IsOperator (get_or (set os i o) k d) (k + 1) n') i
+pub passed_next : (i : ℕ) (shift shift' : ℤ) (n n' : NoteData) (os : List Operator) (o : Operator) → length os ≡ 6 → i < 6 → ArePassedUpTo i shift shift' n n' os → IsOperator o shift' (i + 1) n' → ArePassedUpTo (i + 1) shift shift' n n' (set os i o)
+passed_next i shift shift' n n' os o e lt m h = record {
+  done = λ k d l. below_more (λ k. (d : Operator) → IsOperator (get_or (set os i o) k d) shift' (k + 1) n') i
       (λ k l d. let ne : k ≢ i = omega arith in rw get_or-set_other (m.done k d l))
       (λ d. let l : i < length os = rw e lt in rw get_or-set_same h) k l d;
   rest = λ k d le l. let ne : k ≢ i = omega arith in rw get_or-set_other (m.rest k d (omega arith) l);
 }
 
-pub passed_all : (i : ℕ) (n n' : NoteData) (os : List Operator) → 6 ≤ i → ArePassedUpTo i n n' os → AreOperators os n'
-passed_all i n n' os le m = λ k d lt. m.done k d (omega arith)
+pub passed_all : (i : ℕ) (shift shift' : ℤ) (n n' : NoteData) (os : List Operator) → 6 ≤ i → ArePassedUpTo i shift shift' n n' os → AreOperators os shift' n'
+passed_all i shift shift' n n' os le m = λ k d lt. m.done k d (omega arith)
 
 -- the first i operators as they are heard
 pub record AreHeardUpTo (i : ℕ) (n : NoteData) (block : ℕ) (ops : List OpBlock) : Type 0 where
@@ -104,14 +92,14 @@ pub gains_all : (i : ℕ) (ops : List OpBlock) → 6 ≤ i → HaveGainsUpTo i o
 gains_all i ops le m = λ operator first last. m.each (operator - 1) no_operator (omega arith)
 
 -- the six operators of a note that begins
-pub operators_begun : (n : NoteData) (a b c d e f : Operator) → IsOperator a 1 n → IsOperator b 2 n → IsOperator c 3 n → IsOperator d 4 n → IsOperator e 5 n → IsOperator f 6 n → AreOperators (a ∷ b ∷ c ∷ d ∷ e ∷ f ∷ []) n
-operators_begun n a b c d e f p q r s t u zero o lt = p
-operators_begun n a b c d e f p q r s t u (suc zero) o lt = q
-operators_begun n a b c d e f p q r s t u (suc (suc zero)) o lt = r
-operators_begun n a b c d e f p q r s t u (suc (suc (suc zero))) o lt = s
-operators_begun n a b c d e f p q r s t u (suc (suc (suc (suc zero)))) o lt = t
-operators_begun n a b c d e f p q r s t u (suc (suc (suc (suc (suc zero))))) o lt = u
-operators_begun n a b c d e f p q r s t u (suc (suc (suc (suc (suc (suc k)))))) o lt = absurd (omega arith)
+pub operators_begun : (shift : ℤ) (n : NoteData) (a b c d e f : Operator) → IsOperator a shift 1 n → IsOperator b shift 2 n → IsOperator c shift 3 n → IsOperator d shift 4 n → IsOperator e shift 5 n → IsOperator f shift 6 n → AreOperators (a ∷ b ∷ c ∷ d ∷ e ∷ f ∷ []) shift n
+operators_begun shift n a b c d e f p q r s t u zero o lt = p
+operators_begun shift n a b c d e f p q r s t u (suc zero) o lt = q
+operators_begun shift n a b c d e f p q r s t u (suc (suc zero)) o lt = r
+operators_begun shift n a b c d e f p q r s t u (suc (suc (suc zero))) o lt = s
+operators_begun shift n a b c d e f p q r s t u (suc (suc (suc (suc zero)))) o lt = t
+operators_begun shift n a b c d e f p q r s t u (suc (suc (suc (suc (suc zero))))) o lt = u
+operators_begun shift n a b c d e f p q r s t u (suc (suc (suc (suc (suc (suc k)))))) o lt = absurd (omega arith)
 
 -- the pitch envelope of a note that begins
 pub pitch_begun : (voice rates levels : List ℕ) (e : PitchEnvelope) → rates ≡ four_from voice 126 → levels ≡ four_from voice 130 → IsPitchEnvelope e (record { rates = rates; levels = levels }) 0 None → IsPitchEnvelope e (pitch_settings voice) 0 None
@@ -121,63 +109,34 @@ pitch_begun voice rates levels e er el h =
     let same : ◌≡◌ {A = PitchEnvelopeSettings} (record { rates = rates; levels = levels }) (record { rates = four_from voice 126; levels = four_from voice 130 }) = rw (er, el) refl in
     subst P same h
 
-pub playing_at_start : (voice : List ℕ) (switch key velocity : ℕ) (os : List Operator) (e : PitchEnvelope) → AreOperators os (begun voice switch key velocity) → IsPitchEnvelope e (pitch_settings voice) 0 None → IsPlaying voice switch key os e (pos 0 ∷ pos 0 ∷ []) (begun voice switch key velocity)
+pub memory_at_start : (n : NoteData) → memory_of (pos 0 ∷ pos 0 ∷ []) ≡ memory_before n 0
 unfolding memory_before
-playing_at_start voice switch key velocity os e o p = record {
-  voice_is = refl;
-  switch_is = refl;
-  key_is = refl;
-  operators_are = o;
-  pitch_is = p;
-  memory_is = refl;
-}
+memory_at_start n = refl
 
-pub playing_let_go : (voice : List ℕ) (switch key : ℕ) (os os' : List Operator) (e e' : PitchEnvelope) (memory : List ℤ) (n : NoteData) → IsPlaying voice switch key os e memory n → AreOperators os' (let_go n) → IsPitchEnvelope e' (pitch_settings n.voice) (length n.past) (released_after (length n.past) n.off) → IsPlaying voice switch key os' e' memory (let_go n)
-playing_let_go voice switch key os os' e e' memory n r o p = record {
-  voice_is = r.voice_is;
-  switch_is = r.switch_is;
-  key_is = r.key_is;
-  operators_are = o;
-  pitch_is = p;
-  memory_is = r.memory_is ∙ sym (memory_same _ n _ _ (length n.past) (agrees_let_go n) (omega arith));
-}
+pub memory_let_go : (n : NoteData) (memory : List ℤ) → memory_of memory ≡ memory_before n (length n.past) → memory_of memory ≡ memory_before (let_go n) (length n.past)
+memory_let_go n memory e = e ∙ sym (memory_same _ n _ _ (length n.past) (agrees_let_go n) (omega arith))
 
 -- what the next block is made from
-pub patch_is : (n : NoteData) (m : Modulation) (voice : List ℕ) (algorithm feedback : ℕ) (ops : List OpBlock) (memory : List ℤ) → voice ≡ n.voice → algorithm ≡ get_or voice 134 0 → feedback ≡ get_or voice 135 0 → ops ≡ operators_in (heard n m) (length n.past) → memory_of memory ≡ memory_before n (length n.past) → patch_of algorithm feedback ops memory ≡ note_patch (heard n m) (length n.past)
-patch_is n m voice algorithm feedback ops memory v a f o r =
-    let ea : algorithm ≡ get_or n.voice 134 0 = a ∙ ap (λ w. get_or w 134 0) v in
-    let ef : feedback ≡ get_or n.voice 135 0 = f ∙ ap (λ w. get_or w 135 0) v in
+pub patch_is : (n : NoteData) (m : Modulation) (algorithm feedback : ℕ) (ops : List OpBlock) (memory : List ℤ) → algorithm ≡ get_or n.voice 134 0 → feedback ≡ get_or n.voice 135 0 → ops ≡ operators_in (heard n m) (length n.past) → memory_of memory ≡ memory_before n (length n.past) → patch_of algorithm feedback ops memory ≡ note_patch (heard n m) (length n.past)
+patch_is n m algorithm feedback ops memory ea ef o r =
     let er : memory_of memory ≡ memory_before (heard n m) (length n.past) = r ∙ sym (memory_same _ n _ _ (length n.past) (agrees_heard n m) (omega arith)) in
     let make : ℕ → ℕ → List OpBlock → Memory → Patch = λ a f ops memory. record { algorithm = a; feedback = f; op = op_of ops; memory = memory } in
     ap (λ a. make a feedback ops (memory_of memory)) ea ∙ ap (λ f. make (get_or n.voice 134 0) f ops (memory_of memory)) ef ∙ ap (λ ops. make (get_or n.voice 134 0) (get_or n.voice 135 0) ops (memory_of memory)) o ∙ ap (make (get_or n.voice 134 0) (get_or n.voice 135 0) (operators_in (heard n m) (length n.past))) er
 
-pub samples_are : (n : NoteData) (m : Modulation) (p : Patch) (bus : List ℤ) → p ≡ note_patch (heard n m) (length n.past) → IsBus (note_output p) bus → IsBus (note_sample (heard n m) (length n.past)) bus
+pub sample_is : (n : NoteData) (i j : ℕ) (p : Patch) → p ≡ note_patch n i → note_output p j ≡ note_sample n i j
 unfolding note_sample
-samples_are n m p bus e h = record { len = h.len; sample = λ j lt. h.sample j lt ∙ ap (λ q. note_output q j) e }
+sample_is n i j p e = ap (λ q. note_output q j) e
 
 memory_more : (n : NoteData) (i : ℕ) → memory_before n (i + 1) ≡ memory_left (note_patch n i)
 unfolding memory_before
 memory_more n i = rw add-one
 
-pub playing_heard : (voice : List ℕ) (switch key : ℕ) (os os' : List Operator) (e e' : PitchEnvelope) (memory memory' : List ℤ) (n : NoteData) (m : Modulation) (p : Patch) → IsPlaying voice switch key os e memory n → AreOperators os' (heard n m) → IsPitchEnvelope e' (pitch_settings n.voice) (length n.past + 1) n.off → p ≡ note_patch (heard n m) (length n.past) → memory_of memory' ≡ memory_left p → IsPlaying voice switch key os' e' memory' (heard n m)
-playing_heard voice switch key os os' e e' memory memory' n m p r o h q l =
-    let P : ℕ → Type 0 = λ i. IsPitchEnvelope e' (pitch_settings n.voice) i n.off in
-    record {
-      voice_is = r.voice_is;
-      switch_is = r.switch_is;
-      key_is = r.key_is;
-      operators_are = o;
-      pitch_is = subst P (sym (length_more n m)) h;
-      memory_is = l ∙ ap memory_left q ∙ sym (memory_more (heard n m) (length n.past)) ∙ ap (memory_before (heard n m)) (sym (length_more n m));
-    }
+-- the pitch envelope one block later
+pub pitch_heard : (e : PitchEnvelope) (n : NoteData) (m : Modulation) → IsPitchEnvelope e (pitch_settings n.voice) (length n.past + 1) n.off → IsPitchEnvelope e (pitch_settings n.voice) (length (heard n m).past) n.off
+pitch_heard e n m h =
+    let P : ℕ → Type 0 = λ i. IsPitchEnvelope e (pitch_settings n.voice) i n.off in
+    subst P (sym (length_more n m)) h
 
--- what a note is moved by in its next block
-pub moved_is : (voice : List ℕ) (switch key : ℕ) (os : List Operator) (e : PitchEnvelope) (memory : List ℤ) (n : NoteData) (m : Modulation) (note level shift : ℤ) → IsPlaying voice switch key os e memory n → note ≡ played_note voice key → shift ≡ pitch_modulation voice m level → level ≡ pitch_envelope_level (pitch_settings n.voice) (length n.past + 1) n.off → IsMoved voice switch note shift m.lfo m.delay n m
-moved_is voice switch key os e memory n m note level shift r en es el = record {
-  voice_is = r.voice_is;
-  switch_is = r.switch_is;
-  note_is = en ∙ ap (λ w. played_note w key) r.voice_is ∙ ap (played_note n.voice) r.key_is;
-  shift_is = shift_is n m voice level shift r.voice_is es el;
-  lfo_is = refl;
-  delay_is = refl;
-}
+-- the two samples that the block left
+pub memory_heard : (n : NoteData) (m : Modulation) (p : Patch) (memory : List ℤ) → p ≡ note_patch (heard n m) (length n.past) → memory_of memory ≡ memory_left p → memory_of memory ≡ memory_before (heard n m) (length (heard n m).past)
+memory_heard n m p memory q l = l ∙ ap memory_left q ∙ sym (memory_more (heard n m) (length n.past)) ∙ ap (memory_before (heard n m)) (sym (length_more n m))

@@ -1,5 +1,5 @@
 -- An operator of a note, from block to block and at its release.
-use Rattle.std.proofs.Common.{ℕ, ℤ, pos, negsuc, ◌+ℤ◌, ◌*ℤ◌, ◌+◌, ◌*◌, ◌%◌, ◌^◌, ◌<◌, ◌≡◌, ◌∙◌, ap, refl, sym, subst, add-one, List, [], ◌∷◌, ◌++◌, length, None, SFits, to_z, of_z, w32, unsigned_abs, length-append, ◌-◌, arith}
+use Rattle.std.proofs.Common.{ℕ, ℤ, pos, negsuc, ◌+ℤ◌, ◌*ℤ◌, ◌+◌, ◌*◌, ◌/◌, ◌%◌, ◌^◌, ◌<◌, ◌≡◌, ◌∙◌, ap, refl, sym, subst, add-one, List, [], ◌∷◌, ◌++◌, length, None, SFits, to_z, of_z, w32, unsigned_abs, length-append, ◌-◌, arith}
 use Rattle.std.specs.Int.{int_wrap}
 use Rattle.std.proofs.lemmas.Int.{ints, to_z-of_z, wrapping_add-bits, wrapping_mul_is, int_wrap-add_left, int_wrap-add_right, int_wrap_fits}
 use Rattle.std.proofs.Math.Seq.{get_or-append_seam}
@@ -10,8 +10,10 @@ use Rattle.block_rates.specs.Stages.{released_after}
 use Rattle.block_rates.specs.Envelopes.{IsEnvelope}
 use Rattle.key_scale.specs.Levels.{output_level, rate_scale_of}
 use Rattle.operator_kernel.specs.declared.OpBlock.{OpBlock}
-use Rattle.note_voice.specs.Modulation.{Modulation, gain_of}
-use Rattle.note_voice.specs.Note.{NoteData, begun, let_go, heard, moved_in, played_note, four_from, settings_at, envelope_settings, step_in, steps_before, drop_in, gain_after, gain_before, operator_in}
+use Rattle.dx_tables.specs.Powers.{frequency}
+use Rattle.key_scale.specs.Pitch.{pitch_of_operator}
+use Rattle.note_voice.specs.Modulation.{Modulation, gain_of, level_drop, tremolo, tremolo_depth, tremolo_weight}
+use Rattle.note_voice.specs.Note.{NoteData, begun, let_go, heard, moved_in, played_note, four_from, settings_at, envelope_settings, pitch_shift_in, step_in, steps_before, drop_in, gain_after, gain_before, operator_in}
 use Rattle.note_voice.specs.Running.{IsRunning}
 use Rattle.note_voice.proofs.Prefix.{agrees_let_go, agrees_heard, steps_same, gain_before_same}
 
@@ -40,17 +42,44 @@ envelope_begun voice switch key velocity operator note rates levels out scale e 
     subst P (same ∙ ap (λ z. settings_at voice operator z velocity) en) h
 
 -- the first block begins at phase 0 and gain 0
-pub running_at_start : (voice : List ℕ) (switch key velocity operator : ℕ) (e : Envelope) → IsEnvelope e (envelope_settings (begun voice switch key velocity) operator) 0 None → IsRunning (pos 0) (pos 0) e operator (begun voice switch key velocity)
+pub running_at_start : (voice : List ℕ) (switch key velocity operator : ℕ) (note : ℤ) (e : Envelope) (pitch : ℤ) (weight : ℕ) (increment : ℤ) → note ≡ played_note voice key → IsEnvelope e (envelope_settings (begun voice switch key velocity) operator) 0 None → pitch ≡ pitch_of_operator voice operator note → weight ≡ tremolo_weight voice operator → increment ≡ frequency (pitch +ℤ pos 0) → IsRunning (pos 0) (pos 0) e pitch weight increment (pos 0) operator (begun voice switch key velocity)
 unfolding steps_before gain_before
-running_at_start voice switch key velocity operator e h = record {
+running_at_start voice switch key velocity operator note e pitch weight increment en h p w i = record {
   phase_is = sym (int_wrap_fits w32 (pos 0) (record { sfits = omega arith }));
   gain_is = refl;
   envelope_is = h;
+  pitch_is = p ∙ ap (pitch_of_operator voice operator) en;
+  weight_is = w;
+  increment_is = i;
 }
 
-pub running_let_go : (phase gain : ℤ) (e e' : Envelope) (operator : ℕ) (n : NoteData) → IsRunning phase gain e operator n → IsEnvelope e' (envelope_settings n operator) (length n.past) (released_after (length n.past) n.off) → IsRunning phase gain e' operator (let_go n)
+-- another shift of the pitch
+pub running_tuned : (phase gain : ℤ) (e : Envelope) (pitch : ℤ) (weight : ℕ) (increment increment' shift shift' : ℤ) (operator : ℕ) (n : NoteData) → IsRunning phase gain e pitch weight increment shift operator n → increment' ≡ frequency (pitch +ℤ shift') → IsRunning phase gain e pitch weight increment' shift' operator n
+running_tuned phase gain e pitch weight increment increment' shift shift' operator n r i = record {
+  phase_is = r.phase_is;
+  gain_is = r.gain_is;
+  envelope_is = r.envelope_is;
+  pitch_is = r.pitch_is;
+  weight_is = r.weight_is;
+  increment_is = i;
+}
+
+-- the phase increment of the next block
+pub increment_is : (phase gain : ℤ) (e : Envelope) (pitch : ℤ) (weight : ℕ) (increment shift : ℤ) (operator : ℕ) (n : NoteData) (m : Modulation) → IsRunning phase gain e pitch weight increment shift operator n → shift ≡ pitch_shift_in (heard n m) (length n.past) → increment ≡ step_in (heard n m) operator (length n.past)
+unfolding step_in
+increment_is phase gain e pitch weight increment shift operator n m r s = r.increment_is ∙ rw (r.pitch_is, s) refl
+
+-- how far the level of an operator is taken down in the next block
+pub drop_is : (weight : ℕ) (lfo : ℤ) (delay operator : ℕ) (n : NoteData) (m : Modulation) (r : ℤ) → weight ≡ tremolo_weight n.voice operator → m.lfo ≡ lfo → m.delay ≡ delay → r ≡ tremolo (weight * delay / 2 ^ 24) lfo → r ≡ drop_in (heard n m) operator (length n.past)
+unfolding drop_in tremolo_depth
+drop_is weight lfo delay operator n m r w l d e = e ∙ rw (w, ← l, ← d) refl ∙ ap (level_drop n.voice operator) (sym (moved_last n m))
+
+pub running_let_go : (phase gain : ℤ) (e e' : Envelope) (pitch : ℤ) (weight : ℕ) (increment shift : ℤ) (operator : ℕ) (n : NoteData) → IsRunning phase gain e pitch weight increment shift operator n → IsEnvelope e' (envelope_settings n operator) (length n.past) (released_after (length n.past) n.off) → IsRunning phase gain e' pitch weight increment shift operator (let_go n)
 unfolding envelope_settings
-running_let_go phase gain e e' operator n r h = record {
+running_let_go phase gain e e' pitch weight increment shift operator n r h = record {
+  pitch_is = r.pitch_is;
+  weight_is = r.weight_is;
+  increment_is = r.increment_is;
   phase_is = r.phase_is ∙ ap (λ z. wrap (pos 64 *ℤ z)) (sym (steps_same _ n _ _ operator (length n.past) (agrees_let_go n) (omega arith)));
   gain_is = r.gain_is ∙ sym (gain_before_same _ n _ _ operator (length n.past) (agrees_let_go n) (omega arith));
   envelope_is = h;
@@ -78,9 +107,9 @@ pub gain_is : (n : NoteData) (m : Modulation) (operator : ℕ) (level drop r : �
 unfolding gain_after envelope_settings
 gain_is n m operator level drop r e l d = e ∙ ap (λ z. gain_of z drop) l ∙ ap (gain_of _) d
 
-pub running_heard : (phase phase' step gain gain' : ℤ) (e e' : Envelope) (operator : ℕ) (n : NoteData) (m : Modulation) → IsRunning phase gain e operator n → step ≡ step_in (heard n m) operator (length n.past) → phase' ≡ int_wrap w32 (phase +ℤ int_wrap w32 (step *ℤ pos 64)) → gain' ≡ gain_after (heard n m) operator (length n.past) → IsEnvelope e' (envelope_settings n operator) (length n.past + 1) n.off → IsRunning phase' gain' e' operator (heard n m)
+pub running_heard : (phase phase' step gain gain' : ℤ) (e e' : Envelope) (pitch : ℤ) (weight : ℕ) (shift : ℤ) (operator : ℕ) (n : NoteData) (m : Modulation) → IsRunning phase gain e pitch weight step shift operator n → step ≡ step_in (heard n m) operator (length n.past) → phase' ≡ int_wrap w32 (phase +ℤ int_wrap w32 (step *ℤ pos 64)) → gain' ≡ gain_after (heard n m) operator (length n.past) → IsEnvelope e' (envelope_settings n operator) (length n.past + 1) n.off → IsRunning phase' gain' e' pitch weight step shift operator (heard n m)
 unfolding envelope_settings
-running_heard phase phase' step gain gain' e e' operator n m r s p g h =
+running_heard phase phase' step gain gain' e e' pitch weight shift operator n m r s p g h =
     let k = length n.past in
     let P : ℕ → Type 0 = λ i. IsEnvelope e' (envelope_settings n operator) i n.off in
     let before : steps_before n operator k ≡ steps_before (heard n m) operator k = sym (steps_same k n _ _ operator k (agrees_heard n m) (omega arith)) in
@@ -88,12 +117,15 @@ running_heard phase phase' step gain gain' e e' operator n m r s p g h =
       phase_is = p ∙ rw (r.phase_is, s) (phase_moved (steps_before n operator k) (step_in (heard n m) operator k)) ∙ ap (λ z. wrap (pos 64 *ℤ z)) (ap (λ z. z +ℤ step_in (heard n m) operator k) before ∙ sym (steps_more (heard n m) operator k) ∙ ap (steps_before (heard n m) operator) (sym (length_more n m)));
       gain_is = g ∙ sym (gain_more (heard n m) operator k) ∙ ap (gain_before (heard n m) operator) (sym (length_more n m));
       envelope_is = subst P (sym (length_more n m)) h;
+      pitch_is = r.pitch_is;
+      weight_is = r.weight_is;
+      increment_is = r.increment_is;
     }
 
 -- the operator of the next block, from what is kept
-pub operator_is : (phase step gain gain' : ℤ) (e : Envelope) (operator : ℕ) (n : NoteData) (m : Modulation) → IsRunning phase gain e operator n → step ≡ step_in (heard n m) operator (length n.past) → gain' ≡ gain_after (heard n m) operator (length n.past) →
+pub operator_is : (phase step gain gain' : ℤ) (e : Envelope) (pitch : ℤ) (weight : ℕ) (shift : ℤ) (operator : ℕ) (n : NoteData) (m : Modulation) → IsRunning phase gain e pitch weight step shift operator n → step ≡ step_in (heard n m) operator (length n.past) → gain' ≡ gain_after (heard n m) operator (length n.past) →
     ◌≡◌ {A = OpBlock} (record { phase = phase; freq = step; g1 = gain; g2 = gain' }) (operator_in (heard n m) operator (length n.past))
-operator_is phase step gain gain' e operator n m r s g =
+operator_is phase step gain gain' e pitch weight shift operator n m r s g =
     let k = length n.past in
     let ep : phase ≡ wrap (pos 64 *ℤ steps_before (heard n m) operator k) = r.phase_is ∙ ap (λ z. wrap (pos 64 *ℤ z)) (sym (steps_same k n _ _ operator k (agrees_heard n m) (omega arith))) in
     let eg : gain ≡ gain_before (heard n m) operator k = r.gain_is ∙ sym (gain_before_same k n _ _ operator k (agrees_heard n m) (omega arith)) in

@@ -1,6 +1,8 @@
 -- A sum of notes grows sample by sample, and stays far from the ends of 64 bits.
 use Rattle.std.proofs.Common.{ℕ, ℤ, pos, ◌+ℤ◌, refl, List, length, get_or, set, ◌+◌, ◌^◌, ◌<◌, ◌≤◌, ◌≢◌, ◌≡◌, ◌∙◌, ap, arith, below_more, get_or-set_other, get_or-set_same, length-set, SFits, w32, w64, unsigned_abs}
 use Rattle.dx_tables.proofs.Ranges.{abs_Within, Within_abs, Within-add, Within_from_fits32, fits_from_Within}
+use Rattle.std.proofs.lemmas.Int.{ints}
+use Rattle.algorithm_bus.specs.Buses.{IsBus}
 use Rattle.note_voice.specs.Mix.{IsAdded, IsSmall}
 
 -- the first n samples are added, and the others are as before
@@ -35,3 +37,17 @@ IsAdded-small y old new b m f s = λ j lt. rw (m.sample j lt) (Within_abs _ _ (W
 -- the same samples under another name
 pub IsAdded-same : (y y' : ℕ → ℤ) (old new : List ℤ) → IsAdded y old new → ((j : ℕ) → j < 64 → y j ≡ y' j) → IsAdded y' old new
 IsAdded-same y y' old new m e = record { len = m.len; sample = λ j lt. m.sample j lt ∙ ap (λ z. get_or old j (pos 0) +ℤ z) (e j lt) }
+
+-- four notes after one another
+four_sums : (m0 m1 m2 m3 m4 b0 b1 b2 b3 y0 y1 y2 y3 : ℤ) → m1 ≡ m0 +ℤ b0 → m2 ≡ m1 +ℤ b1 → m3 ≡ m2 +ℤ b2 → m4 ≡ m3 +ℤ b3 → b0 ≡ y0 → b1 ≡ y1 → b2 ≡ y2 → b3 ≡ y3 → m4 ≡ m0 +ℤ (y0 +ℤ y1 +ℤ y2 +ℤ y3)
+four_sums m0 m1 m2 m3 m4 b0 b1 b2 b3 y0 y1 y2 y3 a b c d e f g h = omega (arith, ints)
+
+pub four_added : (y0 y1 y2 y3 : ℕ → ℤ) (b0 b1 b2 b3 m0 m1 m2 m3 m4 : List ℤ) → IsBus y0 b0 → IsBus y1 b1 → IsBus y2 b2 → IsBus y3 b3 → IsAdded (λ j. get_or b0 j (pos 0)) m0 m1 → IsAdded (λ j. get_or b1 j (pos 0)) m1 m2 → IsAdded (λ j. get_or b2 j (pos 0)) m2 m3 → IsAdded (λ j. get_or b3 j (pos 0)) m3 m4 → IsAdded (λ j. y0 j +ℤ y1 j +ℤ y2 j +ℤ y3 j) m0 m4
+four_added y0 y1 y2 y3 b0 b1 b2 b3 m0 m1 m2 m3 m4 p q r s a b c d = record {
+  len = d.len;
+  sample = λ j lt. four_sums _ _ _ _ _ _ _ _ _ _ _ _ _ (a.sample j lt) (b.sample j lt) (c.sample j lt) (d.sample j lt) (p.sample j lt) (q.sample j lt) (r.sample j lt) (s.sample j lt);
+}
+
+-- a bound that is no less
+pub IsSmall-more : (a b : ℕ) (xs : List ℤ) → a ≤ b → IsSmall a xs → IsSmall b xs
+IsSmall-more a b xs le s = λ j lt. let h : unsigned_abs (get_or xs j (pos 0)) ≤ a = s j lt in omega arith

@@ -37,6 +37,10 @@ pitch_modulation voice m level =
 unfoldable pub tremolo_depth : ℕ → ℕ → ℕ → ℕ
 tremolo_depth setting sensitivity delay = depth_part setting * amplitude_sensitivity sensitivity * delay / 2 ^ 24
 
+-- the same of an operator of a voice, once the oscillator's delay is over
+abbrev pub tremolo_weight : List ℕ → ℕ → ℕ
+tremolo_weight voice operator = depth_part (slice_index voice 140) * amplitude_sensitivity (operator_field voice operator 14)
+
 -- how far the oscillator takes a level down
 unfoldable pub tremolo : ℕ → ℤ → ℤ
 tremolo depth lfo = int_shr (pos depth *ℤ (pos (2 ^ 24) -ℤ lfo)) 13

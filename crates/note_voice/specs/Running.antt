@@ -1,6 +1,8 @@
 -- What a running note stands for. It keeps phases, gains, envelopes and two samples, in place of the list of what moved it.
-use Rattle.std.specs.Prelude.{ℕ, ◌≡◌, ◌+◌, ◌<◌, Option, Some, None, length, slice_index_or, List, ℤ, pos, ◌*ℤ◌}
+use Rattle.std.specs.Prelude.{ℕ, ◌≡◌, ◌+◌, ◌<◌, Option, Some, None, length, slice_index, slice_index_or, List, ℤ, pos, ◌*ℤ◌, ◌+ℤ◌}
 use Rattle.dx_tables.specs.Numbers.{wrap}
+use Rattle.dx_tables.specs.Powers.{frequency}
+use Rattle.key_scale.specs.Pitch.{pitch_of_operator}
 use Rattle.block_rates.specs.declared.envelope.Envelope.{Envelope}
 use Rattle.block_rates.specs.declared.pitch_envelope.PitchEnvelope.{PitchEnvelope}
 use Rattle.block_rates.specs.Envelopes.{IsEnvelope}
@@ -9,33 +11,46 @@ use Rattle.operator_kernel.specs.Operator.{memory_of}
 use Rattle.note_voice.specs.declared.operator.Operator.{Operator}
 use Rattle.note_voice.specs.declared.sounding.Sounding.{Sounding}
 use Rattle.note_voice.specs.declared.note.Note.{Note}
-use Rattle.note_voice.specs.Modulation.{Modulation}
+use Rattle.note_voice.specs.Modulation.{Modulation, tremolo_weight}
 use Rattle.note_voice.specs.Note.{NoteData, envelope_settings, pitch_settings, steps_before, gain_before, memory_before, played_note, pitch_shift_in, heard}
 
--- what is kept of an operator stands for it
-pub record IsRunning (phase gain : ℤ) (envelope : Envelope) (operator : ℕ) (n : NoteData) : Type 0 where
+-- What is kept of an operator stands for it: what changes from block to block, the pitch and the depth that the voice had at the start, and the phase increment where the pitch is moved by this shift.
+pub record IsRunning (phase gain : ℤ) (envelope : Envelope) (pitch : ℤ) (weight : ℕ) (increment shift : ℤ) (operator : ℕ) (n : NoteData) : Type 0 where
   pub phase_is : phase ≡ wrap (pos 64 *ℤ steps_before n operator (length n.past))
   pub gain_is : gain ≡ gain_before n operator (length n.past)
   pub envelope_is : IsEnvelope envelope (envelope_settings n operator) (length n.past) n.off
+  pub pitch_is : pitch ≡ pitch_of_operator n.voice operator (played_note n.voice n.key)
+  pub weight_is : weight ≡ tremolo_weight n.voice operator
+  pub increment_is : increment ≡ frequency (pitch +ℤ shift)
 
-abbrev pub IsOperator : Operator → ℕ → NoteData → Type 0
-IsOperator o operator n = IsRunning o.phase o.gain o.envelope operator n
+abbrev pub IsOperator : Operator → ℤ → ℕ → NoteData → Type 0
+IsOperator o shift operator n = IsRunning o.phase o.gain o.envelope o.pitch o.weight o.increment shift operator n
 
 -- six operators, operator 1 first
-abbrev pub AreOperators : List Operator → NoteData → Type 0
-AreOperators os n = (k : ℕ) (d : Operator) → k < 6 → IsOperator (slice_index_or os k d) (k + 1) n
+abbrev pub AreOperators : List Operator → ℤ → NoteData → Type 0
+AreOperators os shift n = (k : ℕ) (d : Operator) → k < 6 → IsOperator (slice_index_or os k d) shift (k + 1) n
+
+-- what is kept of a note that sounds stands for it, but for the two samples that come back
+pub record IsSet (algorithm feedback depth sensitivity switch : ℕ) (operators : List Operator) (shift : ℤ) (pitch : PitchEnvelope) (n : NoteData) : Type 0 where
+  pub algorithm_is : algorithm ≡ slice_index n.voice 134
+  pub feedback_is : feedback ≡ slice_index n.voice 135
+  pub depth_is : depth ≡ slice_index n.voice 139
+  pub sensitivity_is : sensitivity ≡ slice_index n.voice 143
+  pub switch_is : switch ≡ n.switch
+  pub operators_are : AreOperators operators shift n
+  pub pitch_is : IsPitchEnvelope pitch (pitch_settings n.voice) (length n.past) n.off
+
+-- a note whose block has begun and not ended: the two samples that come back are those before the block
+abbrev pub IsUnended : Sounding → NoteData → Type 0
+IsUnended s n = IsSet s.algorithm s.feedback s.depth s.sensitivity s.switch s.operators s.shift s.pitch n
 
 -- what is kept of a note that sounds stands for it
-pub record IsPlaying (voice : List ℕ) (switch key : ℕ) (operators : List Operator) (pitch : PitchEnvelope) (memory : List ℤ) (n : NoteData) : Type 0 where
-  pub voice_is : voice ≡ n.voice
-  pub switch_is : switch ≡ n.switch
-  pub key_is : key ≡ n.key
-  pub operators_are : AreOperators operators n
-  pub pitch_is : IsPitchEnvelope pitch (pitch_settings n.voice) (length n.past) n.off
-  pub memory_is : memory_of memory ≡ memory_before n (length n.past)
+pub record IsPlaying (s : Sounding) (n : NoteData) : Type 0 where
+  pub set : IsUnended s n
+  pub memory_is : memory_of s.memory ≡ memory_before n (length n.past)
 
 abbrev pub IsSounding : Sounding → NoteData → Type 0
-IsSounding s n = IsPlaying s.voice s.switch s.key s.operators s.pitch s.memory n
+IsSounding s n = IsPlaying s n
 
 -- a note stands for plain data, or is idle
 abbrev pub IsHeld : Option Sounding → Option NoteData → Type 0
@@ -47,11 +62,17 @@ IsHeld (Some s) (Some n) = IsSounding s n
 abbrev pub IsNote : Note → Option NoteData → Type 0
 IsNote v n = IsHeld v.sounding n
 
--- what a note is moved by in its next block: its voice, switch and played note, what is added to its pitch, and the oscillator
-pub record IsMoved (voice : List ℕ) (switch : ℕ) (note shift lfo : ℤ) (delay : ℕ) (n : NoteData) (m : Modulation) : Type 0 where
-  pub voice_is : voice ≡ n.voice
+-- a note whose block has begun and not ended
+abbrev pub IsBegun : Option Sounding → NoteData → Type 0
+IsBegun None n = ⊥
+IsBegun (Some s) n = IsUnended s n
+
+abbrev pub IsNoteBegun : Note → NoteData → Type 0
+IsNoteBegun v n = IsBegun v.sounding n
+
+-- what a note is moved by in its next block: its switch, what is added to its pitch, and the oscillator
+pub record IsMoved (switch : ℕ) (shift lfo : ℤ) (delay : ℕ) (n : NoteData) (m : Modulation) : Type 0 where
   pub switch_is : switch ≡ n.switch
-  pub note_is : note ≡ played_note n.voice n.key
   pub shift_is : shift ≡ pitch_shift_in (heard n m) (length n.past)
   pub lfo_is : m.lfo ≡ lfo
   pub delay_is : m.delay ≡ delay

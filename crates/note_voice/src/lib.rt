@@ -8,10 +8,12 @@ mod opening;
 mod operator;
 mod operators;
 mod settings;
+mod sound;
 mod sounding;
 
 pub use note::Note;
 pub use opening::opening_is_plain;
+pub use sound::{sound_alone, sound_four};
 
 #[cfg(test)]
 mod plain;

@@ -3,7 +3,7 @@
 ghost use Rattle.std.specs.Prelude.{◌≡◌, ◌≤◌, ◌+◌, ◌*◌, ◌/◌, ◌^◌, pos, neg_ℤ, ◌≤ℤ◌, ◌*ℤ◌, ◌-ℤ◌, ◌+ℤ◌, slice_index};
 ghost use Rattle.std.specs.Int.{int_shr};
 ghost use Rattle.dx_tables.specs.Constants.{pitch_sensitivity, amplitude_sensitivity};
-ghost use Rattle.note_voice.specs.Modulation.{Modulation, depth_part, vibrato_depth, vibrato, bend_pitch, pitch_modulation, tremolo_depth, tremolo, level_drop};
+ghost use Rattle.note_voice.specs.Modulation.{depth_part, vibrato_depth, vibrato, bend_pitch, tremolo, tremolo_weight};
 
 use crate::settings;
 use dx_tables::constants;
@@ -103,15 +103,19 @@ fn bend_pitch(bend: u16) -> i32
     (i32::from(bend) - 8192) * 512
 }
 
-/// What is added to the pitch of all operators, where the pitch envelope is at a level. 2^24 is one octave.
+/// What is added to the pitch of all operators of a voice with this depth and sensitivity, where the pitch envelope is at a level.
+/// 2^24 is one octave.
 pub(crate) fn pitch_modulation(
-    voice: &Voice,
+    depth: u8,
+    sensitivity: u8,
     level: i32,
     lfo: i32,
     delay: u32,
     bend: u16,
     wheel: u8,
 ) -> i32
+    requires depth { depth ≤ 99 }
+    requires sensitivity { sensitivity ≤ 7 }
     requires level_low { neg_ℤ (pos 67108864) ≤ℤ level }
     requires level_high { level ≤ℤ pos 67108864 }
     requires lfo_low { neg_ℤ (pos 64) ≤ℤ lfo }
@@ -119,29 +123,26 @@ pub(crate) fn pitch_modulation(
     requires delay { delay ≤ 2 ^ 24 }
     requires bend { bend ≤ 16383 }
     requires wheel { wheel ≤ 127 }
-    ensures value { result ≡ pitch_modulation voice.now (record { lfo = lfo; delay = delay; bend = bend; wheel = wheel }) level }
+    ensures value { result ≡ level +ℤ vibrato (vibrato_depth depth delay wheel) sensitivity lfo +ℤ bend_pitch bend }
     ensures low { neg_ℤ (pos (2 ^ 27)) ≤ℤ result }
     ensures high { result ≤ℤ pos (2 ^ 27) }
 {
-    let depth = vibrato_depth(settings::pitch_depth(voice), delay, wheel);
-    let swing = vibrato(depth, settings::pitch_sensitivity(voice), lfo);
+    let depth = vibrato_depth(depth, delay, wheel);
+    let swing = vibrato(depth, sensitivity, lfo);
     level + swing + bend_pitch(bend)
 }
 
-/// How deep the oscillator moves the gain, in parts of 2^16.
-#[tactic(auto, unfolding(crate::specs::Modulation::tremolo_depth))]
-fn tremolo_depth(setting: u8, sensitivity: u8, delay: u32) -> u32
-    requires setting { setting ≤ 99 }
-    requires sensitivity { sensitivity ≤ 3 }
-    requires delay { delay ≤ 2 ^ 24 }
-    ensures value { result ≡ tremolo_depth setting sensitivity delay }
+/// How deep the oscillator moves the gain of an operator, 1 to 6, once its delay is over.
+pub(crate) fn tremolo_weight(voice: &Voice, operator: u8) -> u32
+    requires { (1 ≤ operator) × (operator ≤ 6) }
+    ensures value { result ≡ tremolo_weight voice.now operator }
     ensures high { result ≤ 65025 }
 {
-    let weight = weighted_part(
-        depth_part(setting),
+    let sensitivity = settings::amplitude_sensitivity(voice, operator);
+    weighted_part(
+        depth_part(settings::amplitude_depth(voice)),
         constants::amplitude_sensitivity(sensitivity),
-    );
-    delayed(weight, delay)
+    )
 }
 
 /// A part of 256 with a sensitivity.
@@ -199,19 +200,15 @@ fn tremolo(depth: u32, lfo: i32) -> i32
     fall(depth, from_top(lfo))
 }
 
-/// How far the level of an operator, 1 to 6, is taken down. 2^24 is one octave of gain.
-pub(crate) fn level_drop(voice: &Voice, operator: u8, lfo: i32, delay: u32) -> i32
-    requires operator { (1 ≤ operator) × (operator ≤ 6) }
+/// How far the level of an operator of this weight is taken down. 2^24 is one octave of gain.
+pub(crate) fn level_drop(weight: u32, lfo: i32, delay: u32) -> i32
+    requires weight { weight ≤ 65025 }
     requires lfo_low { neg_ℤ (pos 64) ≤ℤ lfo }
     requires lfo_high { lfo ≤ℤ pos (2 ^ 24 + 64) }
     requires delay { delay ≤ 2 ^ 24 }
-    ensures value { (m : Modulation) → m.lfo ≡ lfo → m.delay ≡ delay → result ≡ level_drop voice.now operator m }
+    ensures value { result ≡ tremolo (weight * delay / 2 ^ 24) lfo }
     ensures low { neg_ℤ (pos 509) ≤ℤ result }
     ensures high { result ≤ℤ pos (2 ^ 27) }
 {
-    let sensitivity = settings::amplitude_sensitivity(voice, operator);
-    tremolo(
-        tremolo_depth(settings::amplitude_depth(voice), sensitivity, delay),
-        lfo,
-    )
+    tremolo(delayed(weight, delay), lfo)
 }

@@ -1,9 +1,13 @@
 ghost use Rattle.std.specs.Prelude.{◌≡◌, ◌≤◌, ◌^◌, ◌+◌, ℕ, length, pos, neg_ℤ, ◌≤ℤ◌, unsigned_abs};
 ghost use Rattle.note_voice.specs.Mix.{IsAdded, IsSmall};
-ghost use Rattle.note_voice.specs.Note.{NoteData, begun, let_go, heard, note_sample};
+ghost use Rattle.operator_kernel.specs.Operator.{memory_of};
+ghost use Rattle.algorithm_bus.specs.Signals.{note_output};
+ghost use Rattle.algorithm_bus.specs.NoteBlocks.{block_patch};
+ghost use Rattle.note_voice.specs.Note.{NoteData, begun, let_go, heard, memory_before, note_patch, note_sample};
 
-use crate::mix::add;
+use crate::sound::sound_alone;
 use crate::sounding::Sounding;
+use algorithm_bus::NoteBlock;
 use dx_tables::Tables;
 use voice_record::Voice;
 
@@ -14,7 +18,7 @@ pub struct Note {
 }
 
 impl Note {
-    ghost use Rattle.note_voice.specs.Running.{IsNote};
+    ghost use Rattle.note_voice.specs.Running.{IsNote, IsNoteBegun};
 
     /// A note that is silent until it is started.
     pub fn idle() -> Note
@@ -31,8 +35,7 @@ impl Note {
         requires velocity { (1 ≤ velocity) × (velocity ≤ 127) }
         ensures { IsNote self.new (Some (begun voice.now switch key velocity)) }
     {
-        let _ = tables;
-        self.sounding = Some(Sounding::start(voice, switch, key, velocity));
+        self.sounding = Some(Sounding::start(tables, voice, switch, key, velocity));
     }
 
     /// Lets the key go. A second release does nothing, nor does one of an idle note.
@@ -71,8 +74,46 @@ impl Note {
         ensures small { (bound : ℕ) → IsSmall bound mix.old → IsSmall (bound + 2 ^ 31) mix.new }
     {
         if let Some(sounding) = &mut self.sounding {
-            let bus = sounding.block(tables, lfo, delay as u32, bend, wheel);
-            add(&bus, mix);
+            let mut block = sounding.begin_block(tables, lfo, delay as u32, bend, wheel);
+            sound_alone(tables, &mut block, mix);
+            sounding.end_block(block.memory);
+        }
+    }
+
+    /// What is to be run in the next block, of an idle note one with no sound, for a caller that runs the blocks of several notes together.
+    /// The conditions are those of `block`; `end_block` then ends the block.
+    pub fn begin_block(
+        &mut self,
+        tables: &Tables,
+        lfo: i32,
+        delay: i32,
+        bend: u16,
+        wheel: u8,
+    ) -> NoteBlock
+        requires lfo_low { neg_ℤ (pos 64) ≤ℤ lfo }
+        requires lfo_high { lfo ≤ℤ pos (2 ^ 24 + 64) }
+        requires delay_low { pos 0 ≤ℤ delay }
+        requires delay_high { delay ≤ℤ pos (2 ^ 24) }
+        requires bend { bend ≤ 16383 }
+        requires wheel { wheel ≤ 127 }
+        ensures block { (n : NoteData) → IsNote self.old (Some n) → block_patch result ≡ note_patch (heard n (record { lfo = lfo; delay = unsigned_abs delay; bend = bend; wheel = wheel })) (length n.past) }
+        ensures begun { (n : NoteData) → IsNote self.old (Some n) → IsNoteBegun self.new (heard n (record { lfo = lfo; delay = unsigned_abs delay; bend = bend; wheel = wheel })) }
+        ensures silent { IsNote self.old None → (j : ℕ) → note_output (block_patch result) j ≡ pos 0 }
+        ensures stays_idle { IsNote self.old None → IsNote self.new None }
+    {
+        match &mut self.sounding {
+            Some(sounding) => sounding.begin_block(tables, lfo, delay as u32, bend, wheel),
+            None => NoteBlock::silent(),
+        }
+    }
+
+    /// Ends a block that was run, with the two samples that it left.
+    pub fn end_block(&mut self, memory: [i32; 2])
+        ensures ended { (n : NoteData) → IsNoteBegun self.old n → memory_of memory ≡ memory_before n (length n.past) → IsNote self.new (Some n) }
+        ensures stays_idle { IsNote self.old None → IsNote self.new None }
+    {
+        if let Some(sounding) = &mut self.sounding {
+            sounding.end_block(memory);
         }
     }
 }

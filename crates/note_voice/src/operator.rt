@@ -1,23 +1,43 @@
-ghost use Rattle.std.specs.Prelude.{◌≡◌, ◌≤◌, ◌*◌, ◌^◌, ℕ, length, pos, neg_ℤ, ◌≤ℤ◌};
+ghost use Rattle.std.specs.Prelude.{◌≡◌, ◌≤◌, ◌*◌, ◌^◌, ◌+◌, ℕ, ℤ, length, pos, neg_ℤ, ◌≤ℤ◌, ◌+ℤ◌};
+ghost use Rattle.dx_tables.specs.Powers.{frequency};
 ghost use Rattle.operator_kernel.specs.Operator.{HasGains};
 ghost use Rattle.note_voice.specs.Modulation.{Modulation, gain_of};
-ghost use Rattle.note_voice.specs.Note.{NoteData, begun, let_go, heard, played_note, operator_in, step_in, drop_in};
+ghost use Rattle.note_voice.specs.Note.{NoteData, begun, let_go, heard, played_note, operator_in, pitch_shift_in};
 
+use crate::modulation::{level_drop, tremolo_weight};
 use crate::settings;
 use block_rates::Envelope;
 use dx_tables::Tables;
-use key_scale::{out_level, rate_scale};
+use key_scale::{operator_pitch, out_level, rate_scale};
 use operator_kernel::OpBlock;
 use voice_record::Voice;
 
-/// An operator of a note: its phase, its gain at the end of the last block, and its envelope.
+/// An operator of a note: its phase, its gain at the end of the last block, and its envelope; of the voice, from the start on, its pitch and
+/// how deep the oscillator moves its gain; and the phase increment at the pitch of the last block.
 #[derive(Clone, Copy)]
 pub(crate) struct Operator {
     phase: i32,
     gain: i32,
     envelope: Envelope,
+    pitch: i32,
+    weight: u32,
+    increment: i32,
     ghost gain_from_zero: { pos 0 ≤ℤ gain },
     ghost gain_small: { gain ≤ℤ pos (2 ^ 26) },
+    ghost pitch_from_zero: { pos 0 ≤ℤ pitch },
+    ghost pitch_small: { pitch ≤ℤ pos (2 ^ 29) },
+    ghost weight_small: { weight ≤ 65025 },
+}
+
+/// The phase increment at a pitch that is moved by a shift.
+fn increment_at(tables: &Tables, pitch: i32, shift: i32) -> i32
+    requires pitch_low { pos 0 ≤ℤ pitch }
+    requires pitch_high { pitch ≤ℤ pos (2 ^ 29) }
+    requires shift_low { neg_ℤ (pos (2 ^ 27)) ≤ℤ shift }
+    requires shift_high { shift ≤ℤ pos (2 ^ 27) }
+    ensures { result ≡ frequency (pitch +ℤ shift) }
+{
+    tables.freq(pitch + shift)
 }
 
 /// The gain at a level of the envelope that is taken down by a drop.
@@ -37,16 +57,23 @@ fn gain(tables: &Tables, level: i32, drop: i32) -> i32
 impl Operator {
     ghost use Rattle.note_voice.specs.Running.{IsOperator};
 
-    /// Operator 1 to 6 of a note that begins: phase 0, gain 0, and its envelope in stage 1.
-    pub(crate) fn start(voice: &Voice, operator: u8, note: i32, velocity: u8) -> Operator
+    /// Operator 1 to 6 of a note that begins: phase 0, gain 0, its envelope in stage 1, and its pitch not moved.
+    pub(crate) fn start(
+        tables: &Tables,
+        voice: &Voice,
+        operator: u8,
+        note: i32,
+        velocity: u8,
+    ) -> Operator
         requires operator { (1 ≤ operator) × (operator ≤ 6) }
         requires note_low { neg_ℤ (pos 24) ≤ℤ note }
         requires note_high { note ≤ℤ pos 151 }
         requires velocity { (1 ≤ velocity) × (velocity ≤ 127) }
-        ensures { (switch key : ℕ) → note ≡ played_note voice.now key → IsOperator result operator (begun voice.now switch key velocity) }
+        ensures { (switch key : ℕ) → note ≡ played_note voice.now key → IsOperator result (pos 0) operator (begun voice.now switch key velocity) }
     {
         let out = out_level(voice, operator, note, velocity);
         let scale = rate_scale(voice, operator, note);
+        let pitch = operator_pitch(tables, voice, operator, note);
         Operator {
             phase: 0,
             gain: 0,
@@ -56,29 +83,42 @@ impl Operator {
                 out,
                 scale,
             ),
+            pitch,
+            weight: tremolo_weight(voice, operator),
+            increment: increment_at(tables, pitch, 0),
         }
     }
 
     /// Lets the key go: the envelope enters its last stage.
     pub(crate) fn release(&mut self)
-        ensures { (n : NoteData) (operator : ℕ) → IsOperator self.old operator n → IsOperator self.new operator (let_go n) }
+        ensures { (n : NoteData) (shift : ℤ) (operator : ℕ) → IsOperator self.old shift operator n → IsOperator self.new shift operator (let_go n) }
     {
         self.envelope.release();
     }
 
-    /// What the operator does in the next block, with this phase step and this drop of its level. The block then has
-    /// passed.
-    pub(crate) fn pass(&mut self, tables: &Tables, step: i32, drop: i32) -> OpBlock
-        requires drop_low { neg_ℤ (pos 509) ≤ℤ drop }
-        requires drop_high { drop ≤ℤ pos (2 ^ 27) }
-        ensures gains { HasGains result }
-        ensures block { (n : NoteData) (m : Modulation) (operator : ℕ) → IsOperator self.old operator n → step ≡ step_in (heard n m) operator (length n.past) → drop ≡ drop_in (heard n m) operator (length n.past) → result ≡ operator_in (heard n m) operator (length n.past) }
-        ensures passed { (n : NoteData) (m : Modulation) (operator : ℕ) → IsOperator self.old operator n → step ≡ step_in (heard n m) operator (length n.past) → drop ≡ drop_in (heard n m) operator (length n.past) → IsOperator self.new operator (heard n m) }
+    /// Takes another shift of its pitch.
+    pub(crate) fn tune(&mut self, tables: &Tables, shift: i32)
+        requires shift_low { neg_ℤ (pos (2 ^ 27)) ≤ℤ shift }
+        requires shift_high { shift ≤ℤ pos (2 ^ 27) }
+        ensures { (n : NoteData) (before : ℤ) (operator : ℕ) → IsOperator self.old before operator n → IsOperator self.new shift operator n }
     {
+        self.increment = increment_at(tables, self.pitch, shift);
+    }
+
+    /// What the operator does in the next block, whose shift of the pitch it has taken. The block then has passed.
+    pub(crate) fn pass(&mut self, tables: &Tables, lfo: i32, delay: u32) -> OpBlock
+        requires lfo_low { neg_ℤ (pos 64) ≤ℤ lfo }
+        requires lfo_high { lfo ≤ℤ pos (2 ^ 24 + 64) }
+        requires delay { delay ≤ 2 ^ 24 }
+        ensures gains { HasGains result }
+        ensures block { (n : NoteData) (m : Modulation) (shift : ℤ) (operator : ℕ) → IsOperator self.old shift operator n → shift ≡ pitch_shift_in (heard n m) (length n.past) → m.lfo ≡ lfo → m.delay ≡ delay → result ≡ operator_in (heard n m) operator (length n.past) }
+        ensures passed { (n : NoteData) (m : Modulation) (shift : ℤ) (operator : ℕ) → IsOperator self.old shift operator n → shift ≡ pitch_shift_in (heard n m) (length n.past) → m.lfo ≡ lfo → m.delay ≡ delay → IsOperator self.new shift operator (heard n m) }
+    {
+        let drop = level_drop(self.weight, lfo, delay);
         let level = self.envelope.step();
         let op = OpBlock {
             phase: self.phase,
-            freq: step,
+            freq: self.increment,
             g1: self.gain,
             g2: gain(tables, level, drop),
         };

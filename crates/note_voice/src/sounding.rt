@@ -1,43 +1,59 @@
 ghost use Rattle.std.specs.Prelude.{◌≡◌, ◌≤◌, ◌^◌, ◌+◌, ℕ, length, pos, neg_ℤ, ◌≤ℤ◌};
-ghost use Rattle.algorithm_bus.specs.Buses.{IsBus};
-ghost use Rattle.note_voice.specs.Note.{NoteData, begun, let_go, heard, note_sample};
+ghost use Rattle.operator_kernel.specs.Operator.{memory_of};
+ghost use Rattle.algorithm_bus.specs.NoteBlocks.{block_patch};
+ghost use Rattle.note_voice.specs.Note.{NoteData, begun, let_go, heard, memory_before, note_patch};
 
 use crate::modulation::pitch_modulation;
 use crate::operator::Operator;
-use crate::operators::{pass_all, release_all, start_all};
+use crate::operators::{pass_all, release_all, start_all, tune_all};
 use crate::settings;
-use algorithm_bus::run_note;
+use algorithm_bus::NoteBlock;
 use block_rates::PitchEnvelope;
 use dx_tables::Tables;
 use voice_record::Voice;
 
-/// A note that sounds.
+/// A note that sounds. What it takes from its voice it takes at its start: no block reads the voice again.
 #[derive(Clone, Copy)]
 pub(crate) struct Sounding {
-    voice: Voice,
+    algorithm: u8,
+    feedback: u8,
+    depth: u8,
+    sensitivity: u8,
     switch: u8,
-    key: u8,
     operators: [Operator; 6],
+    shift: i32,
     pitch: PitchEnvelope,
     memory: [i32; 2],
-    ghost key_bound: { key ≤ 127 },
+    ghost algorithm_bound: { algorithm ≤ 31 },
+    ghost feedback_bound: { feedback ≤ 7 },
+    ghost depth_bound: { depth ≤ 99 },
+    ghost sensitivity_bound: { sensitivity ≤ 7 },
 }
 
 impl Sounding {
-    ghost use Rattle.note_voice.specs.Running.{IsSounding};
+    ghost use Rattle.note_voice.specs.Running.{IsSounding, IsUnended};
 
     /// A note that begins.
-    pub(crate) fn start(voice: &Voice, switch: u8, key: u8, velocity: u8) -> Sounding
+    pub(crate) fn start(
+        tables: &Tables,
+        voice: &Voice,
+        switch: u8,
+        key: u8,
+        velocity: u8,
+    ) -> Sounding
         requires key { key ≤ 127 }
         requires velocity { (1 ≤ velocity) × (velocity ≤ 127) }
         ensures { IsSounding result (begun voice.now switch key velocity) }
     {
         let note = settings::played_note(voice, key);
         Sounding {
-            voice: *voice,
+            algorithm: settings::algorithm(voice),
+            feedback: settings::feedback(voice),
+            depth: settings::pitch_depth(voice),
+            sensitivity: settings::pitch_sensitivity(voice),
             switch,
-            key,
-            operators: start_all(voice, note, velocity),
+            operators: start_all(tables, voice, note, velocity),
+            shift: 0,
             pitch: PitchEnvelope::new(settings::pitch_rates(voice), settings::pitch_levels(voice)),
             memory: [0, 0],
         }
@@ -51,47 +67,48 @@ impl Sounding {
         self.pitch.release();
     }
 
-    /// The 64 samples of the next block, which then has passed.
-    pub(crate) fn block(
+    /// What is to be run in the next block. All but the two samples that come back then stands for the note one block later.
+    pub(crate) fn begin_block(
         &mut self,
         tables: &Tables,
         lfo: i32,
         delay: u32,
         bend: u16,
         wheel: u8,
-    ) -> [i32; 64]
+    ) -> NoteBlock
         requires lfo_low { neg_ℤ (pos 64) ≤ℤ lfo }
         requires lfo_high { lfo ≤ℤ pos (2 ^ 24 + 64) }
         requires delay { delay ≤ 2 ^ 24 }
         requires bend { bend ≤ 16383 }
         requires wheel { wheel ≤ 127 }
-        ensures samples { (n : NoteData) → IsSounding self.old n → IsBus (note_sample (heard n (record { lfo = lfo; delay = delay; bend = bend; wheel = wheel })) (length n.past)) result }
-        ensures passed { (n : NoteData) → IsSounding self.old n → IsSounding self.new (heard n (record { lfo = lfo; delay = delay; bend = bend; wheel = wheel })) }
+        ensures block { (n : NoteData) → IsSounding self.old n → block_patch result ≡ note_patch (heard n (record { lfo = lfo; delay = delay; bend = bend; wheel = wheel })) (length n.past) }
+        ensures begun { (n : NoteData) → IsSounding self.old n → IsUnended self.new (heard n (record { lfo = lfo; delay = delay; bend = bend; wheel = wheel })) }
     {
-        let note = settings::played_note(&self.voice, self.key);
         let level = self.pitch.step();
-        let shift = pitch_modulation(&self.voice, level, lfo, delay, bend, wheel);
-        let ops = pass_all(
-            &mut self.operators,
-            tables,
-            &self.voice,
-            self.switch,
-            note,
-            shift,
+        let shift = pitch_modulation(
+            self.depth,
+            self.sensitivity,
+            level,
             lfo,
             delay,
+            bend,
+            wheel,
         );
-        let mut bus = [0i32; 64];
-        let algorithm = settings::algorithm(&self.voice);
-        let feedback = settings::feedback(&self.voice);
-        run_note(
-            tables,
-            algorithm,
-            feedback,
-            &ops,
-            &mut self.memory,
-            &mut bus,
-        );
-        bus
+        tune_all(&mut self.operators, tables, self.shift, shift);
+        self.shift = shift;
+        let ops = pass_all(&mut self.operators, tables, self.switch, lfo, delay);
+        NoteBlock {
+            algorithm: self.algorithm,
+            feedback: self.feedback,
+            ops,
+            memory: self.memory,
+        }
+    }
+
+    /// Takes the two samples that come back, once the block was run.
+    pub(crate) fn end_block(&mut self, memory: [i32; 2])
+        ensures { (n : NoteData) → IsUnended self.old n → memory_of memory ≡ memory_before n (length n.past) → IsSounding self.new n }
+    {
+        self.memory = memory;
     }
 }

@@ -6,7 +6,7 @@ use crate::plain::{PlainNote, block, movement};
 use dx_tables::Tables;
 use std::process::Abort;
 use std::test::Fail;
-use voice_record::Voice;
+use voice_record::{Voice, greatest};
 
 /// The sum of no notes.
 fn nothing() -> [i64; 64]
@@ -52,13 +52,13 @@ fn compare(rt: &impl Abort, tables: &Tables, plain: &PlainNote) -> u32
     sounding
 }
 
-/// A voice whose numbers look random, with levels that are heard.
+/// A voice whose numbers look random, each modulo its greatest value and one, with levels that are heard.
 fn voice_of(seed: u32) -> Voice {
     let mut numbers = [0u8; 155];
-    let mut random = seed;
+    let mut random = seed.wrapping_mul(2_654_435_761);
     for i in 0..155usize {
         random = random.wrapping_mul(1_664_525).wrapping_add(1_013_904_223);
-        numbers[i] = (random >> 24) as u8;
+        numbers[i] = ((random >> 16) % (u32::from(greatest(i as u8)) + 1)) as u8;
         if i < 126 && i % 21 == 16 {
             numbers[i] = 90 + numbers[i] % 10;
         }

@@ -1,4 +1,7 @@
-pub mod Commands
-pub mod Plans
-pub mod Journals
+pub mod Surveys
+pub mod Grammar
 pub mod Writes
+pub mod Counts
+pub mod Clauses
+pub mod Runs
+pub mod Stages

@@ -5,9 +5,9 @@ use Rattle.std.specs.FinMap.{get, insert}
 use Rattle.std.proofs.Math.Seq.{take-length}
 use Rattle.outside.specs.Files.{Files, created, appended, Lacks, AppendedSome}
 use Rattle.outside.proofs.Shelves.{get-insert_same, get-insert_other, get-first, appended_first, appended_second, then_mapped, mapped_alike}
-use Rattle.play_core.specs.Taken.{with_two, AreBegun, IsStopped}
-use Rattle.play_core.specs.declared.writing.Target.{Target}
-use Rattle.play_core.specs.declared.writing.Target.TheVariants.{Sound, Order}
+use Rattle.play_core.specs.Files.{with_two, AreBegun, IsStopped}
+use Rattle.turns.specs.declared.target.Target.{Target}
+use Rattle.turns.specs.declared.target.Target.TheVariants.{Sound, Order}
 
 module _ (out order : List ℕ) (ne : out ≢ order) where
   pub begun_none : (o : Option Files) (sound text : List ℕ) → AreBegun o o out sound order text

@@ -1,18 +1,27 @@
--- The journal of a script by itself, and the report of a run.
-use Rattle.std.specs.Prelude.{ℕ, ◌+◌, List, [], ◌∷◌, ◌++◌, length, codes, decimal}
-use Rattle.command_set.specs.Command.{content}
-use Rattle.command_set.specs.Entries.{LoggedData}
-use Rattle.play_core.specs.declared.line.Due.{Due}
+-- What a run leaves of the two files that it writes.
+use Rattle.std.specs.Prelude.{◌≡◌, ◌≢◌, ◌⊎◌, ℕ, ◌≤◌, List, [], length, Option, Some, option_map, take}
+use Rattle.std.specs.FinMap.{insert}
+use Rattle.outside.specs.Files.{Files, created, file_of}
+use Rattle.turns.specs.declared.target.Target.{Target}
+use Rattle.turns.specs.declared.target.Target.TheVariants.{Sound, Order}
 
--- command i of the first script, taken at its due block
-abbrev pub logged : ℕ → Due → LoggedData
-logged i due = record { block = due.block; entry = record { script = 0; seq = i; sent_at = due.block; command = content due.command } }
+-- the files with these two in the place of what they were
+abbrev pub with_two : List ℕ → List ℕ → List ℕ → List ℕ → Files → Files
+with_two out sound name text files = insert (insert files out sound) name text
 
--- the commands of the first script from number i on, each taken at its due block
-unfoldable pub journal_from : ℕ → List Due → List LoggedData
-journal_from i [] = []
-journal_from i (due ∷ dues) = logged i due ∷ journal_from (i + 1) dues
+-- a file is as before, or the front of its whole bytes
+abbrev pub IsBegun : Option (List ℕ) → Option (List ℕ) → List ℕ → Type 0
+IsBegun before now whole = (now ≡ before) ⊎ ((count : ℕ) × (now ≡ Some (take count whole)))
 
--- the report
-unfoldable pub report : List LoggedData → ℕ → List ℕ
-report journal blocks = codes "ok blocks " ++ (decimal blocks ++ (codes " commands " ++ (decimal (length journal) ++ 10 ∷ [])))
+-- of the two files each is as before or begun, and all others are as before
+pub record AreBegun (before now : Option Files) (out sound name text : List ℕ) : Type 0 where
+  pub out_begun : IsBegun (file_of before out) (file_of now out) sound
+  pub order_begun : IsBegun (file_of before name) (file_of now name) text
+  pub others : (other : List ℕ) → other ≢ out → other ≢ name → file_of now other ≡ file_of before other
+
+-- The files where a write failed: first the sound file is made, then the order file, then the bytes of the first are appended, then those of the other.
+abbrev pub IsStopped : Target → Option Files → Option Files → List ℕ → List ℕ → List ℕ → List ℕ → Type 0
+IsStopped Sound before now out sound name text =
+    (now ≡ before) ⊎ ((count : ℕ) × (count ≤ length sound) × (now ≡ option_map (with_two out (take count sound) name []) before))
+IsStopped Order before now out sound name text =
+    (now ≡ option_map (created out) before) ⊎ ((count : ℕ) × (count ≤ length text) × (now ≡ option_map (with_two out sound name (take count text)) before))

@@ -1,6 +1,9 @@
-pub mod Script
-pub mod Files
 pub mod Words
-pub mod Taken
+pub mod Verdict
 pub mod Refused
-pub mod Said
+pub mod Survey
+pub mod Lines
+pub mod Files
+pub mod Run
+pub mod Stage
+pub mod Headline

@@ -1,39 +1,53 @@
--- Why a take is refused before a file is touched.
-use Rattle.std.specs.Prelude.{◌≡◌, ◌⊎◌, ℕ, ◌<◌, ◌≤◌, List, length, Option, IfSome, IsSomeAnd}
-use Rattle.std.specs.FinMap.{get}
+-- Why nothing is played.
+use Rattle.std.specs.Prelude.{◌≡◌, ◌⊎◌, ℕ, ◌<◌, List, [], take, length, Option, IfSome, slice_index_or}
 use Rattle.outside.specs.Files.{Files, Lacks}
 use Rattle.outside.specs.Faults.{Rose}
 use Rattle.play_core.specs.declared.refusal.Refusal.{Refusal}
-use Rattle.play_core.specs.declared.refusal.Refusal.TheVariants.{Read, TooLong, Form, Many, Memory}
-use Rattle.play_core.specs.Script.{Plan, TooMany, NotYet, plan}
-use Rattle.play_core.specs.Taken.{IsPlan}
+use Rattle.play_core.specs.declared.refusal.Refusal.TheVariants as why
+use Rattle.play_core.specs.Verdict.{Verdict, LongFile, LongScripts, Faulty, ManyCommands, ManyBlocks, nothing, of_scripts, IsPlayed}
 
--- where the files are told, the named one is there and this holds of it
-abbrev pub Finds : Option Files → List ℕ → (List ℕ → Type 0) → Type 0
-Finds files name P = IfSome files (λ told. IsSomeAnd (get told name) P)
+-- the refusal tells this verdict, where it tells one
+abbrev pub Tells : Refusal → Verdict → Type 0
+Tells (why.Unread number) said = Unit {0}
+Tells why.LongFile said = said ≡ LongFile
+Tells why.LongScripts said = said ≡ LongScripts
+Tells (why.Fault number place kind) said = said ≡ Faulty number place kind
+Tells why.ManyCommands said = said ≡ ManyCommands
+Tells why.ManyBlocks said = said ≡ ManyBlocks
+Tells why.Memory said = Unit {0}
 
--- the longest script
-abbrev pub script_limit : ℕ
-script_limit = 16777216
+-- the refusal is not that a script was not read
+abbrev pub IsOfContent : Refusal → Type 0
+IsOfContent (why.Unread number) = ⊥
+IsOfContent why.LongFile = Unit {0}
+IsOfContent why.LongScripts = Unit {0}
+IsOfContent (why.Fault number place kind) = Unit {0}
+IsOfContent why.ManyCommands = Unit {0}
+IsOfContent why.ManyBlocks = Unit {0}
+IsOfContent why.Memory = Unit {0}
 
--- the reason of each refusal, with the count of reading faults before the call and after it
-abbrev pub HasReason : Refusal → ℕ → Option Files → List ℕ → ℕ → ℕ → Type 0
-HasReason Read blocks files script before now = Rose before now ⊎ Lacks files script
-HasReason TooLong blocks files script before now = (now ≡ before) × Finds files script (λ file. script_limit < length file)
-HasReason Form blocks files script before now = (now ≡ before) × Finds files script (λ file. (length file ≤ script_limit) × (plan blocks file ≡ NotYet))
-HasReason Many blocks files script before now = (now ≡ before) × Finds files script (λ file. (length file ≤ script_limit) × (plan blocks file ≡ TooMany))
-HasReason Memory blocks files script before now = now ≡ before
+-- Script number k was not read: a read failed and was counted, or the told files lack its name. Every script before it is good.
+pub record IsUnread (k : ℕ) (blocks : Option ℕ) (files : Option Files) (names : List (List ℕ)) (before now : ℕ) : Type 0 where
+  pub within : k < length names
+  pub cause : Rose before now ⊎ Lacks files (slice_index_or names k [])
+  pub earlier : IfSome files (λ told. IsPlayed (of_scripts told blocks nothing (take k names)))
 
--- why a text is no plan of commands
-abbrev pub IsPlanFault : Refusal → Plan → Type 0
-IsPlanFault Read said = ⊥
-IsPlanFault TooLong said = ⊥
-IsPlanFault Form said = said ≡ NotYet
-IsPlanFault Many said = said ≡ TooMany
-IsPlanFault Memory said = Unit {0}
+-- why nothing is played, of these scripts, with the count of reading faults before and after
+abbrev pub HasCause : Refusal → Option ℕ → Option Files → List (List ℕ) → ℕ → ℕ → Type 0
+HasCause (why.Unread k) blocks files names before now = IsUnread k blocks files names before now
+HasCause why.LongFile blocks files names before now = now ≡ before
+HasCause why.LongScripts blocks files names before now = now ≡ before
+HasCause (why.Fault number place kind) blocks files names before now = now ≡ before
+HasCause why.ManyCommands blocks files names before now = now ≡ before
+HasCause why.ManyBlocks blocks files names before now = now ≡ before
+HasCause why.Memory blocks files names before now = now ≡ before
 
--- where the named script is there, not too long and of the form, and no count of faults rose
-abbrev pub OnSuccess : Option Files → List ℕ → ℕ → Type 0 → Type 0 → Type 0 → Type 0 → Type 0
-OnSuccess files script blocks read_failed write_failed put_failed P =
-    IfSome files (λ told. IfSome (get told script) (λ file.
-    length file ≤ script_limit → IsPlan (plan blocks file) → ¬ read_failed → ¬ write_failed → ¬ put_failed → P))
+-- a script that was not read is one of so many
+abbrev pub IsWithin : Refusal → ℕ → Type 0
+IsWithin (why.Unread k) count = k < count
+IsWithin why.LongFile count = Unit {0}
+IsWithin why.LongScripts count = Unit {0}
+IsWithin (why.Fault number place kind) count = Unit {0}
+IsWithin why.ManyCommands count = Unit {0}
+IsWithin why.ManyBlocks count = Unit {0}
+IsWithin why.Memory count = Unit {0}

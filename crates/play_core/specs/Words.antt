@@ -1,31 +1,44 @@
 -- The words that the program takes.
-use Rattle.std.specs.Prelude.{ℕ, List, [], ◌∷◌, Option, None, option_map, Bool, not, ◌&&◌, nat_lt, length, bytes_eq, codes, if◌then◌else◌}
+use Rattle.std.specs.Prelude.{ℕ, List, [], ◌∷◌, Option, Some, None, option_map, option_and_then, Bool, not, ◌&&◌, nat_lt, nat_le, length, map, string_bytes, bytes_eq, codes, if◌then◌else◌}
+use Rattle.std.specs.List.{list_all}
 use Rattle.play_core.specs.declared.words.Request.{Request}
 use Rattle.plain_text.specs.Number.{number}
 
--- what is asked for: the two files to write, the number of blocks and the script to read
+-- What is asked for: the two files to write, the number of blocks and of places, or none of its own where the word is `-`, and the scripts to read.
 pub record Asked : Type 0 where
   pub out : List ℕ
   pub order : List ℕ
-  pub blocks : ℕ
-  pub script : List ℕ
+  pub blocks : Option ℕ
+  pub places : Option ℕ
+  pub scripts : List (List ℕ)
 
 -- the same of a value of the program
 abbrev pub asked : Request → Asked
-asked r = record { out = r.out.now; order = r.order.now; blocks = r.blocks; script = r.script.now }
+asked r = record { out = r.out.now; order = r.order.now; blocks = r.blocks; places = r.places; scripts = map string_bytes r.scripts.now }
 
--- no name is empty, and no two are the same
-abbrev pub are_names : List ℕ → List ℕ → List ℕ → Bool
-are_names a b c =
-    nat_lt 0 (length a) && nat_lt 0 (length b) && nat_lt 0 (length c) && not (bytes_eq a b) && not (bytes_eq a c) && not (bytes_eq b c)
+-- `-`, or a number within these bounds
+abbrev pub choice : ℕ → ℕ → List ℕ → Option (Option ℕ)
+choice least most word = if bytes_eq word (codes "-") then Some None else option_map Some (number least most word)
 
--- OUT ORDER BLOCKS PLACES SCRIPT
-abbrev pub asked_of : List ℕ → List ℕ → List ℕ → List ℕ → List ℕ → Option Asked
-asked_of out order blocks places script =
-    if are_names out order script && bytes_eq places (codes "-")
-    then option_map (λ n. record { out = out; order = order; blocks = n; script = script }) (number 1 1048576 blocks)
+-- the name of a script: not empty, and neither of the two files that are written
+abbrev pub is_script : List ℕ → List ℕ → List ℕ → Bool
+is_script out order name = nat_lt 0 (length name) && not (bytes_eq out name) && not (bytes_eq order name)
+
+-- one to 256 scripts
+abbrev pub are_scripts : List ℕ → List ℕ → List (List ℕ) → Bool
+are_scripts out order names = (nat_lt 0 (length names) && nat_le (length names) 256) && list_all (λ name. is_script out order name) names
+
+-- the two files have names, and differ
+abbrev pub are_files : List ℕ → List ℕ → Bool
+are_files out order = nat_lt 0 (length out) && nat_lt 0 (length order) && not (bytes_eq out order)
+
+-- OUT ORDER BLOCKS PLACES SCRIPT...
+abbrev pub asked_of : List ℕ → List ℕ → List ℕ → List ℕ → List (List ℕ) → Option Asked
+asked_of out order blocks places scripts =
+    if are_files out order && are_scripts out order scripts
+    then option_and_then (λ b. option_map (λ p. record { out = out; order = order; blocks = b; places = p; scripts = scripts }) (choice 1 1000000 places)) (choice 1 1048576 blocks)
     else None
 
 abbrev pub asked_by : List (List ℕ) → Option Asked
-asked_by (out ∷ order ∷ blocks ∷ places ∷ script ∷ []) = asked_of out order blocks places script
+asked_by (out ∷ order ∷ blocks ∷ places ∷ scripts) = asked_of out order blocks places scripts
 asked_by words = None

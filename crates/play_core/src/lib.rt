@@ -1,26 +1,18 @@
-//! What the program `play` does: it reads a script, and writes its sound and its order.
+//! What the program `play` does.
 #![tactic(auto)]
 
-mod journal;
-mod line;
-mod making;
+mod lines;
 mod play;
-mod prepare;
 mod refusal;
-mod saying;
-mod script;
-mod surely;
+mod stage;
+mod survey;
 mod top;
+mod totals;
 mod words;
 mod writing;
 
-pub use line::Due;
 pub use refusal::Refusal;
-pub use surely::play_surely;
+pub use stage::Stage;
 pub use top::play_main;
+pub use totals::Totals;
 pub use words::Request;
-
-#[cfg(test)]
-mod one_byte;
-#[cfg(test)]
-mod tests;

@@ -1,128 +1,182 @@
-ghost use Rattle.std.specs.Prelude.{◌≡◌, ◌≢◌, ◌⊎◌, ◌<◌, ◌≤◌, [], ◌∷◌, IfSome, length, option_map, string_bytes};
-ghost use Rattle.outside.specs.Files.{Lacks, said};
-ghost use Rattle.outside.specs.Faults.{Rose};
-ghost use Rattle.play_core.specs.Script.{NotYet, plan};
-ghost use Rattle.take_files.specs.Files.{order as order_of, wav};
-ghost use Rattle.play_core.specs.Files.{report};
-ghost use Rattle.play_core.specs.Taken.{AreBegun, HalfTaken, IsPlan, journal_in, taken, with_two};
+//! A run: the scripts are read, all is made ready, both files are begun, all turns are played, and the report is put.
+ghost use Rattle.std.specs.Prelude.{◌≡◌, ◌≢◌, ◌⊎◌, ◌≤◌, ◌<◌, ◌-◌, ◌==◌, IfSome, IfOk, IfErr, OnOk, length, map, option_map, string_bytes, if◌then◌else◌};
 ghost use Rattle.play_core.specs.Words.{asked};
-ghost use Rattle.play_core.specs.Refused.{Finds, OnSuccess, script_limit};
-ghost use Rattle.fault_lines.specs.Statuses.{IsOneOf};
-ghost use Rattle.play_core.specs.Said.{SaysLimit, SaysOfWrite, not_yet};
-ghost use Rattle.fault_lines.specs.Lines.{Says, cannot_read, limit_commands, limit_file, out_of_memory};
+ghost use Rattle.play_core.specs.Verdict.{block_limit, command_limit, count_all, verdict};
+ghost use Rattle.play_core.specs.Refused.{HasCause, IsWithin, Tells};
+ghost use Rattle.play_core.specs.Run.{HavePlans, HasReported, IsPlayedRun, IsRun, moment};
+ghost use Rattle.play_core.specs.Stage.{IsStage};
+ghost use Rattle.turns.specs.Turns.{plans_of};
+ghost use Rattle.outside.specs.Faults.{HasCause as HasFault};
+ghost use Rattle.fault_lines.specs.Lines.{Says, cannot_write};
+ghost use Rattle.take_files.specs.Files.{wav_header as wav_bytes, order_header as order_bytes};
+ghost use Rattle.play_core.specs.Lines.{report};
+ghost use Rattle.play_core.specs.Files.{IsStopped, with_two};
 
-use crate::making::Take;
-use crate::prepare::prepare;
+use crate::lines::{refuse, report_of};
 use crate::refusal::Refusal;
-use crate::saying::say_not_yet;
+use crate::stage::{Stage, choose_blocks, set_stage};
+use crate::survey::read_scripts;
 use crate::words::Request;
-use crate::writing::{Target, write_files};
-use fault_lines::{
-    say_cannot_read, say_cannot_write, say_limit_commands, say_limit_file, say_out_of_memory,
-};
-use outside::{Out, Shelf, put_all};
+use crate::writing::write_files;
+use fault_lines::say_cannot_write;
+use instrument::Engine;
+use outside::{Gate, Out, Shelf, put_all};
+use plain_text::LineText;
 use std::alloc::Global;
+use std::sync::Wait;
+use std::thread::Threads;
+use take_files::{order_header, wav_header};
+use turns::{Target, play_scripts};
+use velocity_map::MapSet;
 
 /// Does what is asked for, and answers the status.
-pub(crate) fn play<S: Shelf, O: Out>(
+pub(crate) fn play<R: Threads + Wait + Sync, S: Shelf, O: Out, G: Gate>(
+    rt: &R,
     alloc: Global,
     request: Request<'_>,
     shelf: &mut S,
     out: &mut O,
+    gate: &G,
+    maps: &MapSet,
 ) -> u8
-    requires blocks { request.blocks ≤ 1048576 }
     requires differ { request.out.now ≢ request.order.now }
-    ensures status { IsOneOf result (0 ∷ 2 ∷ 3 ∷ 4 ∷ 6 ∷ 8 ∷ []) }
-    ensures read { result ≡ 2 → Rose (S.reading shelf.old) (S.reading shelf.new) ⊎ Lacks (S.files shelf.old) request.entry.script.now }
-    ensures form { result ≡ 4 → Finds (S.files shelf.old) request.entry.script.now (λ file.
-        (length file ≤ script_limit) × (plan request.entry.blocks file ≡ NotYet)) }
-    ensures limit { result ≡ 6 → Finds (S.files shelf.old) request.entry.script.now (λ file.
-        SaysLimit request.entry.blocks file (O.written out.old) (O.written out.new) (O.faults out.old) (O.faults out.new)) }
-    ensures right { result ≡ 0 ⊎ result ≡ 3 → Finds (S.files shelf.old) request.entry.script.now (λ file.
-        (length file ≤ script_limit) × IsPlan (plan request.entry.blocks file)) }
-    ensures kept { result ≢ 2 → S.reading shelf.new ≡ S.reading shelf.old }
-    ensures write { result ≡ 3 → Rose (S.writing shelf.old) (S.writing shelf.new) ⊎ Rose (O.faults out.old) (O.faults out.new) }
-    ensures untouched { result ≢ 0 → result ≢ 3 → S.files shelf.new ≡ S.files shelf.old }
-    ensures done { result ≡ 0 → S.files shelf.new ≡ option_map (taken (asked request.entry)) (S.files shelf.old) }
-    ensures reported { result ≡ 0 → IfSome (S.files shelf.old) (λ told.
-        O.written out.new ≡ option_map (said (report (journal_in (asked request.entry) told) request.entry.blocks)) (O.written out.old)) }
-    ensures begun { result ≡ 3 → IfSome (S.files shelf.old) (λ told. HalfTaken (asked request.entry) told (S.files shelf.new)) }
-    ensures write_line { result ≡ 3 → IfSome (S.files shelf.old) (λ told. SaysOfWrite
-        request.entry.out.now (wav (journal_in (asked request.entry) told) request.entry.blocks)
-        request.entry.order.now (order_of (journal_in (asked request.entry) told) request.entry.blocks 1)
-        (report (journal_in (asked request.entry) told) request.entry.blocks)
-        (S.files shelf.old) (S.files shelf.new) (S.writing shelf.old) (S.writing shelf.new)
-        (O.written out.old) (O.written out.new) (O.faults out.old) (O.faults out.new)) }
-    ensures read_line { result ≡ 2 → Says (cannot_read request.entry.script.now) (O.written out.old) (O.written out.new) (O.faults out.old) (O.faults out.new) }
-    ensures form_line { result ≡ 4 → Says not_yet (O.written out.old) (O.written out.new) (O.faults out.old) (O.faults out.new) }
-    ensures limit_line { result ≡ 6 → Says limit_file (O.written out.old) (O.written out.new) (O.faults out.old) (O.faults out.new)
-        ⊎ Says limit_commands (O.written out.old) (O.written out.new) (O.faults out.old) (O.faults out.new) }
-    ensures memory_line { result ≡ 8 → Says out_of_memory (O.written out.old) (O.written out.new) (O.faults out.old) (O.faults out.new) }
-    ensures complete { OnSuccess (S.files shelf.old) request.entry.script.now request.entry.blocks
-        (Rose (S.reading shelf.old) (S.reading shelf.new)) (Rose (S.writing shelf.old) (S.writing shelf.new)) (Rose (O.faults out.old) (O.faults out.new))
-        (IsOneOf result (0 ∷ 8 ∷ [])) }
+    requires scripts { (1 ≤ length request.scripts.now) × (length request.scripts.now ≤ 256) }
+    requires blocks { IfSome request.blocks (λ b. (1 ≤ b) × (b ≤ block_limit)) }
+    requires places { IfSome request.places (λ p. (1 ≤ p) × (p ≤ 1000000)) }
+    ensures { IsRun (asked request.entry)
+        (moment (S.files shelf.old) (S.reading shelf.old) (S.writing shelf.old) (O.written out.old) (O.faults out.old))
+        (moment (S.files shelf.new) (S.reading shelf.new) (S.writing shelf.new) (O.written out.new) (O.faults out.new)) result }
 {
-    match prepare(alloc, shelf, request.script, request.blocks) {
-        Ok(take) => carry_out(shelf, out, request.out, request.order, &take),
-        Err(Refusal::Read) => {
-            say_cannot_read(out, request.script);
-            2
-        }
-        Err(Refusal::Form) => {
-            say_not_yet(out);
-            4
-        }
-        Err(Refusal::TooLong) => {
-            say_limit_file(out);
-            6
-        }
-        Err(Refusal::Many) => {
-            say_limit_commands(out);
-            6
-        }
-        Err(Refusal::Memory) => {
-            say_out_of_memory(out);
-            8
-        }
+    match prepare(alloc, shelf, request, maps) {
+        Ok(stage) => perform(rt, shelf, out, request, stage, gate),
+        Err(why) => refuse(out, why, request.scripts),
     }
 }
 
-/// Writes the files, and then the report.
-fn carry_out<S: Shelf, O: Out>(
+// Reads the scripts, and makes all ready. It touches no file.
+fn prepare<S: Shelf>(
+    alloc: Global,
+    shelf: &mut S,
+    request: Request<'_>,
+    maps: &MapSet,
+) -> Result<Stage, Refusal>
+    requires scripts { (1 ≤ length request.scripts.now) × (length request.scripts.now ≤ 256) }
+    requires blocks { IfSome request.blocks (λ b. (1 ≤ b) × (b ≤ block_limit)) }
+    requires places { IfSome request.places (λ p. (1 ≤ p) × (p ≤ 1000000)) }
+    ensures stage { IfOk result (λ stage. IsStage request.entry.blocks request.entry.places (plans_of stage.players.items) stage) }
+    ensures plans { IfOk result (λ stage. HavePlans (asked request.entry) (S.files shelf.old) (plans_of stage.players.items)) }
+    ensures kept { OnOk result (S.reading shelf.new ≡ S.reading shelf.old) }
+    ensures tells { IfErr result (λ why. IfSome (S.files shelf.old) (λ told. Tells why (verdict (asked request.entry) told))) }
+    ensures cause { IfErr result (λ why. HasCause why request.entry.blocks (S.files shelf.old) (map string_bytes request.entry.scripts.now) (S.reading shelf.old) (S.reading shelf.new)) }
+    ensures few { IfOk result (λ stage. count_all (plans_of stage.players.items) ≤ command_limit) }
+    ensures within { IfErr result (λ why. IsWithin why (length request.entry.scripts.now)) }
+    ensures files { S.files shelf.new ≡ S.files shelf.old }
+    ensures writing { S.writing shelf.new ≡ S.writing shelf.old }
+{
+    let scripts = match read_scripts(alloc, shelf, request.scripts, maps, request.blocks) {
+        Ok(scripts) => scripts,
+        Err(why) => return Err(why),
+    };
+    let blocks = match choose_blocks(request.blocks, &scripts) {
+        Some(blocks) => blocks,
+        None => return Err(Refusal::ManyBlocks),
+    };
+    match set_stage(alloc, scripts, blocks, request.places) {
+        Ok(stage) => Ok(stage),
+        Err(_) => Err(Refusal::Memory),
+    }
+}
+
+// Makes both files with their first bytes.
+fn begin_files<S: Shelf>(
+    shelf: &mut S,
+    request: Request<'_>,
+    blocks: u32,
+) -> Result<(), Target>
+    requires differ { request.out.now ≢ request.order.now }
+    requires blocks { blocks ≤ block_limit }
+    requires scripts { length request.scripts.now ≤ 256 }
+    ensures whole { OnOk result (S.files shelf.new ≡ option_map (with_two request.entry.out.now (wav_bytes blocks) request.entry.order.now (order_bytes blocks (length request.entry.scripts.now))) (S.files shelf.old)) }
+    ensures stopped { IfErr result (λ target. IsStopped target (S.files shelf.old) (S.files shelf.new) request.entry.out.now (wav_bytes blocks) request.entry.order.now (order_bytes blocks (length request.entry.scripts.now))) }
+    ensures cause { HasFault (S.writing shelf.old) (S.writing shelf.new) (S.reading shelf.old) (S.reading shelf.new) ⊥ result }
+{
+    let mut line = LineText::new();
+    let scripts = request.scripts.len() as u32;
+    order_header(Engine::One, blocks, scripts, &mut line);
+    let header = wav_header(blocks);
+    let text = line.as_slice();
+    write_files(shelf, request.out, request.order, &header, text)
+}
+
+// Makes the files, plays all turns, and puts the report.
+fn perform<R: Threads + Wait + Sync, S: Shelf, O: Out, G: Gate>(
+    rt: &R,
     shelf: &mut S,
     out: &mut O,
-    name: &str,
-    order: &str,
-    take: &Take,
+    request: Request<'_>,
+    stage: Stage,
+    gate: &G,
 ) -> u8
-    requires { name.now ≢ order.now }
-    ensures status { result ≡ 0 ⊎ result ≡ 3 }
-    ensures reading { S.reading shelf.new ≡ S.reading shelf.old }
-    ensures write { result ≡ 3 → Rose (S.writing shelf.old) (S.writing shelf.new) ⊎ Rose (O.faults out.old) (O.faults out.new) }
-    ensures done { result ≡ 0 → S.files shelf.new ≡ option_map
-        (with_two name.now take.now.sound.items order.now take.now.order.items) (S.files shelf.old) }
-    ensures reported { result ≡ 0 → O.written out.new ≡ option_map (said (string_bytes take.now.report)) (O.written out.old) }
-    ensures begun { result ≡ 3 → AreBegun (S.files shelf.old) (S.files shelf.new)
-        name.now take.now.sound.items order.now take.now.order.items }
-    ensures line { result ≡ 3 → SaysOfWrite name.now take.now.sound.items order.now take.now.order.items (string_bytes take.now.report)
-        (S.files shelf.old) (S.files shelf.new) (S.writing shelf.old) (S.writing shelf.new)
-        (O.written out.old) (O.written out.new) (O.faults out.old) (O.faults out.new) }
+    requires differ { request.out.now ≢ request.order.now }
+    requires scripts { (1 ≤ length request.scripts.now) × (length request.scripts.now ≤ 256) }
+    requires stage { IsStage request.blocks request.places (plans_of stage.players.items) stage }
+    requires plans { HavePlans (asked request) (S.files shelf.old) (plans_of stage.players.items) }
+    requires few { count_all (plans_of stage.players.items) ≤ command_limit }
+    ensures { IsPlayedRun (asked request.entry)
+        (moment (S.files shelf.old) (S.reading shelf.old) (S.writing shelf.old) (O.written out.old) (O.faults out.old))
+        (moment (S.files shelf.new) (S.reading shelf.new) (S.writing shelf.new) (O.written out.new) (O.faults out.new)) result }
 {
-    let sound = take.sound.as_slice();
-    let text = take.order.as_slice();
-    match write_files(shelf, name, order, sound, text) {
+    let blocks = stage.blocks;
+    let commands = stage.commands;
+    match begin_files(shelf, request, blocks) {
         Ok(()) => {}
-        Err(Target::Sound) => {
-            say_cannot_write(out, name);
-            return 3;
-        }
-        Err(Target::Order) => {
-            say_cannot_write(out, order);
-            return 3;
-        }
+        Err(target) => return say_stopped(out, request, target),
     }
-    match put_all(out, take.report.as_bytes()) {
-        Ok(()) => 0,
+    let (journal, result) = play_scripts(
+        rt,
+        stage.line,
+        stage.renderer,
+        stage.players,
+        stage.ends,
+        blocks,
+        shelf,
+        request.out,
+        request.order,
+        gate,
+    );
+    match result {
+        Ok(()) => put_report(out, commands, journal.len() as u32, blocks),
+        Err(target) => say_stopped(out, request, target),
+    }
+}
+
+// Names the file that could not be written.
+fn say_stopped<O: Out>(out: &mut O, request: Request<'_>, target: Target) -> u8
+    ensures status { result ≡ 3 }
+    ensures line { Says (cannot_write request.entry.out.now) (O.written out.old) (O.written out.new) (O.faults out.old) (O.faults out.new)
+        ⊎ Says (cannot_write request.entry.order.now) (O.written out.old) (O.written out.new) (O.faults out.old) (O.faults out.new) }
+{
+    match target {
+        Target::Sound => say_cannot_write(out, request.out),
+        Target::Order => say_cannot_write(out, request.order),
+    }
+    3
+}
+
+// Puts the report: of so many commands, so many are in the journal.
+fn put_report<O: Out>(out: &mut O, all: u32, commands: u32, blocks: u32) -> u8
+    requires { commands ≤ all }
+    ensures { HasReported (report (all - commands) blocks commands) (if all - commands == 0 then 0 else 5) (O.written out.old) (O.written out.new) (O.faults out.old) (O.faults out.new) result }
+{
+    let line = report_of(all - commands, blocks, commands);
+    match put_all(out, line.as_slice()) {
+        Ok(()) => status_of(all - commands),
         Err(_) => 3,
     }
+}
+
+fn status_of(left: u32) -> u8
+    ensures { result ≡ (if left == 0 then 0 else 5) }
+{
+    if left == 0 { 0 } else { 5 }
 }

@@ -1,27 +1,26 @@
-ghost use Rattle.std.specs.Prelude.{◌≡◌};
-ghost use Rattle.play_core.specs.declared.refusal.Refusal.TheVariants.{Memory};
+//! Why nothing is played.
 
-use std::alloc::AllocError;
+use script_read::{Place, ScriptKind};
 
-/// Why nothing is written.
+/// Why nothing is played and no file is touched.
 #[derive(Clone, Copy, Debug, PartialEq, Eq)]
 pub enum Refusal {
-    /// The script was not read.
-    Read,
-    /// The script has more bytes than the limit.
-    TooLong,
-    /// The script is not of the known form.
-    Form,
-    /// The script has more commands than the limit.
-    Many,
+    /// The script with this number was not read.
+    Unread(u32),
+    /// A script has more than 16,777,216 bytes.
+    LongFile,
+    /// All scripts together have more than 67,108,864 bytes.
+    LongScripts,
+    /// The script with this number has a fault.
+    Fault {
+        script: u32,
+        place: Place,
+        kind: ScriptKind,
+    },
+    /// All scripts together have more than 1,000,000 commands.
+    ManyCommands,
+    /// The last command is due too late for 1,048,576 blocks.
+    ManyBlocks,
     /// There was no memory.
     Memory,
-}
-
-impl From<AllocError> for Refusal {
-    ghost from_gives = { λ _ e. e ≡ Memory };
-
-    fn from(_: AllocError) -> Self {
-        Refusal::Memory
-    }
 }

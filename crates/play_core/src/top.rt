@@ -1,87 +1,106 @@
-ghost use Rattle.std.specs.Prelude.{◌≡◌, ◌≢◌, ◌⊎◌, ◌↔◌, ◌<◌, ◌≤◌, [], ◌∷◌, IfSome, None, length, map, option_map, string_bytes};
-ghost use Rattle.outside.specs.Files.{Lacks, said};
+//! The top call of the program `play`.
+ghost use Rattle.std.specs.Prelude.{◌≡◌, ◌≢◌, ◌⊎◌, ◌↔◌, ◌<◌, ◌≤◌, ◌==◌, ℕ, List, [], ◌∷◌, IfSome, None, Some, length, map, option_map, slice_index_or, string_bytes, if◌then◌else◌};
+ghost use Rattle.outside.specs.Files.{file_of, said};
 ghost use Rattle.outside.specs.Faults.{Rose};
-ghost use Rattle.play_core.specs.Words.{asked_by};
-ghost use Rattle.play_core.specs.Script.{NotYet, plan};
-ghost use Rattle.take_files.specs.Files.{order, wav};
-ghost use Rattle.play_core.specs.Files.{report};
-ghost use Rattle.play_core.specs.Taken.{HalfTaken, IsPlan, journal_in, taken};
-ghost use Rattle.play_core.specs.Refused.{Finds, OnSuccess, script_limit};
+ghost use Rattle.fault_lines.specs.Lines.{Says, cannot_read, out_of_memory};
 ghost use Rattle.fault_lines.specs.Statuses.{IsOneOf};
-ghost use Rattle.play_core.specs.Said.{SaysLimit, SaysOfWrite, not_yet, usage};
-ghost use Rattle.fault_lines.specs.Lines.{Says, cannot_read, limit_commands, limit_file, out_of_memory};
+ghost use Rattle.command_set.specs.Entries.{LoggedData};
+ghost use Rattle.take_files.specs.Files.{wav};
+ghost use Rattle.take_files.specs.Orders.{OrderData};
+ghost use Rattle.turns.specs.Timed.{ArePlayed, IsTimed};
+ghost use Rattle.script_read.specs.declared.fault.Place.{Place};
+ghost use Rattle.script_read.specs.declared.fault.ScriptKind.{ScriptKind};
+ghost use Rattle.script_plan.specs.Plan.{PlannedData};
+ghost use Rattle.play_core.specs.Words.{asked_by};
+ghost use Rattle.play_core.specs.Verdict.{Verdict, Faulty, IsPlayed, blocks_of_run, count_all, places_of_run, plans_in, verdict};
+ghost use Rattle.play_core.specs.Refused.{IsUnread};
+ghost use Rattle.play_core.specs.Lines.{fault_line, report, usage};
+ghost use Rattle.play_core.specs.Files.{AreBegun};
+ghost use Rattle.play_core.specs.Run.{HavePlans, SaysOfStop, moment, report_of, sound_of, order_of};
+ghost use Rattle.play_core.specs.Headline.{Answers, Asks, HasAll, IsComplete, IsLimit, LacksSome, Lists, Played, PlayedAs, Told, WasPlayed, limit_line};
 
+use crate::lines::say_usage;
 use crate::play::play;
-use crate::saying::say_usage;
 use crate::words::read_words;
-use outside::{Out, Shelf};
+use outside::{Gate, Out, Shelf};
 use std::alloc::Global;
+use std::sync::Wait;
+use std::thread::Threads;
+use velocity_map::MapSet;
 
-/// Does what the words `OUT ORDER BLOCKS PLACES SCRIPT` ask for: it reads the script, writes its sound to OUT and its
-/// commands to ORDER, and puts a line. The answer is the status: 0 done, 1 other words, 2 not read, 3 not written,
-/// 4 no script that is known, 6 past a limit, 8 out of memory.
-pub fn play_main<S: Shelf, O: Out>(
+/// Does what the words `OUT ORDER BLOCKS PLACES SCRIPT...` ask for: it plays the scripts beside each other, each on an end of its own of one line, renders block by block what comes out of the line,
+/// writes the sound to OUT and the order in which the commands came to ORDER, and puts a line. The answer is the status: 0 all commands were played, 1 other words, 2 not read, 3 not written,
+/// 4 a fault of a script, 5 some commands were left when the blocks ended, 6 past a limit, 8 out of memory. `gate` is called before and after each script's and the renderer's part of a turn. It may
+/// wait; its promises hold if it returns.
+pub fn play_main<R: Threads + Wait + Sync, S: Shelf, O: Out, G: Gate>(
+    rt: &R,
     alloc: Global,
     words: &[String],
     shelf: &mut S,
     out: &mut O,
+    gate: &G,
+    maps: &MapSet,
 ) -> u8
-    ensures status { IsOneOf result (0 ∷ 1 ∷ 2 ∷ 3 ∷ 4 ∷ 6 ∷ 8 ∷ []) }
+    ensures status { IsOneOf result (0 ∷ 1 ∷ 2 ∷ 3 ∷ 4 ∷ 5 ∷ 6 ∷ 8 ∷ []) }
+
+    // The headline: 0 and 5 over told files. ORDER is the order of just one journal, with as many scripts as were named. All that follows speaks of this journal.
+    ensures order { Played (map string_bytes words.now) result (S.files shelf.old) (λ a plans. (o : OrderData) × Lists (S.files shelf.new) a.order o × (o.scripts ≡ length a.scripts)) }
+    // It has as many blocks as were asked for, or 201 more than the greatest block that a command is due at.
+    ensures blocks { PlayedAs (map string_bytes words.now) result (S.files shelf.old) (S.files shelf.new) (λ a plans o. o.blocks ≡ blocks_of_run a.blocks plans) }
+    // OUT is, block by block and bit for bit, what one thread renders after the commands that the journal lists up to that block.
+    ensures sound { PlayedAs (map string_bytes words.now) result (S.files shelf.old) (S.files shelf.new) (λ a plans o. file_of (S.files shelf.new) a.out ≡ Some (wav o.journal o.blocks)) }
+    // 0: the journal has each command of each script's plan exactly once, in order; and no others.
+    ensures all { result ≡ 0 → PlayedAs (map string_bytes words.now) result (S.files shelf.old) (S.files shelf.new) (λ a plans o. HasAll o.journal plans) }
+    // 0 and 5: of each script it has the first commands; with 5 not all of some script's.
+    ensures played { PlayedAs (map string_bytes words.now) result (S.files shelf.old) (S.files shelf.new) (λ a plans o. ArePlayed o.journal plans) }
+    ensures left { result ≡ 5 → PlayedAs (map string_bytes words.now) result (S.files shelf.old) (S.files shelf.new) (λ a plans o. LacksSome o.journal plans) }
+    // Each is logged at its due block or above; above it, or not at all, only where the line has few places.
+    ensures timed { PlayedAs (map string_bytes words.now) result (S.files shelf.old) (S.files shelf.new) (λ a plans o. IsTimed o.journal plans (places_of_run a.places plans)) }
+    // All other files are as before, and just the report was added.
+    ensures others { Played (map string_bytes words.now) result (S.files shelf.old) (λ a plans. (other : List ℕ) → other ≢ a.out → other ≢ a.order → file_of (S.files shelf.new) other ≡ file_of (S.files shelf.old) other) }
+    ensures report { PlayedAs (map string_bytes words.now) result (S.files shelf.old) (S.files shelf.new) (λ a plans o. O.written out.new ≡ option_map (said (report_of a plans o.journal)) (O.written out.old)) }
+    // The report stands on every output that tells, whether or not the files are told.
+    ensures line { WasPlayed result → Asks (map string_bytes words.now) (λ a. (left : ℕ) × (blocks : ℕ) × (commands : ℕ) × (result ≡ (if left == 0 then 0 else 5)) × IfSome a.blocks (λ b. blocks ≡ b)
+        × (O.written out.new ≡ option_map (said (report left blocks commands)) (O.written out.old))) }
+    // Every script was there, within the limits, and had a plan; so it was after 3.
+    ensures right { WasPlayed result ⊎ (result ≡ 3) → Told (map string_bytes words.now) (S.files shelf.old) (λ a told. IsPlayed (verdict a told)) }
 
     // 1 exactly where the words are not of the grammar.
     ensures words { result ≡ 1 ↔ asked_by (map string_bytes words.now) ≡ None }
-
-    // 2 only where a read failed, or the told files lack the script.
-    ensures read { result ≡ 2 → IfSome (asked_by (map string_bytes words.now)) (λ asked.
-        Rose (S.reading shelf.old) (S.reading shelf.new) ⊎ Lacks (S.files shelf.old) asked.script) }
-
-    // 3 only where no read failed, and a write or a put did.
-    ensures no_read { result ≡ 3 → S.reading shelf.new ≡ S.reading shelf.old }
+    // 2 only where a read of a script failed and was counted, or the told files lack it, and all scripts before it are good; the line names it.
+    ensures unread { result ≡ 2 → Asks (map string_bytes words.now) (λ a. (k : ℕ) × IsUnread k a.blocks (S.files shelf.old) a.scripts (S.reading shelf.old) (S.reading shelf.new)
+        × Says (cannot_read (slice_index_or a.scripts k [])) (O.written out.old) (O.written out.new) (O.faults out.old) (O.faults out.new)) }
+    // 3 only where a write or a put failed and was counted. Each of both files is as before or begun, and all others are as before.
     ensures write { result ≡ 3 → Rose (S.writing shelf.old) (S.writing shelf.new) ⊎ Rose (O.faults out.old) (O.faults out.new) }
+    ensures begun { result ≡ 3 → Told (map string_bytes words.now) (S.files shelf.old) (λ a told. (journal : List LoggedData) × ArePlayed journal (plans_in (verdict a told))
+        × AreBegun (S.files shelf.old) (S.files shelf.new) a.out (sound_of a (plans_in (verdict a told)) journal) a.order (order_of a (plans_in (verdict a told)) journal)) }
+    ensures stopped { result ≡ 3 → Asks (map string_bytes words.now) (λ a. (plans : List (List PlannedData)) × (journal : List LoggedData) × HavePlans a (S.files shelf.old) plans × SaysOfStop a plans journal
+        (moment (S.files shelf.old) (S.reading shelf.old) (S.writing shelf.old) (O.written out.old) (O.faults out.old))
+        (moment (S.files shelf.new) (S.reading shelf.new) (S.writing shelf.new) (O.written out.new) (O.faults out.new))) }
+    // 4 and 6 only where the told files say so, by the line that was put.
+    ensures fault { result ≡ 4 → (k : ℕ) × (place : Place) × (kind : ScriptKind) × Told (map string_bytes words.now) (S.files shelf.old) (λ a told. verdict a told ≡ Faulty k place kind)
+        × Says (fault_line k place kind) (O.written out.old) (O.written out.new) (O.faults out.old) (O.faults out.new) }
+    ensures limit { result ≡ 6 → (why : Verdict) × IsLimit why × Told (map string_bytes words.now) (S.files shelf.old) (λ a told. verdict a told ≡ why)
+        × Says (limit_line why) (O.written out.old) (O.written out.new) (O.faults out.old) (O.faults out.new) }
+    // What the told files say decides, where no read fails.
+    ensures judged { Told (map string_bytes words.now) (S.files shelf.old) (λ a told. ¬ (Rose (S.reading shelf.old) (S.reading shelf.new)) → Answers (verdict a told) result) }
+    // 5 only where the line has fewer places than there are commands.
+    ensures places { result ≡ 5 → Told (map string_bytes words.now) (S.files shelf.old) (λ a told. places_of_run a.places (plans_in (verdict a told)) < count_all (plans_in (verdict a told))) }
 
-    // On told files: 4 where the script is of no known form, 6 where it passes a limit, 0 and 3 where it is right.
-    ensures form { result ≡ 4 → IfSome (asked_by (map string_bytes words.now)) (λ asked.
-        Finds (S.files shelf.old) asked.script (λ file. (length file ≤ script_limit) × (plan asked.blocks file ≡ NotYet))) }
-    ensures limit { result ≡ 6 → IfSome (asked_by (map string_bytes words.now)) (λ asked.
-        Finds (S.files shelf.old) asked.script (λ file.
-        SaysLimit asked.blocks file (O.written out.old) (O.written out.new) (O.faults out.old) (O.faults out.new))) }
-    ensures right { result ≡ 0 ⊎ result ≡ 3 → IfSome (asked_by (map string_bytes words.now)) (λ asked.
-        Finds (S.files shelf.old) asked.script (λ file. (length file ≤ script_limit) × IsPlan (plan asked.blocks file))) }
-
-    // After 0 both files are whole, the others are as before, and the report was added.
-    ensures done { result ≡ 0 → IfSome (asked_by (map string_bytes words.now)) (λ asked.
-        S.files shelf.new ≡ option_map (taken asked) (S.files shelf.old)) }
-    ensures reported { result ≡ 0 → IfSome (asked_by (map string_bytes words.now)) (λ asked.
-        IfSome (S.files shelf.old) (λ told.
-        O.written out.new ≡ option_map (said (report (journal_in asked told) asked.blocks)) (O.written out.old))) }
-
-    // After 3 each of the two files is as before or begun, and the line names the file at which the writing stopped.
-    ensures begun { result ≡ 3 → IfSome (asked_by (map string_bytes words.now)) (λ asked.
-        IfSome (S.files shelf.old) (λ told. HalfTaken asked told (S.files shelf.new))) }
-    ensures write_line { result ≡ 3 → IfSome (asked_by (map string_bytes words.now)) (λ asked.
-        IfSome (S.files shelf.old) (λ told. SaysOfWrite
-        asked.out (wav (journal_in asked told) asked.blocks) asked.order (order (journal_in asked told) asked.blocks 1)
-        (report (journal_in asked told) asked.blocks)
-        (S.files shelf.old) (S.files shelf.new) (S.writing shelf.old) (S.writing shelf.new)
-        (O.written out.old) (O.written out.new) (O.faults out.old) (O.faults out.new))) }
-
-    // After any other status no file has changed, and its line was put.
-    ensures untouched { result ≢ 0 → result ≢ 3 → S.files shelf.new ≡ S.files shelf.old }
+    // No counted fault is passed over, and after all other statuses no file has changed.
+    ensures reads { result ≢ 2 → S.reading shelf.new ≡ S.reading shelf.old }
+    ensures writes { result ≢ 3 → S.writing shelf.new ≡ S.writing shelf.old }
+    ensures puts { WasPlayed result → O.faults out.new ≡ O.faults out.old }
+    ensures untouched { ¬ (WasPlayed result) → result ≢ 3 → S.files shelf.new ≡ S.files shelf.old }
     ensures usage { result ≡ 1 → Says usage (O.written out.old) (O.written out.new) (O.faults out.old) (O.faults out.new) }
-    ensures read_line { result ≡ 2 → IfSome (asked_by (map string_bytes words.now)) (λ asked.
-        Says (cannot_read asked.script) (O.written out.old) (O.written out.new) (O.faults out.old) (O.faults out.new)) }
-    ensures form_line { result ≡ 4 → Says not_yet (O.written out.old) (O.written out.new) (O.faults out.old) (O.faults out.new) }
-    ensures limit_line { result ≡ 6 → Says limit_file (O.written out.old) (O.written out.new) (O.faults out.old) (O.faults out.new)
-        ⊎ Says limit_commands (O.written out.old) (O.written out.new) (O.faults out.old) (O.faults out.new) }
-    ensures memory_line { result ≡ 8 → Says out_of_memory (O.written out.old) (O.written out.new) (O.faults out.old) (O.faults out.new) }
+    ensures memory { result ≡ 8 → Says out_of_memory (O.written out.old) (O.written out.new) (O.faults out.old) (O.faults out.new) }
 
-    // Where all is right and nothing fails, it is done, unless memory runs out.
-    ensures complete { IfSome (asked_by (map string_bytes words.now)) (λ asked. OnSuccess (S.files shelf.old) asked.script asked.blocks
-        (Rose (S.reading shelf.old) (S.reading shelf.new)) (Rose (S.writing shelf.old) (S.writing shelf.new)) (Rose (O.faults out.old) (O.faults out.new))
-        (IsOneOf result (0 ∷ 8 ∷ []))) }
+    // Where all is right and nothing fails, all commands are played where the line has places for them, unless memory runs out.
+    ensures complete { ¬ (Rose (S.reading shelf.old) (S.reading shelf.new)) → ¬ (Rose (S.writing shelf.old) (S.writing shelf.new)) → ¬ (Rose (O.faults out.old) (O.faults out.new))
+        → Told (map string_bytes words.now) (S.files shelf.old) (λ a told. IsComplete a (verdict a told) result) }
 {
     match read_words(words) {
-        Some(request) => play(alloc, request, shelf, out),
+        Some(request) => play(rt, alloc, request, shelf, out, gate, maps),
         None => {
             say_usage(out);
             1

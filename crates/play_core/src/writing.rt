@@ -1,15 +1,10 @@
+//! The two files, made with their first bytes.
 ghost use Rattle.std.specs.Prelude.{◌≡◌, ◌≢◌, OnOk, IfErr, option_map};
 ghost use Rattle.outside.specs.Faults.{HasCause};
-ghost use Rattle.play_core.specs.Taken.{with_two, IsStopped};
+ghost use Rattle.play_core.specs.Files.{with_two, IsStopped};
 
 use outside::{Shelf, append_all};
-
-/// The file that could not be written.
-#[derive(Clone, Copy, Debug, PartialEq, Eq)]
-pub(crate) enum Target {
-    Sound,
-    Order,
-}
+use turns::Target;
 
 /// Makes both files empty, and appends their bytes.
 pub(crate) fn write_files<S: Shelf>(

@@ -11,4 +11,4 @@ returns-clause-value c =
     let f2 : SFits w32 (c.args.level +ℤ c.vibrato-swing.result +ℤ c.bend_pitch.result) = omega (arith, ints, c.vibrato-swing.ensures.low, c.vibrato-swing.ensures.high, c.bend_pitch.ensures.low, c.bend_pitch.ensures.high) in
     let fo = c.ranges.lfo in
     let e = simp to_z-of_z at c.vibrato-swing.ensures.value in
-    simp to_z-of_z (rw (e, c.vibrato_depth-depth.ensures.value, c.pitch_depth.ensures.value, c.pitch_sensitivity.ensures.value, c.bend_pitch.ensures.value) refl)
+    simp to_z-of_z (rw (e, c.vibrato_depth-depth.ensures.value, c.bend_pitch.ensures.value) refl)

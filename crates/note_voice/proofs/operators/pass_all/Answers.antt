@@ -1,7 +1,7 @@
 use Rattle.std.proofs.Common.{◌+◌, SFits, w32, length-set, arith, rules}
 use Rattle.std.proofs.lemmas.Int.{to_z-of_z}
 use Rattle.note_voice.specs.Note.{heard}
-use Rattle.note_voice.proofs.Blocks.{step_is, drop_is, heard_is, passed_none, passed_next, passed_all, heard_none, heard_next, heard_all, gains_none, gains_next, gains_all}
+use Rattle.note_voice.proofs.Blocks.{heard_is, passed_none, passed_next, passed_all, heard_none, heard_next, heard_all, gains_none, gains_next, gains_all}
 use Rattle.note_voice.proofs.operators.pass_all.Goals as goal
 
 pub loop-k-init : goal.loop-k-init
@@ -9,8 +9,8 @@ loop-k-init c = record {
   len = c.told-operators;
   ops_len = search rules;
   gains = gains_none _;
-  states = λ n m h o. passed_none n (heard n m) _ o;
-  blocks = λ n m h o. heard_none _ _ _;
+  states = λ n m shift h o. passed_none shift shift n (heard n m) _ o;
+  blocks = λ n m shift h o. heard_none _ _ _;
 }
 
 pub loop-k-preserved : goal.loop-k-preserved
@@ -18,14 +18,13 @@ loop-k-preserved c =
     let k = c.loop-k.k in
     let v = c.loop-k.invariant in
     let lt = c.loop-k-test.true in
-    let fs : SFits w32 c.phase_step-step.result = record { sfits = c.phase_step-step.type_inv } in
-    let fd : SFits w32 c.level_drop-drop.result = record { sfits = c.level_drop-drop.type_inv } in
+    let fl = c.ranges.lfo in
     record {
       len = simp length-set v.len;
       ops_len = simp length-set v.ops_len;
       gains = gains_next k _ _ v.ops_len lt v.gains c.if_on.ensures.gains;
-      states = λ n m h o. passed_next k n (heard n m) _ _ v.len lt (v.states n m h o) (c.pass-op.ensures.passed n m (k + 1) ((v.states n m h o).rest k _ (omega arith) lt) (simp to_z-of_z (step_is _ _ _ _ _ _ _ n m _ h c.phase_step-step.ensures)) (simp to_z-of_z (drop_is _ _ _ _ _ _ _ n m _ h (c.level_drop-drop.ensures.value m h.lfo_is h.delay_is))));
-      blocks = λ n m h o. heard_next k (heard n m) _ _ _ v.ops_len lt (v.blocks n m h o) (heard_is _ _ _ _ _ _ _ n m _ _ h c.if_on.ensures.value (c.pass-op.ensures.block n m (k + 1) ((v.states n m h o).rest k _ (omega arith) lt) (simp to_z-of_z (step_is _ _ _ _ _ _ _ n m _ h c.phase_step-step.ensures)) (simp to_z-of_z (drop_is _ _ _ _ _ _ _ n m _ h (c.level_drop-drop.ensures.value m h.lfo_is h.delay_is)))));
+      states = λ n m shift h o. passed_next k shift shift n (heard n m) _ _ v.len lt (v.states n m shift h o) (c.pass-op.ensures.passed n m shift (k + 1) ((v.states n m shift h o).rest k _ (omega arith) lt) h.shift_is h.lfo_is h.delay_is);
+      blocks = λ n m shift h o. heard_next k (heard n m) _ _ _ v.ops_len lt (v.blocks n m shift h o) (heard_is _ _ _ _ _ n m _ _ h c.if_on.ensures.value (c.pass-op.ensures.block n m shift (k + 1) ((v.states n m shift h o).rest k _ (omega arith) lt) h.shift_is h.lfo_is h.delay_is));
     }
 
 pub returns-clause-gains : goal.returns-clause-gains
@@ -33,16 +32,12 @@ returns-clause-gains c = gains_all _ _ (omega arith) c.loop-k.invariant.gains
 
 pub returns-clause-blocks : goal.returns-clause-blocks
 returns-clause-blocks c =
-    let fn = c.ranges.note in
-    let fs = c.ranges.shift in
     let fl = c.ranges.lfo in
     let b = simp to_z-of_z at c.loop-k.invariant.blocks in
-    λ n m h o. heard_all _ _ _ _ c.loop-k.invariant.ops_len (omega arith) (b n m h o)
+    λ n m shift h o. heard_all _ _ _ _ c.loop-k.invariant.ops_len (omega arith) (b n m shift h o)
 
 pub returns-clause-passed : goal.returns-clause-passed
 returns-clause-passed c =
-    let fn = c.ranges.note in
-    let fs = c.ranges.shift in
     let fl = c.ranges.lfo in
     let s = simp to_z-of_z at c.loop-k.invariant.states in
-    λ n m h o. passed_all _ n (heard n m) _ (omega arith) (s n m h o)
+    λ n m shift h o. passed_all _ shift shift n (heard n m) _ (omega arith) (s n m shift h o)

@@ -1,12 +1,10 @@
-use Rattle.std.proofs.Common.{◌∙◌, ◌≡◌, sym, refl, None, length, rules}
+use Rattle.std.proofs.Common.{◌∙◌, ◌≡◌, sym, refl, None}
 use Rattle.instrument.specs.State.{free_slot}
-use Rattle.instrument.proofs.AllSlots.{taken_slots}
-use Rattle.instrument.proofs.States.{apply_free, apply_full, fresh_is, pressed_is, none_is}
+use Rattle.instrument.proofs.States.{apply_free, apply_full, fresh_slots, pressed_is, none_is}
 use Rattle.instrument.proofs.instrument.Instrument.note_on.Goals as goal
 
 pub returns : goal.returns
 returns c = λ s h.
-    let len : length c.args.self.now.slots ≡ 16 = search rules in
     rw (apply_free s c.args.channel c.args.key c.args.velocity c.in-Some.free (sym (c.in-Some.ensures.slot s h)))
     (record {
       bank = h.bank;
@@ -17,7 +15,7 @@ returns c = λ s h.
       pedal = h.pedal;
       next = refl;
       oscillator = pressed_is _ s _ h.voice (c.key_down.ensures _ 0 (c.assign.ensures s.oscillation s.steps h.oscillator));
-      slots = taken_slots _ s.slots c.in-Some.free _ _ len h.slots (fresh_is _ s _ _ _ _ _ h.voice h.switch c.start.ensures);
+      slots = fresh_slots _ s _ _ _ _ _ _ h.voice h.switch (c.start_at.ensures s.slots h.slots);
     })
 
 pub returns-in_default : goal.returns-in_default

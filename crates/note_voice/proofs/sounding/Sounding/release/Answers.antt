@@ -1,7 +1,18 @@
 use Rattle.std.proofs.Common.{length}
 use Rattle.note_voice.specs.Note.{pitch_settings}
-use Rattle.note_voice.proofs.Blocks.{playing_let_go}
+use Rattle.note_voice.proofs.Blocks.{memory_let_go}
 use Rattle.note_voice.proofs.sounding.Sounding.release.Goals as goal
 
 pub returns : goal.returns
-returns c = λ n r. playing_let_go _ _ _ _ _ _ _ _ n r (c.release_all.ensures n r.operators_are) (c.release.ensures (pitch_settings n.voice) (length n.past) n.off r.pitch_is)
+returns c = λ n r. record {
+  set = record {
+    algorithm_is = r.set.algorithm_is;
+    feedback_is = r.set.feedback_is;
+    depth_is = r.set.depth_is;
+    sensitivity_is = r.set.sensitivity_is;
+    switch_is = r.set.switch_is;
+    operators_are = c.release_all.ensures n _ r.set.operators_are;
+    pitch_is = c.release.ensures (pitch_settings n.voice) (length n.past) n.off r.set.pitch_is;
+  };
+  memory_is = memory_let_go n c.args.self.now.memory r.memory_is;
+}

@@ -1,0 +1,116 @@
+ghost use Rattle.std.specs.Prelude.{◌≡◌, ◌≤◌, ℕ, pos, false};
+ghost use Rattle.operator_kernel.specs.Operator.{memory_of};
+ghost use Rattle.algorithm_bus.specs.Buses.{HaveGains};
+
+use crate::bus::{feed_back, run_note};
+use crate::four::run_four_notes;
+use crate::heard::is_any_carrier_heard;
+use dx_tables::Tables;
+use operator_kernel::OpBlock;
+
+/// A block of 64 samples of a note before it is run: the algorithm, 0 to 31, and the feedback, 0 to 7, what operators 1 to 6 do, and the
+/// last two samples of the operator with feedback.
+#[derive(Clone, Copy)]
+pub struct NoteBlock {
+    pub algorithm: u8,
+    pub feedback: u8,
+    pub ops: [OpBlock; 6],
+    pub memory: [i32; 2],
+    ghost algorithm_in_range: { algorithm ≤ 31 },
+    ghost feedback_in_range: { feedback ≤ 7 },
+    ghost gains_in_range: { HaveGains ops },
+}
+
+impl NoteBlock {
+    ghost use Rattle.algorithm_bus.specs.Signals.{memory_left, note_output};
+    ghost use Rattle.algorithm_bus.specs.Buses.{IsBus};
+    ghost use Rattle.algorithm_bus.specs.NoteBlocks.{block_patch};
+
+    /// A block of no note.
+    pub fn silent() -> NoteBlock
+        ensures { (j : ℕ) → note_output (block_patch result) j ≡ pos 0 }
+    {
+        let op = OpBlock {
+            phase: 0,
+            freq: 0,
+            g1: 0,
+            g2: 0,
+        };
+        NoteBlock {
+            algorithm: 0,
+            feedback: 0,
+            ops: [op; 6],
+            memory: [0, 0],
+        }
+    }
+
+    /// Whether a carrier sounds. Where none does all samples are 0.
+    pub fn is_heard(&self) -> bool
+        ensures { result ≡ false → (j : ℕ) → note_output (block_patch self.now) j ≡ pos 0 }
+    {
+        is_any_carrier_heard(self.algorithm, &self.ops)
+    }
+
+    /// Runs the operator with feedback alone, where nothing is heard of the note: the memory becomes its last two samples.
+    pub fn pass_unheard(&mut self, tables: &Tables)
+        ensures { memory_of self.new.memory ≡ memory_left (block_patch self.old) }
+    {
+        let ops = self.ops;
+        let _ = feed_back(tables, self.algorithm, self.feedback, &ops, &mut self.memory);
+    }
+
+    /// The same as `run_note`: `out` becomes the sum of the carriers, and the memory the last two samples of the operator with feedback.
+    pub fn run(&mut self, tables: &Tables, out: &mut [i32; 64])
+        ensures out { IsBus (note_output (block_patch self.old)) out.new }
+        ensures memory { memory_of self.new.memory ≡ memory_left (block_patch self.old) }
+    {
+        let ops = self.ops;
+        run_note(tables, self.algorithm, self.feedback, &ops, &mut self.memory, out);
+    }
+
+    /// The same as `run` for four notes of one algorithm and feedback, whose operators with feedback run side by side.
+    pub fn run_four(
+        tables: &Tables,
+        first: &mut NoteBlock,
+        second: &mut NoteBlock,
+        third: &mut NoteBlock,
+        fourth: &mut NoteBlock,
+        out0: &mut [i32; 64],
+        out1: &mut [i32; 64],
+        out2: &mut [i32; 64],
+        out3: &mut [i32; 64],
+    )
+        requires algorithm { (second.old.algorithm ≡ first.old.algorithm) × (third.old.algorithm ≡ first.old.algorithm) × (fourth.old.algorithm ≡ first.old.algorithm) }
+        requires feedback { (second.old.feedback ≡ first.old.feedback) × (third.old.feedback ≡ first.old.feedback) × (fourth.old.feedback ≡ first.old.feedback) }
+        ensures out0 { IsBus (note_output (block_patch first.old)) out0.new }
+        ensures out1 { IsBus (note_output (block_patch second.old)) out1.new }
+        ensures out2 { IsBus (note_output (block_patch third.old)) out2.new }
+        ensures out3 { IsBus (note_output (block_patch fourth.old)) out3.new }
+        ensures memory0 { memory_of first.new.memory ≡ memory_left (block_patch first.old) }
+        ensures memory1 { memory_of second.new.memory ≡ memory_left (block_patch second.old) }
+        ensures memory2 { memory_of third.new.memory ≡ memory_left (block_patch third.old) }
+        ensures memory3 { memory_of fourth.new.memory ≡ memory_left (block_patch fourth.old) }
+    {
+        let ops0 = first.ops;
+        let ops1 = second.ops;
+        let ops2 = third.ops;
+        let ops3 = fourth.ops;
+        run_four_notes(
+            tables,
+            first.algorithm,
+            first.feedback,
+            &ops0,
+            &ops1,
+            &ops2,
+            &ops3,
+            &mut first.memory,
+            &mut second.memory,
+            &mut third.memory,
+            &mut fourth.memory,
+            out0,
+            out1,
+            out2,
+            out3,
+        );
+    }
+}

@@ -1,0 +1,28 @@
+use Rattle.std.proofs.Common.{◌≡◌, length, unsigned_abs, SFits, w32, Some, Option}
+use Rattle.std.proofs.lemmas.Int.{to_z-of_z}
+use Rattle.note_voice.specs.Modulation.{Modulation}
+use Rattle.note_voice.specs.Note.{heard}
+use Rattle.note_voice.proofs.Sums.{IsAdded-same}
+use Rattle.note_voice.proofs.Blocks.{sample_is, memory_heard}
+use Rattle.note_voice.proofs.note.Note.block.Goals as goal
+
+pub returns-in-Some-clause-samples : goal.returns-in-Some-clause-samples
+returns-in-Some-clause-samples c =
+    let fl = c.ranges.lfo in
+    let fd = c.ranges.delay in
+    let m : Modulation = record { lfo = c.args.lfo; delay = unsigned_abs c.args.delay; bend = c.args.bend; wheel = c.args.wheel } in
+    let made = simp to_z-of_z at c.begin_block-block.ensures.block in
+    λ n r.
+    let h = rw c.in-Some.is at r in
+    IsAdded-same _ _ _ _ c.sound_alone.ensures.samples (λ j lt. sample_is (heard n m) (length n.past) j _ (made n h))
+
+pub returns-in-Some-clause-passed : goal.returns-in-Some-clause-passed
+returns-in-Some-clause-passed c =
+    let fl = c.ranges.lfo in
+    let fd = c.ranges.delay in
+    let m : Modulation = record { lfo = c.args.lfo; delay = unsigned_abs c.args.delay; bend = c.args.bend; wheel = c.args.wheel } in
+    let made = simp to_z-of_z at c.begin_block-block.ensures.block in
+    let begun = simp to_z-of_z at c.begin_block-block.ensures.begun in
+    λ n r.
+    let h = rw c.in-Some.is at r in
+    c.end_block.ensures (heard n m) (begun n h) (memory_heard n m _ c.sound_alone.new.block.memory (made n h) c.sound_alone.ensures.memory)

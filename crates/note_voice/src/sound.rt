@@ -1,0 +1,68 @@
+//! Blocks of notes are run and added to a sum.
+
+ghost use Rattle.std.specs.Prelude.{◌≡◌, ◌+◌, ◌*◌, ◌^◌, ◌+ℤ◌, ℕ, length};
+ghost use Rattle.operator_kernel.specs.Operator.{memory_of};
+ghost use Rattle.algorithm_bus.specs.Signals.{memory_left, note_output};
+ghost use Rattle.algorithm_bus.specs.NoteBlocks.{block_patch};
+ghost use Rattle.note_voice.specs.Mix.{IsAdded, IsSmall};
+
+use crate::mix::add;
+use algorithm_bus::NoteBlock;
+use dx_tables::Tables;
+
+/// Runs a note's block and adds its samples to a sum of notes whose values are at most 2^40 in size. Where no carrier sounds
+/// there is nothing to add.
+pub fn sound_alone(tables: &Tables, block: &mut NoteBlock, mix: &mut [i64; 64])
+    requires { IsSmall (2 ^ 40) mix.old }
+    ensures samples { IsAdded (note_output (block_patch block.old)) mix.old mix.new }
+    ensures small { (bound : ℕ) → IsSmall bound mix.old → IsSmall (bound + 2 ^ 31) mix.new }
+    ensures memory { memory_of block.new.memory ≡ memory_left (block_patch block.old) }
+{
+    if block.is_heard() {
+        let mut bus = [0i32; 64];
+        block.run(tables, &mut bus);
+        add(&bus, mix);
+    } else {
+        block.pass_unheard(tables);
+    }
+}
+
+/// Room for the samples of a block.
+fn room() -> [i32; 64]
+    ensures { length result ≡ 64 }
+{
+    [0; 64]
+}
+
+/// The same for four notes of one algorithm and feedback, whose operators with feedback run side by side; the values of the sum are at
+/// most 2^39 in size.
+pub fn sound_four(
+    tables: &Tables,
+    first: &mut NoteBlock,
+    second: &mut NoteBlock,
+    third: &mut NoteBlock,
+    fourth: &mut NoteBlock,
+    mix: &mut [i64; 64],
+)
+    requires algorithm { (second.old.algorithm ≡ first.old.algorithm) × (third.old.algorithm ≡ first.old.algorithm) × (fourth.old.algorithm ≡ first.old.algorithm) }
+    requires feedback { (second.old.feedback ≡ first.old.feedback) × (third.old.feedback ≡ first.old.feedback) × (fourth.old.feedback ≡ first.old.feedback) }
+    requires mix { IsSmall (2 ^ 39) mix.old }
+    ensures samples { IsAdded (λ j. note_output (block_patch first.old) j +ℤ note_output (block_patch second.old) j +ℤ note_output (block_patch third.old) j +ℤ note_output (block_patch fourth.old) j) mix.old mix.new }
+    ensures small { (bound : ℕ) → IsSmall bound mix.old → IsSmall (bound + 4 * 2 ^ 31) mix.new }
+    ensures memory0 { memory_of first.new.memory ≡ memory_left (block_patch first.old) }
+    ensures memory1 { memory_of second.new.memory ≡ memory_left (block_patch second.old) }
+    ensures memory2 { memory_of third.new.memory ≡ memory_left (block_patch third.old) }
+    ensures memory3 { memory_of fourth.new.memory ≡ memory_left (block_patch fourth.old) }
+{
+    let mut out0 = room();
+    let mut out1 = room();
+    let mut out2 = room();
+    let mut out3 = room();
+    NoteBlock::run_four(
+        tables, first, second, third, fourth, &mut out0, &mut out1, &mut out2, &mut out3,
+    );
+    add(&out0, mix);
+    add(&out1, mix);
+    add(&out2, mix);
+    add(&out3, mix);
+}

@@ -1,0 +1,74 @@
+use Rattle.std.proofs.Common.{◌≡◌, ◌≤◌, ◌-◌, ℕ, List, length, map, ◌∙◌, sym, ap, subst, refl, arith, rules, ⊎_elim, string_bytes}
+use Rattle.outside.specs.Faults.{Rose}
+use Rattle.std.specs.Prelude.{◌==◌, if◌then◌else◌, option_map, Option}
+use Rattle.std.proofs.lemmas.List.{length-map}
+use Rattle.outside.specs.Files.{Files}
+use Rattle.command_set.specs.Entries.{journal_data, logged_data}
+use Rattle.take_files.specs.Files.{wav_header, order_header}
+use Rattle.turns.specs.Turns.{plans_of}
+use Rattle.play_core.specs.Words.{asked}
+use Rattle.play_core.specs.Verdict.{blocks_of_run, places_of_run, count_all}
+use Rattle.play_core.specs.Files.{with_two}
+use Rattle.play_core.specs.Run.{moment}
+use Rattle.play_core.proofs.Runs.{stopped_at_start, stopped_in_turns, played_whole, run_ordered}
+use Rattle.play_core.proofs.Stages.{all_due, plans_many}
+use Rattle.play_core.proofs.Writes.{has_first, has_second}
+use Rattle.play_core.proofs.play.perform.Goals as goal
+
+pub play_scripts-journal-requires-clause-due : goal.play_scripts-journal-requires-clause-due
+play_scripts-journal-requires-clause-due g c κs within = all_due c.args.stage.blocks c.args.stage.players.items c.requires.stage.due
+
+pub play_scripts-journal-requires-clause-has_sound : goal.play_scripts-journal-requires-clause-has_sound
+play_scripts-journal-requires-clause-has_sound g c κs within = has_first c.args.request.out.now c.args.request.order.now c.requires.differ _ _ _ _ c.in-Ok.ensures.whole
+
+pub play_scripts-journal-requires-clause-has_order : goal.play_scripts-journal-requires-clause-has_order
+play_scripts-journal-requires-clause-has_order g c κs within = has_second c.args.request.out.now c.args.request.order.now c.requires.differ _ _ _ _ c.in-Ok.ensures.whole
+
+pub returns-in-Err : goal.returns-in-Err
+returns-in-Err g c =
+    stopped_at_start (asked c.args.request)
+    (moment (g.S.Shelf.files c.args.shelf.now) (g.S.Shelf.reading c.args.shelf.now) (g.S.Shelf.writing c.args.shelf.now) (g.O.Out.written c.args.out.now) (g.O.Out.faults c.args.out.now))
+    (moment (g.S.Shelf.files c.begin_files.new.shelf) (g.S.Shelf.reading c.begin_files.new.shelf) (g.S.Shelf.writing c.begin_files.new.shelf) (g.O.Out.written c.say_stopped.new.out) (g.O.Out.faults c.say_stopped.new.out))
+    c.say_stopped.result (plans_of c.args.stage.players.items) c.requires.differ c.requires.plans c.in-Err.target c.say_stopped.ensures.status
+    (rw (← c.requires.stage.blocks_are, c.requires.plans.0, length-map c.args.request.scripts.now string_bytes) c.in-Err.ensures.stopped)
+    c.in-Err.ensures.cause.other
+    (⊎_elim (λ (r : Rose (g.S.Shelf.writing c.args.shelf.now) (g.S.Shelf.writing c.begin_files.new.shelf)). r) (λ b. absurd b) c.in-Err.ensures.cause.failed)
+    c.say_stopped.ensures.line
+
+pub returns-in-Ok-result : goal.returns-in-Ok-result
+returns-in-Ok-result g c =
+    let count : length (journal_data c.play_scripts-journal.result.0.items) ≡ c.len.result =
+    omega (arith, length-map c.play_scripts-journal.result.0.items logged_data, c.len.ensures, c.play_scripts-journal.result.0.ok) in
+    let few : length (journal_data c.play_scripts-journal.result.0.items) ≤ count_all (plans_of c.args.stage.players.items) =
+    omega (arith, length-map c.play_scripts-journal.result.0.items logged_data, c.play_scripts-journal.ensures.few) in
+    played_whole (asked c.args.request)
+    (moment (g.S.Shelf.files c.args.shelf.now) (g.S.Shelf.reading c.args.shelf.now) (g.S.Shelf.writing c.args.shelf.now) (g.O.Out.written c.args.out.now) (g.O.Out.faults c.args.out.now))
+    (moment (g.S.Shelf.files c.play_scripts-journal.new.shelf) (g.S.Shelf.reading c.play_scripts-journal.new.shelf) (g.S.Shelf.writing c.play_scripts-journal.new.shelf) (g.O.Out.written c.put_report.new.out) (g.O.Out.faults c.put_report.new.out))
+    c.put_report.result (plans_of c.args.stage.players.items) c.requires.differ c.requires.plans (g.S.Shelf.files c.begin_files.new.shelf) (journal_data c.play_scripts-journal.result.0.items)
+    (rw (← c.requires.stage.blocks_are, c.requires.plans.0, length-map c.args.request.scripts.now string_bytes) c.in-Ok.ensures.whole)
+    (rw (← c.requires.stage.blocks_are) (search rules))
+    (rw (← c.requires.stage.blocks_are)
+    (run_ordered (journal_data c.play_scripts-journal.result.0.items) c.args.stage.blocks (length (plans_of c.args.stage.players.items)) (count_all (plans_of c.args.stage.players.items))
+    c.requires.stage.some c.requires.stage.few
+    (omega (arith, c.requires.plans.0, length-map c.args.request.scripts.now string_bytes, c.requires.scripts.0))
+    (omega (arith, c.requires.plans.0, length-map c.args.request.scripts.now string_bytes, c.requires.scripts.1))
+    few c.requires.few
+    (rw (plans_many c.args.stage.players.items) c.play_scripts-journal.ensures.follows)))
+    (rw (← c.requires.stage.places_are) (search rules))
+    few
+    (c.play_scripts-journal.ensures.cause.other ∙ c.in-Ok.ensures.cause.other)
+    ((search rules) ∙ c.in-Ok.ensures.cause.kept)
+    (rw (count, ← c.requires.stage.commands, ← c.requires.stage.blocks_are) c.put_report.ensures)
+
+pub returns : goal.returns
+returns g c =
+    stopped_in_turns (asked c.args.request)
+    (moment (g.S.Shelf.files c.args.shelf.now) (g.S.Shelf.reading c.args.shelf.now) (g.S.Shelf.writing c.args.shelf.now) (g.O.Out.written c.args.out.now) (g.O.Out.faults c.args.out.now))
+    (moment (g.S.Shelf.files c.play_scripts-journal.new.shelf) (g.S.Shelf.reading c.play_scripts-journal.new.shelf) (g.S.Shelf.writing c.play_scripts-journal.new.shelf) (g.O.Out.written c.say_stopped-in-Err-result.new.out) (g.O.Out.faults c.say_stopped-in-Err-result.new.out))
+    c.say_stopped-in-Err-result.result (plans_of c.args.stage.players.items) c.requires.differ c.requires.plans (g.S.Shelf.files c.begin_files.new.shelf) (journal_data c.play_scripts-journal.result.0.items)
+    (rw (← c.requires.stage.blocks_are, c.requires.plans.0, length-map c.args.request.scripts.now string_bytes) c.in-Ok.ensures.whole)
+    c.say_stopped-in-Err-result.ensures.status c.play_scripts-journal.ensures.played
+    (rw (← c.requires.stage.blocks_are) (search rules))
+    (c.play_scripts-journal.ensures.cause.other ∙ c.in-Ok.ensures.cause.other)
+    (rw (← c.in-Ok.ensures.cause.kept) (search rules))
+    c.say_stopped-in-Err-result.ensures.line

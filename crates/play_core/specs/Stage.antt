@@ -1,0 +1,39 @@
+-- What is made before a file is touched.
+use Rattle.std.specs.Prelude.{◌≡◌, ℕ, ◌<◌, ◌≤◌, List, [], ◌∷◌, length, Option, vec_len, vec_capacity, slice_index_or}
+use Rattle.command_queue.specs.Ends.{SendView}
+use Rattle.lateness.specs.Late.{AllBelow}
+use Rattle.script_plan.specs.Plan.{PlannedData, dues}
+use Rattle.players.specs.Players.{PlayerView}
+use Rattle.turns.specs.Turns.{AreFresh, IsFreshRenderer, plans_of, many_commands}
+use Rattle.play_core.specs.declared.stage.Stage.{Stage}
+use Rattle.play_core.specs.Verdict.{blocks_of_run, places_of_run, block_limit, count_all}
+
+-- the player of an end and of a script, before its first turn
+abbrev pub player_of : SendView → List PlannedData → PlayerView
+player_of end plan = record { end = end; left = plan; logged = 0 }
+
+-- the players of these ends and of these scripts, one for each of both
+abbrev pub players_of : List SendView → List (List PlannedData) → List PlayerView
+players_of [] plans = []
+players_of (end ∷ ends) [] = []
+players_of (end ∷ ends) (plan ∷ plans) = player_of end plan ∷ players_of ends plans
+
+-- each command of each script is due below the number of blocks
+abbrev pub AreInTime : ℕ → List (List PlannedData) → Type 0
+AreInTime blocks [] = Unit {0}
+AreInTime blocks (plan ∷ plans) = AllBelow blocks (dues plan) × AreInTime blocks plans
+
+-- everything stands ready for these plans, with the numbers of blocks and places that were asked for
+pub record IsStage (blocks places : Option ℕ) (plans : List (List PlannedData)) (s : Stage) : Type 0 where
+  pub players : AreFresh s.line s.players.items
+  pub plans_are : plans_of s.players.items ≡ plans
+  pub renderer : IsFreshRenderer s.line s.renderer
+  pub spare : count_all plans ≤ s.renderer.spare
+  pub empty : s.ends.items ≡ []
+  pub room : vec_len s.players ≤ vec_capacity s.ends
+  pub blocks_are : s.blocks ≡ blocks_of_run blocks plans
+  pub some : 1 ≤ s.blocks
+  pub few : s.blocks ≤ block_limit
+  pub places_are : s.line.places ≡ places_of_run places plans
+  pub commands : s.commands ≡ count_all plans
+  pub due : AreInTime s.blocks plans

@@ -1,0 +1,159 @@
+//! All that a run needs, made before a file is touched.
+ghost use Rattle.std.specs.Prelude.{◌≡◌, ◌+◌, ◌<◌, ◌≤◌, ℕ, Option, All, IfOk, IfSome, IfNone, max, length, map, sum, vec_len, vec_capacity, slice_index};
+ghost use Rattle.script_plan.specs.Plan.{PlannedData};
+ghost use Rattle.command_queue.specs.Ends.{AreNewEnds};
+ghost use Rattle.play_core.specs.Verdict.{block_limit, blocks_of_run, command_limit, count_all, greatest_due, places_of_run};
+ghost use Rattle.play_core.specs.Stage.{IsStage, players_of, AreInTime};
+ghost use Rattle.play_core.specs.Survey.{AreBelow};
+
+use command_queue::{Line, SendEnd};
+use instrument::Engine;
+use live_renderer::LiveRenderer;
+use players::Player;
+use script_read::Script;
+use std::alloc::{AllocError, Global};
+
+const BLOCK_LIMIT: u32 = 1_048_576;
+
+/// The line, the renderer, a player for each script, room for the ends when they come back, and the numbers of blocks and of commands.
+#[derive(Drop)]
+pub struct Stage {
+    pub line: Line,
+    pub renderer: LiveRenderer,
+    pub players: Vec<Player>,
+    pub ends: Vec<SendEnd>,
+    pub blocks: u32,
+    pub commands: u32,
+}
+
+/// The number of blocks: that which was asked for, or 201 more than the greatest block that a command is due at. `None` where it is above the limit.
+pub(crate) fn choose_blocks(blocks: Option<u32>, scripts: &[Script]) -> Option<u32>
+    requires asked { IfSome blocks (λ b. (1 ≤ b) × (b ≤ block_limit)) }
+    requires below { IfSome blocks (λ b. All (λ one. AreBelow b one) scripts.now) }
+    ensures in_time { IfSome result (λ b. AreInTime b scripts.now) }
+    ensures some { IfSome result (λ b. (b ≡ blocks_of_run blocks scripts.now) × (1 ≤ b) × (b ≤ block_limit)) }
+    ensures none { IfNone result (block_limit < blocks_of_run blocks scripts.now) }
+{
+    match blocks {
+        Some(blocks) => Some(blocks),
+        None => {
+            let due = greatest(scripts);
+            last_block(due)
+        }
+    }
+}
+
+// 201 more, up to the limit.
+fn last_block(due: u32) -> Option<u32>
+    ensures some { IfSome result (λ b. (b ≡ due + 201) × (b ≤ block_limit)) }
+    ensures none { IfNone result (block_limit < due + 201) }
+{
+    if due > BLOCK_LIMIT - 201 {
+        None
+    } else {
+        Some(due + 201)
+    }
+}
+
+// The greatest block that a command is due at, or 0.
+fn greatest(scripts: &[Script]) -> u32
+    ensures due { result ≡ greatest_due scripts.now }
+    ensures within { AreInTime (result + 1) scripts.now }
+{
+    let mut due = 0;
+    for script in scripts {
+        due = later(due, script.last_due());
+    }
+    due
+}
+
+fn later(a: u32, b: u32) -> u32
+    ensures { result ≡ max a b }
+{
+    if a < b { b } else { a }
+}
+
+// How many commands each script has.
+fn quotas_of(alloc: Global, scripts: &[Script]) -> Result<Vec<u32>, AllocError>
+    requires { count_all scripts.now ≤ command_limit }
+    ensures { IfOk result (λ quotas. quotas.items ≡ map length scripts.now) }
+{
+    let mut quotas = Vec::with_capacity(alloc, scripts.len())?;
+    for script in scripts {
+        quotas.push(script.len() as u32)?;
+    }
+    Ok(quotas)
+}
+
+// The sum of these numbers.
+fn sum_of(quotas: &[u32]) -> u32
+    requires { sum quotas.now ≤ command_limit }
+    ensures { result ≡ sum quotas.now }
+{
+    quotas.iter().map(|q| *q as u64).sum::<u64>() as u32
+}
+
+// The number of places: that which was asked for, or one for each command, and one at least.
+fn choose_places(places: Option<u32>, commands: u32) -> u32
+    ensures some { IfSome places (λ p. result ≡ p) }
+    ensures none { IfNone places (result ≡ max 1 commands) }
+{
+    match places {
+        Some(places) => places,
+        None => commands.max(1),
+    }
+}
+
+// A player for each end and its script.
+fn make_players(
+    alloc: Global,
+    ends: Vec<SendEnd>,
+    scripts: Vec<Script>,
+) -> Result<Vec<Player>, AllocError>
+    requires { length ends.items ≡ length scripts.items }
+    ensures { IfOk result (λ players. players.items ≡ players_of ends.items scripts.items) }
+{
+    let mut players = Vec::with_capacity(alloc, ends.len())?;
+    let mut scripts = scripts.into_iter();
+    for end in ends {
+        let Some(script) = scripts.next() else {
+            unreachable!()
+        };
+        players.push(Player::new(end, script))?;
+    }
+    Ok(players)
+}
+
+/// Everything for a run of these scripts.
+///
+/// The one error is want of memory.
+pub(crate) fn set_stage(
+    alloc: Global,
+    scripts: Vec<Script>,
+    blocks: u32,
+    places: Option<u32>,
+) -> Result<Stage, AllocError>
+    requires many { (1 ≤ length scripts.items) × (length scripts.items ≤ 256) }
+    requires few { count_all scripts.items ≤ command_limit }
+    requires blocks { (1 ≤ blocks) × (blocks ≤ block_limit) }
+    requires places { IfSome places (λ p. (1 ≤ p) × (p ≤ 1000000)) }
+    requires due { AreInTime blocks scripts.items }
+    ensures { IfOk result (λ stage. (asked : Option ℕ) → blocks ≡ blocks_of_run asked scripts.items → IsStage asked places scripts.items stage) }
+{
+    let quotas = quotas_of(alloc, &scripts)?;
+    let commands = sum_of(&quotas);
+    let (line, taker, own) = Line::new(alloc, choose_places(places, commands) as usize, &quotas)?;
+    let Ok(renderer) = LiveRenderer::new(alloc, taker, Engine::One, commands as usize) else {
+        return Err(AllocError);
+    };
+    let ends = Vec::with_capacity(alloc, scripts.len())?;
+    let players = make_players(alloc, own, scripts)?;
+    Ok(Stage {
+        line,
+        renderer,
+        players,
+        ends,
+        blocks,
+        commands,
+    })
+}
