@@ -7,7 +7,7 @@ use Rattle.std.proofs.lemmas.List.Sums.{sum_by_more, sum-map, get_or-le-sum_by}
 use Rattle.std.proofs.lemmas.List.Elements.{All-head, All-tail, All-nil, All-cons}
 use Rattle.command_set.specs.Entries.{EntryData, LoggedData, entries_of, sent_by}
 use Rattle.command_queue.specs.Entries.{quota_at}
-use Rattle.command_queue.proofs.Counts.{below, below_more, below_none, below_all, others_bound, sent_by_other}
+use Rattle.command_queue.proofs.Counts.{below, below_more, below_none, below_all, total_bound, others_bound, sent_by_other}
 use Rattle.script_plan.specs.Plan.{PlannedData}
 use Rattle.players.specs.Players.{entries}
 use Rattle.turns.specs.Turns.{plan_of, blocks_of}
@@ -119,3 +119,7 @@ module _ (plans : List (List PlannedData)) (journal : List LoggedData) (played :
   some_left left =
       search_lack (length plans) (omega arith)
       (omega (arith, left, same_length, below_all (length plans) all (all_entries (length plans) journal played.scripts), ap sum (take_whole quotas (length plans) many)))
+
+  -- a journal has no more commands than there are
+  pub not_more : length journal ≤ count_all plans
+  not_more = let bound = total_bound quotas all made bounded in omega (arith, bound, same_length)

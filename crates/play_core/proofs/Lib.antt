@@ -5,3 +5,4 @@ pub mod Counts
 pub mod Clauses
 pub mod Runs
 pub mod Stages
+pub mod Following

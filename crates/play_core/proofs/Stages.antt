@@ -7,13 +7,12 @@ use Rattle.std.specs.List.{sum_by}
 use Rattle.std.proofs.lemmas.Grind.{take_at_read}
 use Rattle.std.proofs.lemmas.List.{map-append, take_all}
 use Rattle.std.proofs.lemmas.List.Sums.{sum-map, get_or-le-sum_by}
-use Rattle.command_queue.specs.Ends.{LineView, SendView, AreNewEnds, quota_of, new_end}
 use Rattle.lateness.specs.Late.{AllBelow}
 use Rattle.script_plan.specs.Plan.{PlannedData, dues, last_due, last_due_or, IsPlan, IsPlanFrom}
 use Rattle.players.specs.Players.{PlayerView}
-use Rattle.turns.specs.Turns.{AreFresh, IsFresh, plans_of}
+use Rattle.turns.specs.Turns.{plans_of}
 use Rattle.play_core.specs.Verdict.{greatest_due, count_all}
-use Rattle.play_core.specs.Stage.{player_of, players_of, AreInTime}
+use Rattle.play_core.specs.Stage.{AreInTime}
 
 max_zero : (n : ℕ) → max n 0 ≡ n
 max_zero n = grind arith
@@ -86,60 +85,12 @@ pub some_in_time : (due : ℕ) (blocks : Option ℕ) (plans : List (List Planned
 some_in_time due None plans all is = tt
 some_in_time due (Some b) plans all is = in_time_later (due + 1) b plans (let same = is.0 in omega arith) all
 
--- one more player
-pub players_pushed : (ends : List SendView) (plans : List (List PlannedData)) (end : SendView) (plan : List PlannedData) → length ends ≡ length plans
-    → players_of (ends ++ end ∷ []) (plans ++ plan ∷ []) ≡ players_of ends plans ++ player_of end plan ∷ []
-players_pushed [] [] end plan same = refl
-players_pushed [] (p ∷ plans) end plan same = absurd (omega arith)
-players_pushed (e ∷ ends) [] end plan same = absurd (omega arith)
-players_pushed (e ∷ ends) (p ∷ plans) end plan same = ap (λ (l : List PlayerView). player_of e p ∷ l) (players_pushed ends plans end plan (omega arith))
+pub plans_many : (players : List PlayerView) → length (plans_of players) ≡ length players
+plans_many [] = refl
+plans_many (p ∷ players) = ap suc (plans_many players)
 
-pub players_many : (ends : List SendView) (plans : List (List PlannedData)) → length ends ≡ length plans → length (players_of ends plans) ≡ length plans
-players_many [] [] same = refl
-players_many [] (p ∷ plans) same = absurd (omega arith)
-players_many (e ∷ ends) [] same = absurd (omega arith)
-players_many (e ∷ ends) (p ∷ plans) same = ap suc (players_many ends plans (omega arith))
-
-pub players_plans : (ends : List SendView) (plans : List (List PlannedData)) → length ends ≡ length plans → plans_of (players_of ends plans) ≡ plans
-players_plans [] [] same = refl
-players_plans [] (p ∷ plans) same = absurd (omega arith)
-players_plans (e ∷ ends) [] same = absurd (omega arith)
-players_plans (e ∷ ends) (p ∷ plans) same = ap (λ (l : List (List PlannedData)). p ∷ l) (players_plans ends plans (omega arith))
-
-pub player_at : (ends : List SendView) (plans : List (List PlannedData)) (k : ℕ) (d : PlayerView) → length ends ≡ length plans → k < length plans
-    → slice_index_or (players_of ends plans) k d ≡ player_of (slice_index_or ends k d.end) (slice_index_or plans k [])
-player_at [] [] k d same below = absurd (omega arith)
-player_at [] (p ∷ plans) k d same below = absurd (omega arith)
-player_at (e ∷ ends) [] k d same below = absurd (omega arith)
-player_at (e ∷ ends) (p ∷ plans) zero d same below = refl
-player_at (e ∷ ends) (p ∷ plans) (suc k) d same below = player_at ends plans k d (omega arith) (omega arith)
-
-length_at : (plans : List (List PlannedData)) (k : ℕ) → k < length plans → length (slice_index_or plans k []) ≡ slice_index (map length plans) k
-length_at [] k below = absurd (omega arith)
-length_at (p ∷ plans) zero below = refl
-length_at (p ∷ plans) (suc k) below = length_at plans k (omega arith)
-
-pub lengths_many : (plans : List (List PlannedData)) → length (map length plans) ≡ length plans
-lengths_many [] = refl
-lengths_many (p ∷ plans) = ap suc (lengths_many plans)
-
--- the players of a new line's ends
-pub fresh_players : (line : LineView) (ends : List SendView) (plans : List (List PlannedData)) → line.quotas ≡ map length plans → AreNewEnds line ends → AreFresh line (players_of ends plans)
-fresh_players line ends plans quotas fresh =
-    let same : length ends ≡ length plans = fresh.0 ∙ ap length quotas ∙ lengths_many plans in
-    (players_many ends plans same ∙ sym (ap length quotas ∙ lengths_many plans),
-    λ k d below.
-    let within : k < length plans = omega (arith, below, players_many ends plans same) in
-    let is : slice_index_or (players_of ends plans) k d ≡ player_of (slice_index_or ends k d.end) (slice_index_or plans k []) = player_at ends plans k d same within in
-    let end : slice_index_or ends k d.end ≡ new_end line k = fresh.1 k d.end (omega (arith, same, within)) in
-    rw (is, end) (record {
-      line_is = refl;
-      number = refl;
-      list = refl;
-      refusals = refl;
-      logged = refl;
-      quota = length_at plans k within ∙ ap (λ (q : List ℕ). slice_index q k) (sym quotas);
-    }))
+pub players_many : (players : List PlayerView) (plans : List (List PlannedData)) → plans_of players ≡ plans → length players ≡ length plans
+players_many players plans is = sym (plans_many players) ∙ ap length is
 
 pub due_at : (blocks : ℕ) (plans : List (List PlannedData)) (k : ℕ) → k < length plans → AreInTime blocks plans → AllBelow blocks (dues (slice_index_or plans k []))
 due_at blocks [] k below all = absurd (omega arith)
@@ -150,10 +101,6 @@ left_at : (players : List PlayerView) (k : ℕ) (d : PlayerView) → k < length 
 left_at [] k d below = absurd (omega arith)
 left_at (p ∷ players) zero d below = refl
 left_at (p ∷ players) (suc k) d below = left_at players k d (omega arith)
-
-pub plans_many : (players : List PlayerView) → length (plans_of players) ≡ length players
-plans_many [] = refl
-plans_many (p ∷ players) = ap suc (plans_many players)
 
 pub all_due : (blocks : ℕ) (players : List PlayerView) → AreInTime blocks (plans_of players)
     → (k : ℕ) (d : PlayerView) → k < length players → AllBelow blocks (dues (slice_index_or players k d).left)

@@ -1,22 +1,10 @@
 -- What is made before a file is touched.
-use Rattle.std.specs.Prelude.{◌≡◌, ℕ, ◌<◌, ◌≤◌, List, [], ◌∷◌, length, Option, vec_len, vec_capacity, slice_index_or}
-use Rattle.command_queue.specs.Ends.{SendView}
+use Rattle.std.specs.Prelude.{◌≡◌, ℕ, ◌≤◌, List, [], ◌∷◌, Option, vec_len, vec_capacity}
 use Rattle.lateness.specs.Late.{AllBelow}
 use Rattle.script_plan.specs.Plan.{PlannedData, dues}
-use Rattle.players.specs.Players.{PlayerView}
-use Rattle.turns.specs.Turns.{AreFresh, IsFreshRenderer, plans_of, many_commands}
+use Rattle.turns.specs.Turns.{AreFresh, IsFreshRenderer, plans_of}
 use Rattle.play_core.specs.declared.stage.Stage.{Stage}
 use Rattle.play_core.specs.Verdict.{blocks_of_run, places_of_run, block_limit, count_all}
-
--- the player of an end and of a script, before its first turn
-abbrev pub player_of : SendView → List PlannedData → PlayerView
-player_of end plan = record { end = end; left = plan; logged = 0 }
-
--- the players of these ends and of these scripts, one for each of both
-abbrev pub players_of : List SendView → List (List PlannedData) → List PlayerView
-players_of [] plans = []
-players_of (end ∷ ends) [] = []
-players_of (end ∷ ends) (plan ∷ plans) = player_of end plan ∷ players_of ends plans
 
 -- each command of each script is due below the number of blocks
 abbrev pub AreInTime : ℕ → List (List PlannedData) → Type 0

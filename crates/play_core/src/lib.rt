@@ -5,6 +5,7 @@ mod lines;
 mod play;
 mod refusal;
 mod stage;
+mod surely;
 mod survey;
 mod top;
 mod totals;
@@ -13,6 +14,7 @@ mod writing;
 
 pub use refusal::Refusal;
 pub use stage::Stage;
+pub use surely::play_surely;
 pub use top::play_main;
 pub use totals::Totals;
 pub use words::Request;

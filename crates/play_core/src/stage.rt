@@ -1,9 +1,7 @@
 //! All that a run needs, made before a file is touched.
 ghost use Rattle.std.specs.Prelude.{◌≡◌, ◌+◌, ◌<◌, ◌≤◌, ℕ, Option, All, IfOk, IfSome, IfNone, max, length, map, sum, vec_len, vec_capacity, slice_index};
-ghost use Rattle.script_plan.specs.Plan.{PlannedData};
-ghost use Rattle.command_queue.specs.Ends.{AreNewEnds};
 ghost use Rattle.play_core.specs.Verdict.{block_limit, blocks_of_run, command_limit, count_all, greatest_due, places_of_run};
-ghost use Rattle.play_core.specs.Stage.{IsStage, players_of, AreInTime};
+ghost use Rattle.play_core.specs.Stage.{IsStage, AreInTime};
 ghost use Rattle.play_core.specs.Survey.{AreBelow};
 
 use command_queue::{Line, SendEnd};
@@ -12,6 +10,7 @@ use live_renderer::LiveRenderer;
 use players::Player;
 use script_read::Script;
 use std::alloc::{AllocError, Global};
+use turns::new_players;
 
 const BLOCK_LIMIT: u32 = 1_048_576;
 
@@ -104,26 +103,6 @@ fn choose_places(places: Option<u32>, commands: u32) -> u32
     }
 }
 
-// A player for each end and its script.
-fn make_players(
-    alloc: Global,
-    ends: Vec<SendEnd>,
-    scripts: Vec<Script>,
-) -> Result<Vec<Player>, AllocError>
-    requires { length ends.items ≡ length scripts.items }
-    ensures { IfOk result (λ players. players.items ≡ players_of ends.items scripts.items) }
-{
-    let mut players = Vec::with_capacity(alloc, ends.len())?;
-    let mut scripts = scripts.into_iter();
-    for end in ends {
-        let Some(script) = scripts.next() else {
-            unreachable!()
-        };
-        players.push(Player::new(end, script))?;
-    }
-    Ok(players)
-}
-
 /// Everything for a run of these scripts.
 ///
 /// The one error is want of memory.
@@ -147,7 +126,7 @@ pub(crate) fn set_stage(
         return Err(AllocError);
     };
     let ends = Vec::with_capacity(alloc, scripts.len())?;
-    let players = make_players(alloc, own, scripts)?;
+    let players = new_players(alloc, &line, own, scripts)?;
     Ok(Stage {
         line,
         renderer,

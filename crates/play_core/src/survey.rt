@@ -27,7 +27,8 @@ pub(crate) fn read_scripts<S: Shelf>(
     maps: &MapSet,
     blocks: Option<u32>,
 ) -> Result<Vec<Script>, Refusal>
-    requires { length names.now ≤ 256 }
+    requires many { length names.now ≤ 256 }
+    requires some { IfSome blocks (λ b. 0 < b) }
     ensures plans { IfOk result (λ scripts. IfSome (S.files shelf.old) (λ told. of_scripts told blocks nothing (map string_bytes names.now) ≡ Plays scripts.items)) }
     ensures many { IfOk result (λ scripts. length scripts.items ≡ length names.now) }
     ensures few { IfOk result (λ scripts. count_all scripts.items ≤ command_limit) }
@@ -70,6 +71,7 @@ fn read_next<S: Shelf>(
     totals: &mut Totals,
 ) -> Result<Script, Refusal>
     requires scripts { totals.old.scripts < 256 }
+    requires some { IfSome blocks (λ b. 0 < b) }
     requires bytes { totals.old.bytes ≤ scripts_limit }
     requires commands { totals.old.commands ≤ command_limit }
     ensures next { IfOk result (λ script. IsNext (S.files shelf.old) blocks name.now totals.old script totals.new) }
@@ -111,6 +113,7 @@ fn judge_text(
     totals: Totals,
 ) -> Result<Script, Refusal>
     requires text { length text.now ≤ script_limit }
+    requires some { IfSome blocks (λ b. 0 < b) }
     requires bytes { totals.bytes ≤ scripts_limit }
     requires commands { totals.commands ≤ command_limit }
     ensures plan { IfOk result (λ script. plan text.now blocks (command_limit - totals.commands) ≡ Commands script) }

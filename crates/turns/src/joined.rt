@@ -1,7 +1,8 @@
 //! After the turns: the ends are joined, and what the journal says of each script is known.
-ghost use Rattle.std.specs.Prelude.{◌≡◌, ◌≢◌, ◌<◌, ◌≤◌, ℕ, List, [], All, OnOk, OnErr, length, map, option_map, vec_len, vec_capacity, slice_index_or};
+ghost use Rattle.std.specs.Prelude.{◌≡◌, ◌≢◌, ◌<◌, ◌≤◌, ◌-◌, ℕ, List, [], All, OnOk, OnErr, length, map, option_map, vec_len, vec_capacity, slice_index_or};
 ghost use Rattle.command_set.specs.Command.{IsInRange};
 ghost use Rattle.command_set.specs.Entries.{journal_data};
+ghost use Rattle.instrument.specs.Logging.{AreTakenUpTo};
 ghost use Rattle.outside.specs.Files.{Lacks};
 ghost use Rattle.outside.specs.Faults.{HasCause};
 ghost use Rattle.take_files.specs.Files.{wav_blocks};
@@ -12,11 +13,12 @@ ghost use Rattle.turns.specs.Turns.{AreFresh, IsFreshRenderer, HavePlayed, AreOn
 ghost use Rattle.turns.specs.Timed.{ArePlayed, IsTimed};
 ghost use Rattle.turns.specs.Written.{order_lines, both_appended, BothBegun};
 
-use crate::turns::play_turns;
+use crate::target::Target;
+use crate::turns::run_turns;
 use command_queue::{Line, SendEnd};
 use command_set::Logged;
 use live_renderer::LiveRenderer;
-use outside::{Failed, Gate, Shelf};
+use outside::{Gate, Shelf};
 use players::Player;
 use std::sync::Wait;
 use std::thread::Threads;
@@ -51,6 +53,7 @@ pub fn close<R: Wait>(
     requires played { (plans : List (List PlannedData)) × HavePlayed line plans renderer.journal players.items }
     ensures journal { journal_data result.items ≡ renderer.journal }
     ensures ranges { All (λ l. IsInRange l.entry.command) renderer.journal }
+    ensures order { AreTakenUpTo renderer.blocks renderer.journal }
     ensures played { (plans : List (List PlannedData)) → HavePlayed line plans renderer.journal players.items → ArePlayed renderer.journal plans }
     ensures timed { (plans : List (List PlannedData)) (blocks : ℕ) → HavePlayed line plans renderer.journal players.items → AreOnTime line blocks plans renderer.journal players.items
         → IsTimed renderer.journal plans line.places }
@@ -66,7 +69,7 @@ pub fn close<R: Wait>(
     journal
 }
 
-/// Plays the scripts of all players to their end, or until the shelf fails, by `play_turns` and `close`, and gives the journal with `play_turns`' answer.
+/// Plays the scripts of all players to their end, or until the shelf fails, by `run_turns` and `close`, and gives the journal with the answer of `run_turns`.
 pub fn play_scripts<R: Threads + Wait + Sync, S: Shelf, G: Gate>(
     rt: &R,
     line: Line,
@@ -78,7 +81,7 @@ pub fn play_scripts<R: Threads + Wait + Sync, S: Shelf, G: Gate>(
     sound: &str,
     order: &str,
     gate: &G,
-) -> (Vec<Logged>, Result<(), Failed>)
+) -> (Vec<Logged>, Result<(), Target>)
     requires players { AreFresh line players.items }
     requires renderer { IsFreshRenderer line renderer }
     requires spare { many_commands (plans_of players.items) ≤ renderer.spare }
@@ -90,6 +93,7 @@ pub fn play_scripts<R: Threads + Wait + Sync, S: Shelf, G: Gate>(
     requires has_sound { ¬ (Lacks (S.files shelf.old) sound.now) }
     requires has_order { ¬ (Lacks (S.files shelf.old) order.now) }
     ensures ranges { All (λ l. IsInRange l.entry.command) (journal_data result.0.items) }
+    ensures order { AreTakenUpTo (blocks - 1) (journal_data result.0.items) }
     ensures played { ArePlayed (journal_data result.0.items) (plans_of players.items) }
     ensures timed { OnOk result.1 (IsTimed (journal_data result.0.items) (plans_of players.items) line.places) }
     ensures whole { OnOk result.1 (S.files shelf.new ≡ option_map (both_appended sound.now (wav_blocks (journal_data result.0.items) blocks) order.now (order_lines (journal_data result.0.items))) (S.files shelf.old)) }
@@ -99,7 +103,7 @@ pub fn play_scripts<R: Threads + Wait + Sync, S: Shelf, G: Gate>(
 {
     let mut renderer = renderer;
     let mut players = players;
-    let result = play_turns(
+    let result = run_turns(
         rt,
         &line,
         &mut renderer,

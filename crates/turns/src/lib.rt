@@ -5,11 +5,13 @@ mod half;
 mod joined;
 mod note;
 mod opening;
+mod target;
 mod turn;
 mod turns;
 mod write;
 
 pub use joined::{close, play_scripts};
 pub use opening::new_players;
-pub use turns::play_turns;
+pub use target::Target;
+pub use turns::{play_turns, run_turns};
 

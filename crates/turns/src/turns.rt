@@ -1,5 +1,5 @@
 //! All turns of a run.
-ghost use Rattle.std.specs.Prelude.{◌≡◌, ◌≢◌, ◌<◌, ◌≤◌, ℕ, OnOk, OnErr, length, option_map, slice_index_or};
+ghost use Rattle.std.specs.Prelude.{◌≡◌, ◌≢◌, ◌<◌, ◌≤◌, ℕ, All, OnOk, OnErr, length, option_map, slice_index_or};
 ghost use Rattle.outside.specs.Files.{Lacks};
 ghost use Rattle.outside.specs.Faults.{HasCause};
 ghost use Rattle.take_files.specs.Files.{wav_blocks};
@@ -10,6 +10,7 @@ ghost use Rattle.players.specs.Players.{PlayerView};
 ghost use Rattle.turns.specs.Turns.{AreFresh, IsFreshRenderer, HavePlayed, AreOnTime, plans_of, many_commands};
 ghost use Rattle.turns.specs.Written.{order_lines, both_appended, BothBegun};
 
+use crate::target::Target;
 use crate::turn::run_turn;
 use crate::write::{write_block, write_lines};
 use command_queue::Line;
@@ -19,6 +20,54 @@ use players::Player;
 use std::sync::Wait;
 use std::thread::Threads;
 use take_files::wav_block;
+
+/// The same as `play_turns`, where a failure also tells which file could not be written.
+pub fn run_turns<R: Threads + Wait + Sync, S: Shelf, G: Gate>(
+    rt: &R,
+    line: &Line,
+    renderer: &mut LiveRenderer,
+    players: &mut [Player],
+    blocks: u32,
+    shelf: &mut S,
+    sound: &str,
+    order: &str,
+    gate: &G,
+) -> Result<(), Target>
+    requires players { AreFresh line.now players.old }
+    requires renderer { IsFreshRenderer line.now renderer.old }
+    requires spare { many_commands (plans_of players.old) ≤ renderer.old.spare }
+    requires blocks { (1 ≤ blocks) × (blocks ≤ 1048576) }
+    requires due { (k : ℕ) (d : PlayerView) → k < length players.old → AllBelow blocks (dues (slice_index_or players.old k d).left) }
+    requires differ { sound.now ≢ order.now }
+    requires has_sound { ¬ (Lacks (S.files shelf.old) sound.now) }
+    requires has_order { ¬ (Lacks (S.files shelf.old) order.now) }
+    ensures played { HavePlayed line.now (plans_of players.old) renderer.new.journal players.new }
+    ensures taker { renderer.new.taker.line ≡ line.now }
+    ensures live { IsLive renderer.new }
+    ensures within { All (λ l. l.block < blocks) renderer.new.journal }
+    ensures on_time { OnOk result (AreOnTime line.now blocks (plans_of players.old) renderer.new.journal players.new) }
+    ensures rendered { OnOk result (renderer.new.blocks ≡ blocks) }
+    ensures whole { OnOk result (S.files shelf.new ≡ option_map (both_appended sound.now (wav_blocks renderer.new.journal blocks) order.now (order_lines renderer.new.journal)) (S.files shelf.old)) }
+    ensures begun { OnErr result (BothBegun sound.now (wav_blocks renderer.new.journal blocks) order.now (order_lines renderer.new.journal) (S.files shelf.old) (S.files shelf.new)) }
+    ensures cause { HasCause (S.writing shelf.old) (S.writing shelf.new) (S.reading shelf.old) (S.reading shelf.new) ⊥ result }
+    ensures reads { S.reads shelf.new ≡ S.reads shelf.old }
+{
+    let _ = line.places();
+    let actor = players.len() as u32;
+    let mut samples = [0i16; 64];
+    for t in 0..blocks {
+        let seen = renderer.journal().len();
+        run_turn(rt, line, gate, t, actor, renderer, &mut samples, players);
+        write_block(t, &samples, shelf, sound)?;
+        let (_, new) = renderer.journal().split_at(seen);
+        write_lines(new, shelf, order)?;
+    }
+    renderer.render(&mut samples);
+    match append_all(shelf, sound, &wav_block(&samples)) {
+        Ok(()) => Ok(()),
+        Err(_) => Err(Target::Sound),
+    }
+}
 
 /// Plays all turns. In each the players send what is due, beside the renderer, which renders the block before and takes; then all that was accepted is taken, and logged at the turn's block;
 /// and then the block and the lines of the new entries are appended to the two files. After the last turn the last block is rendered and appended. It allocates nothing.
@@ -48,6 +97,7 @@ pub fn play_turns<R: Threads + Wait + Sync, S: Shelf, G: Gate>(
     ensures played { HavePlayed line.now (plans_of players.old) renderer.new.journal players.new }
     ensures taker { renderer.new.taker.line ≡ line.now }
     ensures live { IsLive renderer.new }
+    ensures within { All (λ l. l.block < blocks) renderer.new.journal }
     ensures on_time { OnOk result (AreOnTime line.now blocks (plans_of players.old) renderer.new.journal players.new) }
     ensures rendered { OnOk result (renderer.new.blocks ≡ blocks) }
     ensures whole { OnOk result (S.files shelf.new ≡ option_map (both_appended sound.now (wav_blocks renderer.new.journal blocks) order.now (order_lines renderer.new.journal)) (S.files shelf.old)) }
@@ -55,16 +105,10 @@ pub fn play_turns<R: Threads + Wait + Sync, S: Shelf, G: Gate>(
     ensures cause { HasCause (S.writing shelf.old) (S.writing shelf.new) (S.reading shelf.old) (S.reading shelf.new) ⊥ result }
     ensures reads { S.reads shelf.new ≡ S.reads shelf.old }
 {
-    let _ = line.places();
-    let actor = players.len() as u32;
-    let mut samples = [0i16; 64];
-    for t in 0..blocks {
-        let seen = renderer.journal().len();
-        run_turn(rt, line, gate, t, actor, renderer, &mut samples, players);
-        write_block(t, &samples, shelf, sound)?;
-        let (_, new) = renderer.journal().split_at(seen);
-        write_lines(new, shelf, order)?;
+    match run_turns(
+        rt, line, renderer, players, blocks, shelf, sound, order, gate,
+    ) {
+        Ok(()) => Ok(()),
+        Err(_) => Err(Failed),
     }
-    renderer.render(&mut samples);
-    append_all(shelf, sound, &wav_block(&samples))
 }

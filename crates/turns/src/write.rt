@@ -8,7 +8,8 @@ ghost use Rattle.turns.specs.Steps.{block_before};
 ghost use Rattle.turns.specs.Written.{order_lines};
 
 use command_set::{LineText, Logged};
-use outside::{Failed, Shelf, append_all};
+use crate::target::Target;
+use outside::{Shelf, append_all};
 use take_files::{order_line, wav_block};
 
 /// Appends the block before a turn, where there is one.
@@ -17,7 +18,7 @@ pub(crate) fn write_block<S: Shelf>(
     samples: &[i16; 64],
     shelf: &mut S,
     sound: &str,
-) -> Result<(), Failed>
+) -> Result<(), Target>
     requires { ¬ (Lacks (S.files shelf.old) sound.now) }
     ensures all { OnOk result (S.files shelf.new ≡ option_map (appended sound.now (block_before t samples.now)) (S.files shelf.old)) }
     ensures some { OnErr result (AppendedSome sound.now (block_before t samples.now) (S.files shelf.old) (S.files shelf.new)) }
@@ -27,7 +28,10 @@ pub(crate) fn write_block<S: Shelf>(
     if t == 0 {
         return Ok(());
     }
-    append_all(shelf, sound, &wav_block(samples))
+    match append_all(shelf, sound, &wav_block(samples)) {
+        Ok(()) => Ok(()),
+        Err(_) => Err(Target::Sound),
+    }
 }
 
 /// Appends the lines of entries.
@@ -35,7 +39,7 @@ pub(crate) fn write_lines<S: Shelf>(
     entries: &[Logged],
     shelf: &mut S,
     order: &str,
-) -> Result<(), Failed>
+) -> Result<(), Target>
     requires told { ¬ (Lacks (S.files shelf.old) order.now) }
     requires range { All (λ l. IsInRange l.entry.command) (journal_data entries.now) }
     ensures all { OnOk result (S.files shelf.new ≡ option_map (appended order.now (order_lines (journal_data entries.now))) (S.files shelf.old)) }
@@ -46,7 +50,10 @@ pub(crate) fn write_lines<S: Shelf>(
     for logged in entries {
         let mut text = LineText::new();
         order_line(logged, &mut text);
-        append_all(shelf, order, text.as_slice())?;
+        match append_all(shelf, order, text.as_slice()) {
+            Ok(()) => {}
+            Err(_) => return Err(Target::Order),
+        }
     }
     Ok(())
 }

@@ -11,7 +11,9 @@ use Rattle.play_core.specs.Verdict.{blocks_of_run, places_of_run, count_all}
 use Rattle.play_core.specs.Files.{with_two}
 use Rattle.play_core.specs.Run.{moment}
 use Rattle.play_core.proofs.Runs.{stopped_at_start, stopped_in_turns, played_whole, run_ordered}
-use Rattle.play_core.proofs.Stages.{all_due, plans_many}
+use Rattle.play_core.proofs.Counts.{not_more}
+use Rattle.play_core.proofs.Following.{all_follow}
+use Rattle.play_core.proofs.Stages.{all_due}
 use Rattle.play_core.proofs.Writes.{has_first, has_second}
 use Rattle.play_core.proofs.play.perform.Goals as goal
 
@@ -40,7 +42,8 @@ returns-in-Ok-result g c =
     let count : length (journal_data c.play_scripts-journal.result.0.items) ≡ c.len.result =
     omega (arith, length-map c.play_scripts-journal.result.0.items logged_data, c.len.ensures, c.play_scripts-journal.result.0.ok) in
     let few : length (journal_data c.play_scripts-journal.result.0.items) ≤ count_all (plans_of c.args.stage.players.items) =
-    omega (arith, length-map c.play_scripts-journal.result.0.items logged_data, c.play_scripts-journal.ensures.few) in
+    not_more (plans_of c.args.stage.players.items) (journal_data c.play_scripts-journal.result.0.items) c.play_scripts-journal.ensures.played in
+    let scripts : length (plans_of c.args.stage.players.items) ≤ 256 = omega (arith, c.requires.plans.0, length-map c.args.request.scripts.now string_bytes, c.requires.scripts.1) in
     played_whole (asked c.args.request)
     (moment (g.S.Shelf.files c.args.shelf.now) (g.S.Shelf.reading c.args.shelf.now) (g.S.Shelf.writing c.args.shelf.now) (g.O.Out.written c.args.out.now) (g.O.Out.faults c.args.out.now))
     (moment (g.S.Shelf.files c.play_scripts-journal.new.shelf) (g.S.Shelf.reading c.play_scripts-journal.new.shelf) (g.S.Shelf.writing c.play_scripts-journal.new.shelf) (g.O.Out.written c.put_report.new.out) (g.O.Out.faults c.put_report.new.out))
@@ -51,9 +54,9 @@ returns-in-Ok-result g c =
     (run_ordered (journal_data c.play_scripts-journal.result.0.items) c.args.stage.blocks (length (plans_of c.args.stage.players.items)) (count_all (plans_of c.args.stage.players.items))
     c.requires.stage.some c.requires.stage.few
     (omega (arith, c.requires.plans.0, length-map c.args.request.scripts.now string_bytes, c.requires.scripts.0))
-    (omega (arith, c.requires.plans.0, length-map c.args.request.scripts.now string_bytes, c.requires.scripts.1))
-    few c.requires.few
-    (rw (plans_many c.args.stage.players.items) c.play_scripts-journal.ensures.follows)))
+    scripts few c.requires.few
+    (all_follow (journal_data c.play_scripts-journal.result.0.items) (plans_of c.args.stage.players.items) c.args.stage.blocks c.play_scripts-journal.ensures.played c.play_scripts-journal.ensures.order
+    c.play_scripts-journal.ensures.ranges c.requires.stage.some c.requires.stage.few scripts (omega (arith, few, c.requires.few)))))
     (rw (← c.requires.stage.places_are) (search rules))
     few
     (c.play_scripts-journal.ensures.cause.other ∙ c.in-Ok.ensures.cause.other)

@@ -19,27 +19,27 @@ pub order_line-requires : goal.order_line-requires
 order_line-requires g c =
     item_has (λ (l : LoggedData). IsInRange l.entry.command) c.args.entries.now (journal_data c.args.entries.now) c.loop-logged.logged-index c.logged-item.result refl c.requires.range c.loop-logged-test.true c.logged-item.is
 
-pub returns-in_err-append_all-clause-some : goal.returns-in_err-append_all-clause-some
-returns-in_err-append_all-clause-some g c =
+pub returns-in-Err-clause-some : goal.returns-in-Err-clause-some
+returns-in-Err-clause-some g c =
     let i = c.loop-logged.logged-index in
-    on_err _ _ (piece_stopped (g.S.Shelf.files c.args.shelf.now) (g.S.Shelf.files c.loop-logged.shelf) (g.S.Shelf.files c.append_all.new.shelf) c.args.order.now
+    piece_stopped (g.S.Shelf.files c.args.shelf.now) (g.S.Shelf.files c.loop-logged.shelf) (g.S.Shelf.files c.append_all.new.shelf) c.args.order.now
     (order_lines (journal_data (take i c.args.entries.now))) (order_line (logged_data c.logged-item.result)) (order_lines (journal_data c.args.entries.now)) (order_lines (journal_data (drop (i + 1) c.args.entries.now)))
     c.loop-logged.invariant.files
-    (subst (λ (bytes : List ℕ). AppendedSome c.args.order.now bytes (g.S.Shelf.files c.loop-logged.shelf) (g.S.Shelf.files c.append_all.new.shelf)) (c.as_slice.ensures.value ∙ c.order_line.ensures) c.in_err-append_all.ensures.some)
-    (lines_split c.args.entries.now i c.logged-item.result c.loop-logged-test.true c.logged-item.is))
+    (subst (λ (bytes : List ℕ). AppendedSome c.args.order.now bytes (g.S.Shelf.files c.loop-logged.shelf) (g.S.Shelf.files c.append_all.new.shelf)) (c.as_slice.ensures.value ∙ c.order_line.ensures) c.in-Err.ensures.some)
+    (lines_split c.args.entries.now i c.logged-item.result c.loop-logged-test.true c.logged-item.is)
 
-pub returns-in_err-append_all-clause-cause : goal.returns-in_err-append_all-clause-cause
-returns-in_err-append_all-clause-cause g c =
+pub returns-in-Err-clause-cause : goal.returns-in-Err-clause-cause
+returns-in-Err-clause-cause g c =
     let i = c.loop-logged.invariant in
     handed_on _ _ _ _ _ _ _ _ _ _ i.writing i.reading
     (λ lacks. absurd (has_appended _ _ _ (subst (λ o. Lacks o c.args.order.now) i.files lacks)))
-    c.in_err-append_all.ensures.cause (search rules)
+    c.in-Err.ensures.cause (search rules)
 
 pub loop-logged-preserved : goal.loop-logged-preserved
 loop-logged-preserved g c =
     let n = c.loop-logged.logged-index in
     let i = c.loop-logged.invariant in
-    let e = c.in_ok-append_all.ensures in
+    let e = c.in-Ok.ensures in
     let o = g.S.Shelf.files c.args.shelf.now in
     record {
       files = e.all ∙ ap (λ (bytes : List ℕ). option_map (appended c.args.order.now bytes) (g.S.Shelf.files c.loop-logged.shelf)) (c.as_slice.ensures.value ∙ c.order_line.ensures)
