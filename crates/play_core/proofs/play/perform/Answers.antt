@@ -75,3 +75,13 @@ returns g c =
     (c.play_scripts-journal.ensures.cause.other ∙ c.in-Ok.ensures.cause.other)
     (rw (← c.in-Ok.ensures.cause.kept) (search rules))
     c.say_stopped-in-Err-result.ensures.line
+
+pub put_report-requires : goal.put_report-requires
+put_report-requires g c =
+    omega (arith, not_more (plans_of c.args.stage.players.items) (journal_data c.play_scripts-journal.result.0.items) c.play_scripts-journal.ensures.played,
+    length-map c.play_scripts-journal.result.0.items logged_data, c.len.ensures, c.play_scripts-journal.result.0.ok, c.requires.stage.commands)
+
+pub overflow_cast-len : goal.overflow_cast-len
+overflow_cast-len g c =
+    omega (arith, not_more (plans_of c.args.stage.players.items) (journal_data c.play_scripts-journal.result.0.items) c.play_scripts-journal.ensures.played,
+    length-map c.play_scripts-journal.result.0.items logged_data, c.len.ensures, c.play_scripts-journal.result.0.ok, c.requires.few)
