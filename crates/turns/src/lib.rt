@@ -13,3 +13,5 @@ pub use joined::{close, play_scripts};
 pub use opening::new_players;
 pub use turns::play_turns;
 
+#[cfg(test)]
+mod tests;
