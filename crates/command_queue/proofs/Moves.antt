@@ -90,7 +90,7 @@ next_of : (quotas : List ℕ) (taken waiting : List EntryData) (x : EntryData) �
 next_of quotas taken waiting x numbered bounded =
     let own : sent_by x.script (x ∷ waiting) ≡ x ∷ sent_by x.script waiting = ap (λ b. cond b (x ∷ sent_by x.script waiting) (sent_by x.script waiting)) (eq-eqb x.script x.script refl) in
     let all : sent_by x.script (taken ++ x ∷ waiting) ≡ sent_by x.script taken ++ x ∷ sent_by x.script waiting =
-        filter-append (λ (e : EntryData). e.script == x.script) taken (x ∷ waiting) ∙ ap (λ (es : List EntryData). sent_by x.script taken ++ es) own in
+    filter-append (λ (e : EntryData). e.script == x.script) taken (x ∷ waiting) ∙ ap (λ (es : List EntryData). sent_by x.script taken ++ es) own in
     let n : ℕ = length (sent_by x.script taken) in
     let lt : n < length (sent_by x.script (taken ++ x ∷ waiting)) = sent_by_front taken waiting x in
     let here : get_or (sent_by x.script (taken ++ x ∷ waiting)) n x ≡ x = ap (λ (es : List EntryData). get_or es n x) all ∙ get_or-append_seam (sent_by x.script taken) x (sent_by x.script waiting) x in

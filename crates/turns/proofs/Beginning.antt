@@ -31,10 +31,10 @@ are_fresh line players ends plans new ends_are plans_are quotas logged = (
   λ k d lt.
       let l : length ends ≡ length players = sym (ap length ends_are) ∙ length-map players (λ (p : PlayerView). p.end) in
       let end : (get_or players k d).end ≡ new_end line k =
-          sym (get_or-map (λ (p : PlayerView). p.end) players k d d.end lt) ∙ ap (λ (es : List SendView). get_or es k d.end) ends_are ∙ new.1 k d.end (omega (arith, lt, l)) in
+      sym (get_or-map (λ (p : PlayerView). p.end) players k d d.end lt) ∙ ap (λ (es : List SendView). get_or es k d.end) ends_are ∙ new.1 k d.end (omega (arith, lt, l)) in
       let quota : length (get_or players k d).left ≡ quota_at line.quotas k =
-          ap length (sym (get_or-map (λ (p : PlayerView). p.left) players k d [] lt) ∙ ap (λ (ps : List (List PlannedData)). get_or ps k []) plans_are)
-          ∙ sym (ap (λ (qs : List ℕ). quota_at qs k) quotas ∙ list.get_or-map length plans k []) in
+      ap length (sym (get_or-map (λ (p : PlayerView). p.left) players k d [] lt) ∙ ap (λ (ps : List (List PlannedData)). get_or ps k []) plans_are)
+      ∙ sym (ap (λ (qs : List ℕ). quota_at qs k) quotas ∙ list.get_or-map length plans k []) in
       player_fresh line k (get_or players k d) end (logged k d lt) quota,
 )
 

@@ -161,14 +161,27 @@ fn one_place(rt: HostRuntime) -> Result<(), Fail> {
 #[test]
 fn scripts_beside_each_other(rt: HostRuntime) -> Result<(), Fail> {
     let alloc = rt.alloc();
-    for (count, places, is_ample) in [(1u8, 1usize, false), (1, 5, true), (2, 1, false), (2, 10, true), (8, 1, false), (8, 40, true)] {
+    for (count, places, is_ample) in [
+        (1u8, 1usize, false),
+        (1, 5, true),
+        (2, 1, false),
+        (2, 10, true),
+        (8, 1, false),
+        (8, 40, true),
+    ] {
         let mut shelf = MemShelf::new(alloc, &[])?;
         shelf.create("s")?;
         shelf.create("o")?;
         let scripts = scripts_at(alloc, count, &[0, 0, 1, 3, 3], 9)?;
         let journal = play(&rt, alloc, places, 9, scripts, &mut shelf, &NoGate)?;
-        let late = journal.iter().filter(|logged| logged.block > logged.entry.sent_at).count();
-        let early = journal.iter().filter(|logged| logged.block < logged.entry.sent_at).count();
+        let late = journal
+            .iter()
+            .filter(|logged| logged.block > logged.entry.sent_at)
+            .count();
+        let early = journal
+            .iter()
+            .filter(|logged| logged.block < logged.entry.sent_at)
+            .count();
         assert_eq!(rt; early, 0);
         if is_ample {
             assert_eq!(rt; (journal.len(), late), (5 * count as usize, 0));
