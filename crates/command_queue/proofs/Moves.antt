@@ -1,9 +1,10 @@
 -- Each step keeps the rule.
-use Rattle.std.proofs.Common.{◌≡◌, ◌≢◌, ◌⊎◌, ℕ, ◌+◌, ◌<◌, true, false, List, [], ◌∷◌, ◌++◌, length, set, refl, sym, ap, ◌∙◌, subst, ⊎_elim, inl, inr, zero, suc, get_or, arith, append_assoc, true≢false}
-use Rattle.std.specs.Prelude.{All, sum, slice_index_or}
-use Rattle.std.proofs.lemmas.List.Elements.{All-push, All-weaker, All-nil}
+use Rattle.std.proofs.Common.{◌≡◌, ◌≢◌, ◌⊎◌, ℕ, ◌+◌, ◌<◌, ◌≤◌, true, false, cond, List, [], ◌∷◌, ◌++◌, length, set, refl, sym, ap, ◌∙◌, subst, ⊎_elim, inl, inr, zero, suc, get_or, arith, append_assoc, true≢false}
+use Rattle.std.specs.Prelude.{All, ◌==◌, sum, slice_index_or}
+use Rattle.std.proofs.lemmas.List.Elements.{All-push, All-weaker, All-nil, filter-append}
 use Rattle.std.proofs.Math.ListN.{length-append, length-set, length-map, get_or-append}
 use Rattle.std.proofs.lemmas.List.{map-append}
+use Rattle.std.proofs.lemmas.Bool.{eq-eqb}
 use Rattle.std.proofs.Math.Seq.{get_or-append_seam}
 use mathlib.Core.Option.{some, some-ne-none, some-injective}
 use lib.ListN.{get_elem?}
@@ -11,9 +12,9 @@ use Rattle.crossbeam_queue.specs.Fifo.{Pushes, Pops, Forks, Merges, Learns}
 use Rattle.crossbeam_queue.proofs.Lists.{at_set}
 use Rattle.command_set.specs.declared.entry.Entry.{Entry}
 use Rattle.command_set.specs.Command.{IsInRange}
-use Rattle.command_set.specs.Entries.{EntryData, entry_data, sent_by}
+use Rattle.command_set.specs.Entries.{EntryData, entry_data, sent_by, AreNumbered}
 use Rattle.command_queue.specs.declared.rule.Role.{Role}
-use Rattle.command_queue.specs.Entries.{quota_at, IsLegal}
+use Rattle.command_queue.specs.Entries.{quota_at, IsLegal, IsNextOf}
 use Rattle.command_queue.specs.Rule.{plain, nobody, root, taker, one_more, next_end, joined, with_sent, with_taken, IsEnd, Fits, Kept, Holds, Sent, SenderSees, Accounts, Took, TakerSees}
 use Rattle.command_queue.proofs.Counts.{sent_by_push_same, sent_by_push_other, legal_push, legal_pop, legal_none, total_bound, all_middle, all_none, sent_by_nobody, sent_by_front, same_or_not}
 
@@ -83,6 +84,19 @@ sends n port v e may stays places script seq quota ranges items views room h at 
     } in
     (w, subst (λ l. Kept l (set views port w)) (sym (map-append entry_data items (e ∷ []))) kept, refl)
 
+-- the entry at the front is the next of its end
+next_of : (quotas : List ℕ) (taken waiting : List EntryData) (x : EntryData) → AreNumbered (sent_by x.script (taken ++ x ∷ waiting)) → length (sent_by x.script (taken ++ x ∷ waiting)) ≤ quota_at quotas x.script
+    → IsNextOf quotas taken x
+next_of quotas taken waiting x numbered bounded =
+    let own : sent_by x.script (x ∷ waiting) ≡ x ∷ sent_by x.script waiting = ap (λ b. cond b (x ∷ sent_by x.script waiting) (sent_by x.script waiting)) (eq-eqb x.script x.script refl) in
+    let all : sent_by x.script (taken ++ x ∷ waiting) ≡ sent_by x.script taken ++ x ∷ sent_by x.script waiting =
+    filter-append (λ (e : EntryData). e.script == x.script) taken (x ∷ waiting) ∙ ap (λ (es : List EntryData). sent_by x.script taken ++ es) own in
+    let n : ℕ = length (sent_by x.script taken) in
+    let lt : n < length (sent_by x.script (taken ++ x ∷ waiting)) = sent_by_front taken waiting x in
+    let here : get_or (sent_by x.script (taken ++ x ∷ waiting)) n x ≡ x = ap (λ (es : List EntryData). get_or es n x) all ∙ get_or-append_seam (sent_by x.script taken) x (sent_by x.script waiting) x in
+    let seq : x.seq ≡ n = ap (λ (e : EntryData). e.seq) (sym here) ∙ numbered n x lt in
+    (seq, omega (arith, seq, lt, bounded))
+
 pub takes : (port : ℕ) (v : Role) → v.takes ≡ true → v.sends ≡ false → Pops Holds port v (λ e. Took v (entry_data e))
 takes port v may stays e items views h at =
     let x : EntryData = entry_data e in
@@ -99,8 +113,9 @@ takes port v may stays e items views h at =
     let left : x.script < length t.known → length (sent_by x.script t.taken) < length (slice_index_or t.known x.script []) =
     λ lt. subst (λ l. length (sent_by x.script t.taken) < length l) (sym (h.known x.script lt)) (sent_by_front t.taken waiting x) in
     let Facts : Role → Type 0 = λ r. (x.script < length r.quotas) × IsInRange x.command × (length r.taken < sum r.quotas)
-    × (x.script < length r.known → length (sent_by x.script r.taken) < length (slice_index_or r.known x.script [])) in
-    let facts : Facts v = subst Facts (sym mine.1) (script, ranges, total, left) in
+    × (x.script < length r.known → length (sent_by x.script r.taken) < length (slice_index_or r.known x.script [])) × IsNextOf r.quotas r.taken x in
+    let next : IsNextOf t.quotas t.taken x = next_of t.quotas t.taken waiting x (h.legal.queued.numbered x.script) (h.legal.bounded x.script) in
+    let facts : Facts v = subst Facts (sym mine.1) (script, ranges, total, left, next) in
     let fits : (j : ℕ) (u : Role) → get_elem? (set views port w) j ≡ some u → Fits t' all j u =
     fits_set t' all views port w
     ((λ _. (mine.0, ap (λ r. with_taken r x) mine.1)), (λ p. absurd (true≢false (sym p ∙ stays))))
@@ -126,7 +141,7 @@ takes port v may stays e items views h at =
         known = λ k lt. h.known k lt ∙ ap (sent_by k) (sym moved);
         each = subst (λ l. (j : ℕ) (u : Role) → get_elem? (set views port w) j ≡ some u → Fits t' l j u) (sym moved) fits;
       },
-      (refl, facts.0, facts.1, facts.2, facts.3),
+      (refl, facts.0, facts.1, facts.2, facts.3, facts.4),
     )
 
 snoc : (views : List Role) (a b : Role) (j : ℕ) → get_elem? (views ++ a ∷ []) j ≡ some b → (get_elem? views j ≡ some b) ⊎ ((j ≡ length views) × (a ≡ b))

@@ -1,5 +1,5 @@
 -- What holds of the entries that were taken from a queue and of those that wait in it.
-use Rattle.std.specs.Prelude.{ℕ, ◌-◌, ◌≤◌, List, ◌++◌, length, All, sum, slice_index}
+use Rattle.std.specs.Prelude.{ℕ, ◌≡◌, ◌-◌, ◌<◌, ◌≤◌, List, ◌++◌, length, All, sum, slice_index}
 use Rattle.command_set.specs.Command.{IsInRange}
 use Rattle.command_set.specs.Entries.{EntryData, sent_by, AreQueued}
 
@@ -16,3 +16,7 @@ pub record IsLegal (quotas : List ℕ) (places : ℕ) (taken waiting : List Entr
   pub queued : AreQueued (length quotas) places taken waiting
   pub bounded : (number : ℕ) → length (sent_by number (taken ++ waiting)) ≤ quota_at quotas number
   pub ranges : All (λ e. IsInRange e.command) (taken ++ waiting)
+
+-- the entry is the next of its end after those that were taken, and within the end's quota
+abbrev pub IsNextOf : List ℕ → List EntryData → EntryData → Type 0
+IsNextOf quotas taken x = (x.seq ≡ length (sent_by x.script taken)) × (x.seq < quota_at quotas x.script)

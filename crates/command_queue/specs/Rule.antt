@@ -7,7 +7,7 @@ use Rattle.command_set.specs.Command.{IsInRange}
 use Rattle.command_set.specs.Entries.{EntryData, entry_data, sent_by}
 use Rattle.command_set.specs.declared.entry.Entry.{Entry}
 use Rattle.command_queue.specs.declared.rule.Role.{Role}
-use Rattle.command_queue.specs.Entries.{IsLegal}
+use Rattle.command_queue.specs.Entries.{IsLegal, IsNextOf}
 
 -- entries as plain data
 abbrev pub plain : List Entry → List EntryData
@@ -101,10 +101,11 @@ Sent v x w = w ≡ with_sent v x
 abbrev pub SenderSees : Role → List EntryData → Type 0
 SenderSees v waiting = (taken : List EntryData) × IsLegal v.quotas v.places taken waiting × (v.sent ≡ sent_by v.number (taken ++ waiting))
 
--- a pop adds the entry to the taker's list: it is of an end, in range and within the quotas, and of a joined end not all entries were taken before
+-- a pop adds the entry to the taker's list: it is of an end, in range and within the quotas, the next of its end, and of a joined end not all entries were taken before
 abbrev pub Took : Role → EntryData → Role → Type 0
 Took v x w = (w ≡ with_taken v x) × (x.script < length v.quotas) × IsInRange x.command × (length v.taken < sum v.quotas)
     × (x.script < length v.known → length (sent_by x.script v.taken) < length (slice_index_or v.known x.script []))
+    × IsNextOf v.quotas v.taken x
 
 -- at one moment what waits is legal after what was taken, and all of it is what the joined ends had sent
 abbrev pub TakerSees : Role → List EntryData → Type 0

@@ -3,7 +3,7 @@ ghost use Rattle.std.specs.Prelude.{sum, ◌≡◌, ◌+◌, ◌<◌, ◌≤◌,
 ghost use Rattle.crossbeam_queue.specs.Passes.{IsPassOf, IsSamePass};
 ghost use Rattle.command_set.specs.Command.{content, IsInRange};
 ghost use Rattle.command_set.specs.Entries.{entry_data};
-ghost use Rattle.command_queue.specs.Entries.{quota_at};
+ghost use Rattle.command_queue.specs.Entries.{quota_at, IsNextOf};
 ghost use Rattle.command_queue.specs.Rule.{role_of, root, taker, Took, TakerSees};
 ghost use Rattle.command_queue.specs.Ends.{line_at, new_end, new_taker, AreNewEnds, quota_of, others_of, total_of, entry_of, accepted, refused, took, found_empty, WasFull, WasEmpty};
 
@@ -159,11 +159,12 @@ impl Line {
         }
     }
 
-    /// The entry at the front; or nothing waited at a moment of this call.
+    /// The entry at the front, which is the next of its end; or nothing waited at a moment of this call.
     pub fn take<R: Wait>(&self, rt: &R, end: &mut TakeEnd) -> Option<Entry>
         requires { end.old.line ≡ self.now }
         ensures same { end.new.line ≡ end.old.line }
         ensures some { IfSome result (λ x. (end.new ≡ took end.old (entry_data x)) × (x.script < length self.now.quotas) × IsInRange (content x.command) × (length end.new.list ≤ total_of end.old)) }
+        ensures next { IfSome result (λ x. IsNextOf self.now.quotas end.old.list (entry_data x)) }
         ensures none { IfNone result ((end.new ≡ found_empty end.old) × WasEmpty end.old) }
     {
         match pop(&self.queue, rt, &mut end.pass) {

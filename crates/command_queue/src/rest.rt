@@ -3,6 +3,7 @@ ghost use Rattle.std.specs.Prelude.{◌≡◌, ◌<◌, ◌≤◌, [], ◌∷◌
 ghost use Rattle.crossbeam_queue.specs.Passes.{IsPassOf};
 ghost use Rattle.command_set.specs.Command.{content, IsInRange};
 ghost use Rattle.command_set.specs.Entries.{EntryData, entry_data};
+ghost use Rattle.command_queue.specs.Entries.{IsNextOf};
 ghost use Rattle.command_queue.specs.Rule.{role_of, settler};
 ghost use Rattle.command_queue.specs.Ends.{AreEnds, rest_of, rest_took, HoldsAll, IsSettled};
 
@@ -66,6 +67,7 @@ impl Rest {
     pub fn next<R: Wait>(&mut self, rt: &R) -> Option<Entry>
         ensures same { (self.new.line ≡ self.old.line) × (self.new.sent ≡ self.old.sent) }
         ensures some { IfSome result (λ x. (self.new ≡ rest_took self.old (entry_data x)) × (x.script < length self.old.line.quotas) × IsInRange (content x.command) × (length self.new.list ≤ sum self.old.line.quotas)) }
+        ensures next { IfSome result (λ x. IsNextOf self.old.line.quotas self.old.list (entry_data x)) }
         ensures more { IfSome result (λ _. ¬ (HoldsAll self.old)) }
         ensures none { IfNone result ((self.new ≡ self.old) × HoldsAll self.old × IsSettled self.old []) }
     {

@@ -4,4 +4,3 @@
 mod script;
 
 pub use script::{Planned, Script};
-

@@ -51,9 +51,12 @@ piece_stopped o before now name so_far piece all rest was (inl same) is =
 piece_stopped o before now name so_far piece all rest was (inr (n, fits, more)) is =
     let at : all ≡ (so_far ++ take n piece) ++ (drop n piece ++ rest) = cut_off all so_far piece rest n is in
     let l : length all ≡ length (so_far ++ take n piece) + length (drop n piece ++ rest) = ap length at ∙ length-append (so_far ++ take n piece) (drop n piece ++ rest) in
-    inr (length (so_far ++ take n piece), omega (arith, l),
+    inr (
+      length (so_far ++ take n piece),
+      omega (arith, l),
       more ∙ ap (option_map (appended name (take n piece))) was ∙ then_appended o name so_far (take n piece)
-      ∙ ap (λ (bytes : List ℕ). option_map (appended name bytes) o) (sym (front all (so_far ++ take n piece) (drop n piece ++ rest) at)))
+          ∙ ap (λ (bytes : List ℕ). option_map (appended name bytes) o) (sym (front all (so_far ++ take n piece) (drop n piece ++ rest) at)),
+    )
 
 module _ (sound order : List ℕ) (ne : sound ≢ order) where
   pub both_none : (o : Option Files) → (Lacks o sound → ⊥) → (Lacks o order → ⊥) → o ≡ option_map (both_appended sound [] order []) o
@@ -88,7 +91,7 @@ module _ (sound order : List ℕ) (ne : sound ≢ order) where
   has_sound (Some m) now a b is lacks =
       let none : is_some (get (both_appended sound a order b m) sound) ≡ false = rw is at lacks in
       let some : is_some (get (both_appended sound a order b m) sound) ≡ true =
-          ap is_some (get-first m sound (content m sound ++ a) order (content (appended sound a m) order ++ b) ne) in
+      ap is_some (get-first m sound (content m sound ++ a) order (content (appended sound a m) order ++ b) ne) in
       cc
 
   pub has_order : (o now : Option Files) (a b : List ℕ) → now ≡ option_map (both_appended sound a order b) o → Lacks now order → ⊥
@@ -96,7 +99,7 @@ module _ (sound order : List ℕ) (ne : sound ≢ order) where
   has_order (Some m) now a b is lacks =
       let none : is_some (get (both_appended sound a order b m) order) ≡ false = rw is at lacks in
       let some : is_some (get (both_appended sound a order b m) order) ≡ true =
-          ap is_some (get-insert_same (appended sound a m) order (content (appended sound a m) order ++ b)) in
+      ap is_some (get-insert_same (appended sound a m) order (content (appended sound a m) order ++ b)) in
       cc
 
   begun_at : (o now : Option Files) (a b samples lines rest rest' : List ℕ) → now ≡ option_map (both_appended sound a order b) o → samples ≡ a ++ rest → lines ≡ b ++ rest'

@@ -5,7 +5,8 @@ use Rattle.std.proofs.lemmas.List.{length-map, get_or-map}
 use Rattle.std.proofs.Math.ListN as list
 use Rattle.command_queue.specs.Entries.{quota_at}
 use Rattle.command_queue.specs.Ends.{LineView, SendView, AreNewEnds, new_end, quota_of}
-use Rattle.script_plan.specs.Plan.{PlannedData}
+use Rattle.lateness.specs.Late.{AllBelow}
+use Rattle.script_plan.specs.Plan.{PlannedData, dues}
 use Rattle.players.specs.Players.{PlayerView}
 use Rattle.turns.specs.Turns.{plans_of, IsFresh, AreFresh}
 
@@ -30,10 +31,10 @@ are_fresh line players ends plans new ends_are plans_are quotas logged = (
   λ k d lt.
       let l : length ends ≡ length players = sym (ap length ends_are) ∙ length-map players (λ (p : PlayerView). p.end) in
       let end : (get_or players k d).end ≡ new_end line k =
-          sym (get_or-map (λ (p : PlayerView). p.end) players k d d.end lt) ∙ ap (λ (es : List SendView). get_or es k d.end) ends_are ∙ new.1 k d.end (omega (arith, lt, l)) in
+      sym (get_or-map (λ (p : PlayerView). p.end) players k d d.end lt) ∙ ap (λ (es : List SendView). get_or es k d.end) ends_are ∙ new.1 k d.end (omega (arith, lt, l)) in
       let quota : length (get_or players k d).left ≡ quota_at line.quotas k =
-          ap length (sym (get_or-map (λ (p : PlayerView). p.left) players k d [] lt) ∙ ap (λ (ps : List (List PlannedData)). get_or ps k []) plans_are)
-          ∙ sym (ap (λ (qs : List ℕ). quota_at qs k) quotas ∙ list.get_or-map length plans k []) in
+      ap length (sym (get_or-map (λ (p : PlayerView). p.left) players k d [] lt) ∙ ap (λ (ps : List (List PlannedData)). get_or ps k []) plans_are)
+      ∙ sym (ap (λ (qs : List ℕ). quota_at qs k) quotas ∙ list.get_or-map length plans k []) in
       player_fresh line k (get_or players k d) end (logged k d lt) quota,
 )
 
@@ -54,3 +55,11 @@ gone_through xs before zs all x is split = append_assoc xs (x ∷ []) zs ∙ ap 
 pub none_in : (xs : List SendView) (n : ℕ) → n ≡ 0 → n ≡ length xs → xs ≡ []
 none_in [] n none is = refl
 none_in (x ∷ xs) n none is = absurd (omega (arith, none, is))
+
+-- what holds of all plans holds of what is left of each player
+pub each_due : (blocks : ℕ) (players : List PlayerView) (plans : List (List PlannedData)) → plans_of players ≡ plans → All (λ (plan : List PlannedData). AllBelow blocks (dues plan)) plans
+    → (k : ℕ) (d : PlayerView) → k < length players → AllBelow blocks (dues (get_or players k d).left)
+each_due blocks players plans is all k d lt =
+    let l : length plans ≡ length players = sym (ap length is) ∙ length-map players (λ (p : PlayerView). p.left) in
+    subst (λ (plan : List PlannedData). AllBelow blocks (dues plan))
+    (ap (λ (ps : List (List PlannedData)). get_or ps k d.left) (sym is) ∙ get_or-map (λ (p : PlayerView). p.left) players k d d.left lt) (all k d.left (omega (arith, l, lt)))

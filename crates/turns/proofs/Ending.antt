@@ -38,10 +38,10 @@ quotas_are line players fresh = same_number_lists line.quotas (map length (plans
     let in_players : k < length players = omega (arith, lt, fresh.0) in
     let f = fresh.1 k (nobody line) in_players in
     let e : get_or (map length (plans_of players)) k 0 ≡ length (get_or players k (nobody line)).left =
-        list.get_or-map length (plans_of players) k [] ∙ ap length (plan_is line players k) in
+    list.get_or-map length (plans_of players) k [] ∙ ap length (plan_is line players k) in
     sym (e ∙ f.quota ∙ (λ i. quota_at (f.line_is i).quotas (f.number i)))) where
-  many : length line.quotas ≡ length (map length (plans_of players))
-  many = sym (length-map (plans_of players) length ∙ long players ∙ fresh.0)
+      many : length line.quotas ≡ length (map length (plans_of players))
+      many = sym (length-map (plans_of players) length ∙ long players ∙ fresh.0)
 
 player_played : (line : LineView) (t k : ℕ) (journal : List LoggedData) (p q : PlayerView) → p.end.line ≡ line → p.end.number ≡ k → HadTurns t journal k p q → HasPlayed line k p.left journal q
 player_played line t k journal p q place number h = record {
@@ -64,7 +64,7 @@ have_played t line before r players fresh h = record {
       let inside : k < length before = omega (arith, lt, long before) in
       let f = fresh.1 k (nobody line) inside in
       let p : HasPlayed line k (get_or before k (nobody line)).left r.journal (get_or players k (nobody line)) =
-          player_played line t k r.journal (get_or before k (nobody line)) (get_or players k (nobody line)) f.line_is f.number (h.played k (nobody line) inside) in
+      player_played line t k r.journal (get_or before k (nobody line)) (get_or players k (nobody line)) f.line_is f.number (h.played k (nobody line) inside) in
       let same : get_or players k (nobody line) ≡ get_or players k d = same_player players k (nobody line) d (omega (arith, inside, h.many)) in
       subst (λ (y : List PlannedData × PlayerView). HasPlayed line k y.0 r.journal y.1) (λ i. (sym (plan_is line before k) i, same i)) p;
 }
@@ -96,10 +96,10 @@ are_on_time blocks line before r players journal fresh below h same k d lt =
     let f = fresh.1 k (nobody line) inside in
     let quotas = quotas_are line before fresh in
     let other : others_of p.end ≡ others_than (plans_of before) k =
-        (λ j. others_at (f.line_is j).quotas (f.number j)) ∙ ap (λ (qs : List ℕ). others_at qs k) quotas
-        ∙ ap (λ (n : ℕ). sum (map length (plans_of before)) - n) (list.get_or-map length (plans_of before) k []) in
+    (λ j. others_at (f.line_is j).quotas (f.number j)) ∙ ap (λ (qs : List ℕ). others_at qs k) quotas
+    ∙ ap (λ (n : ℕ). sum (map length (plans_of before)) - n) (list.get_or-map length (plans_of before) k []) in
     let t : AreTimed p.end.line.places (others_of p.end) blocks (dues p.left) (blocks_of k r.journal) q.end.refusals =
-        player_timed blocks k r.journal p q (below k (nobody line) inside) (h.played k (nobody line) inside) in
+    player_timed blocks k r.journal p q (below k (nobody line) inside) (h.played k (nobody line) inside) in
     let is : q ≡ get_or players k d = same_player players k (nobody line) d (omega (arith, inside, h.many)) in
     subst (λ (y : ℕ × ℕ × List PlannedData × List LoggedData × PlayerView). AreTimed y.0 y.1 blocks (dues y.2) (blocks_of k y.3) y.4.end.refusals)
     (λ i. ((f.line_is i).places, other i, sym (plan_is line before k) i, sym same i, is i)) t

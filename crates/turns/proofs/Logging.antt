@@ -11,15 +11,18 @@ use Rattle.live_renderer.specs.Renderer.{RendererView, Logs, KeepsSound, TookOne
 use Rattle.turns.specs.Steps.{LogsSome}
 
 pub logs_none : (r : RendererView) → LogsSome r r
-logs_none r = (0, record {
-  entries = [];
-  many = refl;
-  journal = sym (append-nil r.journal);
-  list = sym (append-nil r.taker.list);
-  line = refl;
-  blocks = refl;
-  spare = omega arith;
-})
+logs_none r = (
+  0,
+  record {
+    entries = [];
+    many = refl;
+    journal = sym (append-nil r.journal);
+    list = sym (append-nil r.taker.list);
+    line = refl;
+    blocks = refl;
+    spare = omega arith;
+  },
+)
 
 logs_got : (n m : ℕ) (a b c : RendererView) → Logs n a b → Logs m b c → Logs (n + m) a c
 logs_got n m a b c h k = record {

@@ -61,26 +61,26 @@ player_more t k journal xs p q q1 q2 small h turned end left logged met =
     let front : length q.end.list ≡ length h.sent = ap length h.list ∙ length-entries k 0 h.sent in
     let number : q.end.number ≡ k = h.number ∙ h.own in
     let list : q1.end.list ≡ entries k 0 (h.sent ++ more) =
-        a.list ∙ (λ i. h.list i ++ entries (number i) (front i) more) ∙ (λ i. entries k 0 h.sent ++ entries k (sym (zero-add (length h.sent)) i) more) ∙ sym (entries_append k 0 h.sent more) in
+    a.list ∙ (λ i. h.list i ++ entries (number i) (front i) more) ∙ (λ i. entries k 0 h.sent ++ entries k (sym (zero-add (length h.sent)) i) more) ∙ sym (entries_append k 0 h.sent more) in
     let list2 : q2.end.list ≡ entries k 0 (h.sent ++ more) = ap (λ (e : SendView). e.list) end ∙ list in
     let many : length (blocks_of k (journal ++ map (logged_at t) xs)) ≡ length (blocks_of k journal) + length (dues more) =
-        let l : length q2.end.list ≡ length h.sent + length more = ap length list2 ∙ length-entries k 0 (h.sent ++ more) ∙ length-append h.sent more in
-        let d : length (dues more) ≡ length more = length-map more (λ (c : PlannedData). c.due) in
-        let s : length (dues h.sent) ≡ length h.sent = length-map h.sent (λ (c : PlannedData). c.due) in
-        omega (arith, logged, met, l, d, s, h.kept.many) in
+    let l : length q2.end.list ≡ length h.sent + length more = ap length list2 ∙ length-entries k 0 (h.sent ++ more) ∙ length-append h.sent more in
+    let d : length (dues more) ≡ length more = length-map more (λ (c : PlannedData). c.due) in
+    let s : length (dues h.sent) ≡ length h.sent = length-map h.sent (λ (c : PlannedData). c.due) in
+    omega (arith, logged, met, l, d, s, h.kept.many) in
     let blocks = blocks_more k t journal xs (length (dues more)) many in
     let place : q1.end.line ≡ p.end.line = a.line ∙ h.line in
     let num : q1.end.number ≡ p.end.number = a.number ∙ h.number in
     let others : others_of q1.end ≡ others_of p.end = λ i. others_at (place i).quotas (num i) in
     let count : length q1.end.list ≡ length (dues h.sent ++ dues more) =
-        ap length list ∙ length-entries k 0 (h.sent ++ more) ∙ length-append h.sent more
-        ∙ (λ i. sym (length-map h.sent (λ (c : PlannedData). c.due)) i + sym (length-map more (λ (c : PlannedData). c.due)) i) ∙ sym (length-append (dues h.sent) (dues more)) in
+    ap length list ∙ length-entries k 0 (h.sent ++ more) ∙ length-append h.sent more
+    ∙ (λ i. sym (length-map h.sent (λ (c : PlannedData). c.due)) i + sym (length-map more (λ (c : PlannedData). c.due)) i) ∙ sym (length-append (dues h.sent) (dues more)) in
     let kept : HasKept p.end.line.places (others_of p.end) t (dues h.sent) (dues more ++ dues q1.left) (blocks_of k journal) q.end.refusals =
-        subst (λ (ds : List ℕ). HasKept p.end.line.places (others_of p.end) t (dues h.sent) ds (blocks_of k journal) q.end.refusals) (ap dues a.split ∙ dues_append more q1.left) h.kept in
+    subst (λ (ds : List ℕ). HasKept p.end.line.places (others_of p.end) t (dues h.sent) ds (blocks_of k journal) q.end.refusals) (ap dues a.split ∙ dues_append more q1.left) h.kept in
     let few : q.end.refusals ≤ t = subst (λ (n : ℕ). n ≤ t) (sym kept.late) (few_late (dues h.sent ++ (dues more ++ dues q1.left)) (blocks_of k journal) t) in
     let after : HasKept p.end.line.places (others_of p.end) (t + 1) (dues h.sent ++ dues more) (dues q1.left) (blocks_of k journal ++ replicate (length (dues more)) t) q1.end.refusals =
-        one_turn p.end.line.places (others_of p.end) t (dues h.sent) (dues more) (dues q1.left) (blocks_of k journal) q.end.refusals q1.end.refusals kept a.due
-        (ended turned.1 few place others count) in
+    one_turn p.end.line.places (others_of p.end) t (dues h.sent) (dues more) (dues q1.left) (blocks_of k journal) q.end.refusals q1.end.refusals kept a.due
+    (ended turned.1 few place others count) in
     record {
       sent = h.sent ++ more;
       split = h.split ∙ ap (λ (cs : List PlannedData). h.sent ++ cs) a.split ∙ sym (append_assoc h.sent more q1.left) ∙ ap (λ (cs : List PlannedData). (h.sent ++ more) ++ cs) (sym left);

@@ -15,3 +15,5 @@ pub use opening::new_players;
 pub use target::Target;
 pub use turns::{play_turns, run_turns};
 
+#[cfg(test)]
+mod tests;

@@ -30,6 +30,6 @@ pub returns-clause-fresh : goal.returns-clause-fresh
 returns-clause-fresh c =
     let i = c.loop-end.invariant in
     let ends_are : map (λ (p : PlayerView). p.end) c.loop-end.players.items ≡ c.args.ends.items =
-        i.ends ∙ sym (append-nil c.loop-end.yielded) ∙ ap (λ (es : List SendView). c.loop-end.yielded ++ es) (sym (none_in c.loop-end.end-iterator.rest.items c.loop-end.end-iterator.rest.len c.in-None.ensures.steps.0 c.loop-end.end-iterator.rest.ok.0)) ∙ i.split in
+    i.ends ∙ sym (append-nil c.loop-end.yielded) ∙ ap (λ (es : List SendView). c.loop-end.yielded ++ es) (sym (none_in c.loop-end.end-iterator.rest.items c.loop-end.end-iterator.rest.len c.in-None.ensures.steps.0 c.loop-end.end-iterator.rest.ok.0)) ∙ i.split in
     are_fresh c.args.line.now c.loop-end.players.items c.args.ends.items c.args.scripts.items c.requires.ends ends_are
     (all_taken c.args.line.now c.loop-end.players.items c.args.ends.items c.args.scripts.items c.loop-end.scripts.rest.items c.requires.ends ends_are i.scripts c.requires.quotas) c.requires.quotas i.logged

@@ -9,9 +9,11 @@ use Rattle.turns.proofs.turn.run_turn.Goals as goal
 
 pub settle-requires-clause-noted : goal.settle-requires-clause-noted
 settle-requires-clause-noted g c =
-    let r = c.requires.turns in
-    (c.run_halves.new.players, noted_start c.args.t c.args.line.now r.0 c.args.renderer.now c.run_halves.new.renderer c.journal-seen.result.now c.args.players.now c.run_halves.new.players
-      r.1 c.run_halves.ensures.turned c.run_halves.auto.players c.run_halves.ensures.rendered.0 c.journal-seen.ensures.journal)
+    let r = c.requires.turns in (
+      c.run_halves.new.players,
+      noted_start c.args.t c.args.line.now r.0 c.args.renderer.now c.run_halves.new.renderer c.journal-seen.result.now c.args.players.now c.run_halves.new.players
+          r.1 c.run_halves.ensures.turned c.run_halves.auto.players c.run_halves.ensures.rendered.0 c.journal-seen.ensures.journal,
+    )
 
 pub returns-clause-turns : goal.returns-clause-turns
 returns-clause-turns g c =
