@@ -15,7 +15,7 @@ use Rattle.port.specs.declared.fed.PortStop.TheVariants.{All, Full, Memory}
 use Rattle.port.specs.Tellings.{commands_in, is_passed_over, is_refused}
 use Rattle.port.specs.Feeding.{Handles, all_accepted, stopped}
 use Rattle.port.specs.Keeping.{HasUsed, KeepsAt}
-use Rattle.port.specs.Settling.{FullOnly, OneMore}
+use Rattle.port.specs.Settling.{FullOnly, OneMore, refusals_after}
 
 commands_in-append : (xs ys : List Told) → commands_in (xs ++ ys) ≡ commands_in xs ++ commands_in ys
 commands_in-append [] ys = refl
@@ -55,6 +55,7 @@ pub record Reached (was reader : MidiReader) (was_curve curve : Curve) (was_kept
   pub number : new.number ≡ old.number
   pub count : length new.list ≡ length old.list + fed.sent
   pub few : fed.sent + fed.passed_over + fed.refused ≤ index + 1
+  pub refusals : new.refusals ≡ refusals_after fed.stop old.refusals
   pub heard :
       (done : List Told) (stream : List ℕ) → HasUsed was was_curve was_kept done stream
       → (now : List Told) × (HasUsed reader curve keeps (done ++ now) (stream ++ take index bytes) × Handles now old new fed)
@@ -91,6 +92,7 @@ reached_first was reader was_curve curve was_kept keeps bytes old new fed one he
   number = one.number;
   count = one.count;
   few = omega (arith, one.few);
+  refusals = one.refusals;
   heard = λ done stream u. rw (append-nil stream) (heard done stream u);
 }
 
@@ -112,6 +114,9 @@ reached_more was reader later was_curve curve later_curve was_kept keeps later_k
     let s : both.sent ≡ fed.sent + two.sent = ap (λ (f : Fed). f.sent) b in
     let p : both.passed_over ≡ fed.passed_over + two.passed_over = ap (λ (f : Fed). f.passed_over) b in
     let q : both.refused ≡ fed.refused + two.refused = ap (λ (f : Fed). f.refused) b in omega (arith, s, p, q, r.few, one.few));
+  refusals = (
+    let calm : new.refusals ≡ old.refusals = rw stop at r.refusals in
+    one.refusals ∙ ap (refusals_after two.stop) calm ∙ ap (λ (s : PortStop). refusals_after s old.refusals) (sym (ap (λ (f : Fed). f.stop) b)));
   heard = λ done stream u.
     (let h = r.heard done stream u in
      let k = heard (done ++ h.0) (stream ++ take index bytes) h.1.0 in

@@ -1,5 +1,6 @@
 -- One more byte of a stream, and what comes of it.
-use Rattle.std.proofs.Common.{◌≡◌, ℕ, ◌+◌, ◌<◌, ◌≤◌, List, [], ◌∷◌, ◌++◌, length, Option, Some, None, refl, ap, sym, ◌∙◌, arith, append_assoc, append-nil, length-append}
+use Rattle.std.proofs.Common.{◌≡◌, ℕ, ◌+◌, ◌<◌, ◌≤◌, List, [], ◌∷◌, ◌++◌, length, map, Option, Some, None, refl, ap, sym, ◌∙◌, arith, append_assoc, append-nil, length-append}
+use Rattle.std.proofs.lemmas.List.{map-append}
 use Rattle.std.specs.Prelude.{unwrap_or, slice_get, IfSome}
 use Rattle.std.proofs.lemmas.Option.{slice_get_past, slice_get-get_or}
 use Rattle.std.proofs.Math.Seq.{get_or-append_seam}
@@ -18,7 +19,7 @@ use Rattle.port.specs.declared.kept.Kept.{Kept}
 use Rattle.port.specs.declared.kept.Kept.TheVariants as kept
 use Rattle.port.specs.declared.fed.Fed.{Fed}
 use Rattle.port.specs.declared.fed.PortStop.TheVariants.{All}
-use Rattle.port.specs.Tellings.{exclusive_of, one_told, told_with, told_behind, tellings}
+use Rattle.port.specs.Tellings.{Heard, exclusive_of, one_heard, heard_with, heard_behind, heard_in, told_by_heard, tellings}
 use Rattle.port.specs.Feeding.{Handles}
 use Rattle.port.specs.Keeping.{HasUsed, IsLast, KeepsLast, told_kept}
 use Rattle.port.specs.Settling.{Settles, KeepsThis, KeepsNoMessage}
@@ -29,11 +30,11 @@ answered (Some m) before now e =
     rw e (slice_get-get_or (before ++ m ∷ []) (length before) m (let more : length (before ++ m ∷ []) ≡ length before + 1 = length-append before (m ∷ []) in omega arith)
     ∙ ap (λ (x : MidiMessage). Some x) (get_or-append_seam before m [] m))
 
--- what one more byte tells is what the reader's answer tells
-told_answer : (curve : Curve) (r : Option MidiMessage) (before : List ℕ) (byte : ℕ) → Answers r (messages before) (messages (before ++ byte ∷ []))
-    → told_with curve before byte ≡ one_told curve (exclusive_of (before ++ byte ∷ [])) r
-unfolding told_with
-told_answer curve r before byte a = ap (one_told curve (exclusive_of (before ++ byte ∷ []))) (answered r (messages before) (messages (before ++ byte ∷ [])) a)
+-- what one more byte gains is the reader's answer
+heard_answer : (r : Option MidiMessage) (before : List ℕ) (byte : ℕ) → Answers r (messages before) (messages (before ++ byte ∷ []))
+    → heard_with before byte ≡ one_heard (exclusive_of (before ++ byte ∷ [])) r
+unfolding heard_with
+heard_answer r before byte a = ap (one_heard (exclusive_of (before ++ byte ∷ []))) (answered r (messages before) (messages (before ++ byte ∷ [])) a)
 
 -- the bytes that a reader keeps tell the same as those of the stream
 pub told_same : (m : MidiMessage) (text : Option (List ℕ)) (sysex : List ℕ) (curve : Curve) → InRange m → HasBytes m text
@@ -50,28 +51,50 @@ told_same (SysEx count) None sysex curve range has same = absurd has
 told_same (SysEx count) (Some bytes) sysex curve range has same = ap (λ (b : List ℕ). command_of (SysEx count) b curve) (same (omega arith))
 told_same (SysExTooLong count) text sysex curve range has same = refl
 
-told_behind_more : (curve : Curve) (before xs : List ℕ) (byte : ℕ)
-    → told_behind curve before (xs ++ byte ∷ []) ≡ told_behind curve before xs ++ told_with curve (before ++ xs) byte
-unfolding told_behind
-told_behind_more curve before [] byte = rw (append-nil before) (append-nil (told_with curve before byte))
-told_behind_more curve before (x ∷ xs) byte =
-    let first : List Told = told_with curve before x in
-    let later = told_behind_more curve (before ++ x ∷ []) xs byte in
+heard_behind_more : (before xs : List ℕ) (byte : ℕ) → heard_behind before (xs ++ byte ∷ []) ≡ heard_behind before xs ++ heard_with (before ++ xs) byte
+unfolding heard_behind
+heard_behind_more before [] byte = rw (append-nil before) (append-nil (heard_with before byte))
+heard_behind_more before (x ∷ xs) byte =
+    let first : List Heard = heard_with before x in
+    let later = heard_behind_more (before ++ x ∷ []) xs byte in
     let join : (before ++ x ∷ []) ++ xs ≡ before ++ x ∷ xs = append_assoc before (x ∷ []) xs in
-    ap (λ (ts : List Told). first ++ ts) (later ∙ ap (λ (s : List ℕ). told_behind curve (before ++ x ∷ []) xs ++ told_with curve s byte) join)
+    ap (λ (hs : List Heard). first ++ hs) (later ∙ ap (λ (s : List ℕ). heard_behind (before ++ x ∷ []) xs ++ heard_with s byte) join)
     ∙ sym (append_assoc first _ _)
 
+-- the messages of a stream with one more byte
+heard_more : (r : Option MidiMessage) (xs : List ℕ) (byte : ℕ) → Answers r (messages xs) (messages (xs ++ byte ∷ []))
+    → heard_in (xs ++ byte ∷ []) ≡ heard_in xs ++ one_heard (exclusive_of (xs ++ byte ∷ [])) r
+heard_more r xs byte a = heard_behind_more [] xs byte ∙ ap (λ (hs : List Heard). heard_in xs ++ hs) (heard_answer r xs byte a)
+
 -- what a stream tells with one more byte
-pub tellings_more : (curve : Curve) (xs : List ℕ) (byte : ℕ) → tellings curve (xs ++ byte ∷ []) ≡ tellings curve xs ++ told_with curve xs byte
-tellings_more curve xs byte = told_behind_more curve [] xs byte
+tellings_more : (curve : Curve) (r : Option MidiMessage) (xs : List ℕ) (byte : ℕ) → Answers r (messages xs) (messages (xs ++ byte ∷ []))
+    → tellings curve (xs ++ byte ∷ []) ≡ tellings curve xs ++ map (told_by_heard curve) (one_heard (exclusive_of (xs ++ byte ∷ [])) r)
+tellings_more curve r xs byte a = ap (map (told_by_heard curve)) (heard_more r xs byte a) ∙ map-append (told_by_heard curve) (heard_in xs) _
+
+same_messages : (r : Option MidiMessage) (bytes : List ℕ) (before now : List MidiMessage) → Answers r before now
+    → before ++ map (λ h. h.message) (one_heard bytes r) ≡ now
+same_messages None bytes before now a = append-nil before ∙ sym a
+same_messages (Some m) bytes before now a = sym a
+
+-- the messages with their bytes are still the messages of the stream
+heard_still : (r : Option MidiMessage) (xs : List ℕ) (byte : ℕ) → Answers r (messages xs) (messages (xs ++ byte ∷ [])) → map (λ h. h.message) (heard_in xs) ≡ messages xs
+    → map (λ h. h.message) (heard_in (xs ++ byte ∷ [])) ≡ messages (xs ++ byte ∷ [])
+heard_still r xs byte a e =
+    ap (map (λ (h : Heard). h.message)) (heard_more r xs byte a) ∙ map-append (λ (h : Heard). h.message) (heard_in xs) _
+    ∙ ap (λ (ms : List MidiMessage). ms ++ map (λ (h : Heard). h.message) (one_heard (exclusive_of (xs ++ byte ∷ [])) r)) e
+    ∙ same_messages r (exclusive_of (xs ++ byte ∷ [])) (messages xs) (messages (xs ++ byte ∷ [])) a
 
 no_tellings : (curve : Curve) → tellings curve [] ≡ []
-unfolding told_behind
+unfolding heard_behind
 no_tellings curve = refl
+
+no_messages : map (λ (h : Heard). h.message) (heard_in []) ≡ messages []
+unfolding heard_behind messages
+no_messages = refl
 
 -- a port that has used nothing
 pub new_used : (reader : MidiReader) (curve : Curve) → Reads reader [] → HasUsed reader curve None [] []
-new_used reader curve r = record { reads = r; tells = no_tellings curve; last = tt }
+new_used reader curve r = record { reads = r; heard = no_messages; tells = no_tellings curve; last = tt }
 
 kept_same : (curve : Curve) (keeps : Option Kept) (m : MidiMessage) (sysex bytes : List ℕ) → KeepsThis keeps m → command_of m sysex curve ≡ command_of m bytes curve
     → told_kept curve sysex keeps ≡ told_kept curve bytes keeps
@@ -92,12 +115,14 @@ none_last (Some (kept.Message held)) stream k = absurd k
 -- what comes of what is told last
 heard_by :
     (reader : MidiReader) (curve : Curve) (keeps : Option Kept) (done : List Told) (stream sysex : List ℕ) (t : Told) (old new : SendView) (fed : Fed)
-    → Reads reader stream → tellings curve stream ≡ done ++ t ∷ [] → Settles curve sysex t keeps old new fed
+    → Reads reader stream → map (λ h. h.message) (heard_in stream) ≡ messages stream
+    → tellings curve stream ≡ done ++ t ∷ [] → Settles curve sysex t keeps old new fed
     → told_kept curve sysex keeps ≡ told_kept curve (exclusive_of stream) keeps → KeepsLast keeps stream
     → (now : List Told) × (HasUsed reader curve keeps (done ++ now) stream × Handles now old new fed)
-heard_by reader curve keeps done stream sysex t old new fed r e s same l =
+heard_by reader curve keeps done stream sysex t old new fed r ms e s same l =
     (s.now, (record {
       reads = r;
+      heard = ms;
       tells = e ∙ ap (λ ts. done ++ ts) (s.splits ∙ ap (λ ts. s.now ++ ts) same) ∙ sym (append_assoc done s.now _);
       last = l;
     }, s.handles))
@@ -113,9 +138,9 @@ pub byte_told :
 byte_told was reader curve keeps done stream sysex byte m old new fed u r a range has text s k =
     let same = told_same m (last_exclusive (stream ++ byte ∷ [])) sysex curve range has text in
     let tells : tellings curve (stream ++ byte ∷ []) ≡ done ++ command_of m sysex curve ∷ [] =
-        tellings_more curve stream byte ∙ ap (λ ts. ts ++ told_with curve stream byte) (u.tells ∙ append-nil done)
-        ∙ ap (λ ts. done ++ ts) (told_answer curve (Some m) stream byte a ∙ ap (λ (t : Told). t ∷ []) (sym same)) in
-    heard_by reader curve keeps done (stream ++ byte ∷ []) sysex (command_of m sysex curve) old new fed r tells s (kept_same curve keeps m sysex _ k same)
+        tellings_more curve (Some m) stream byte a ∙ ap (λ (ts : List Told). ts ++ command_of m (exclusive_of (stream ++ byte ∷ [])) curve ∷ []) (u.tells ∙ append-nil done)
+        ∙ ap (λ (t : Told). done ++ t ∷ []) (sym same) in
+    heard_by reader curve keeps done (stream ++ byte ∷ []) sysex (command_of m sysex curve) old new fed r (heard_still (Some m) stream byte a u.heard) tells s (kept_same curve keeps m sysex _ k same)
     (keeps_last keeps m (stream ++ byte ∷ []) k (record { earlier = messages stream; last = a; bytes = has }))
 
 -- a byte that ends no message
@@ -126,9 +151,8 @@ pub byte_silent :
 byte_silent was reader curve keeps done stream byte used end e u r a =
     let clear : HasUsed was curve None done stream = rw (← e) u in
     let more : tellings curve (stream ++ byte ∷ []) ≡ (done ++ []) ++ [] =
-        tellings_more curve stream byte ∙ ap (λ (ts : List Told). ts ++ told_with curve stream byte) clear.tells
-        ∙ ap (λ (ts : List Told). (done ++ []) ++ ts) (told_answer curve None stream byte a) in
-    ([], (rw e (record { reads = r; tells = more; last = tt }), record { end_is = refl; sent_is = refl; passed_over_is = refl; refused_is = refl }))
+        tellings_more curve None stream byte a ∙ ap (λ (ts : List Told). ts ++ []) clear.tells in
+    ([], (rw e (record { reads = r; heard = heard_still None stream byte a clear.heard; tells = more; last = tt }), record { end_is = refl; sent_is = refl; passed_over_is = refl; refused_is = refl }))
 
 -- the same, with another count of bytes
 pub with_used : (now : List Told) (old new : SendView) (fed : Fed) (used : ℕ) → Handles now old new fed
@@ -144,7 +168,7 @@ pub kept_command_told :
 kept_command_told reader curve was keeps done stream held waiting command old new fed u w h e s k =
     let is : was ≡ Some (kept.Command command) = sym w ∙ ap (λ (x : Kept). Some x) (h ∙ ap (λ (d : CommandData). kept.Command d) (sym e)) in
     let v : HasUsed reader curve (Some (kept.Command command)) done stream = rw (← is) u in
-    heard_by reader curve keeps done stream (exclusive_of stream) (Tells command) old new fed v.reads v.tells (s curve (exclusive_of stream)) refl (none_last keeps stream k)
+    heard_by reader curve keeps done stream (exclusive_of stream) (Tells command) old new fed v.reads v.heard v.tells (s curve (exclusive_of stream)) refl (none_last keeps stream k)
 
 -- a message that was kept
 pub kept_message_told :
@@ -157,5 +181,5 @@ kept_message_told reader curve was keeps done stream sysex held ended m old new 
     let is : was ≡ Some (kept.Message m) = sym w ∙ ap (λ (x : Kept). Some x) (h ∙ ap (λ (x : MidiMessage). kept.Message x) (sym e)) in
     let v : HasUsed reader curve (Some (kept.Message m)) done stream = rw (← is) u in
     let same = told_same m (last_exclusive stream) sysex curve range v.last.bytes text in
-    heard_by reader curve keeps done stream sysex (command_of m sysex curve) old new fed v.reads (v.tells ∙ ap (λ (t : Told). done ++ t ∷ []) (sym same)) s
+    heard_by reader curve keeps done stream sysex (command_of m sysex curve) old new fed v.reads v.heard (v.tells ∙ ap (λ (t : Told). done ++ t ∷ []) (sym same)) s
     (kept_same curve keeps m sysex _ k same) (keeps_last keeps m stream k v.last)

@@ -1,5 +1,5 @@
 -- What a port keeps, and how it stands for the bytes that it used.
-use Rattle.std.specs.Prelude.{ℕ, ◌≡◌, ◌<◌, List, [], ◌∷◌, ◌++◌, Option, Some, None}
+use Rattle.std.specs.Prelude.{ℕ, ◌≡◌, ◌<◌, List, [], ◌∷◌, ◌++◌, map, Option, Some, None}
 use Rattle.midi_stream.specs.declared.message.MidiMessage.{MidiMessage}
 use Rattle.midi_stream.specs.declared.reader.MidiReader.{MidiReader}
 use Rattle.midi_stream.specs.Messages.{messages, last_exclusive}
@@ -11,7 +11,7 @@ use Rattle.port.specs.declared.kept.Kept.{Kept}
 use Rattle.port.specs.declared.kept.Kept.TheVariants as kept
 use Rattle.port.specs.declared.fed.PortStop.{PortStop}
 use Rattle.port.specs.declared.fed.PortStop.TheVariants.{All, Full, Memory}
-use Rattle.port.specs.Tellings.{exclusive_of, told_with, tellings}
+use Rattle.port.specs.Tellings.{exclusive_of, heard_in, tellings}
 
 -- what is told by what a port keeps, with the bytes of the last system exclusive message
 abbrev pub told_kept : Curve → List ℕ → Option Kept → List Told
@@ -42,12 +42,10 @@ KeepsAt Memory None = ⊥
 KeepsAt Memory (Some (kept.Command command)) = ⊥
 KeepsAt Memory (Some (kept.Message message)) = Unit {0}
 
--- a port with this reader and this curve has used the bytes of the stream: what its messages tell was done, but for what is kept
+-- A port with this reader and this curve has used the bytes of the stream: what its messages tell was done, but for what is kept.
+-- The messages with their bytes are the messages of the stream.
 pub record HasUsed (reader : MidiReader) (curve : Curve) (keeps : Option Kept) (done : List Told) (stream : List ℕ) : Type 0 where
   pub reads : Reads reader stream
+  pub heard : map (λ h. h.message) (heard_in stream) ≡ messages stream
   pub tells : tellings curve stream ≡ done ++ told_kept curve (exclusive_of stream) keeps
   pub last : KeepsLast keeps stream
-
--- where a feed stopped for want of a place or of memory, it used no byte, or the last one that it used told what is kept
-pub record EndsAt (curve : Curve) (keeps : Option Kept) (before : List ℕ) (byte : ℕ) : Type 0 where
-  pub tells : told_with curve before byte ≡ told_kept curve (exclusive_of (before ++ byte ∷ [])) keeps

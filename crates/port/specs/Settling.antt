@@ -3,7 +3,7 @@ use Rattle.std.specs.Prelude.{ℕ, ◌≡◌, ◌+◌, ◌≤◌, List, [], ◌�
 use Rattle.midi_stream.specs.declared.message.MidiMessage.{MidiMessage}
 use Rattle.velocity_map.specs.declared.curve.Curve.{Curve}
 use Rattle.command_set.specs.Message.{Told}
-use Rattle.command_queue.specs.Ends.{SendView, WasFull, others_of}
+use Rattle.command_queue.specs.Ends.{SendView, WasFull, one_up, others_of}
 use Rattle.port.specs.declared.kept.Kept.{Kept}
 use Rattle.port.specs.declared.kept.Kept.TheVariants as kept
 use Rattle.port.specs.declared.fed.Fed.{Fed}
@@ -41,6 +41,12 @@ FullOnly All e = Unit {0}
 FullOnly Full e = MetFull e
 FullOnly Memory e = Unit {0}
 
+-- how often an end was refused, after a feed that stopped so
+abbrev pub refusals_after : PortStop → ℕ → ℕ
+refusals_after All n = n
+refusals_after Full n = one_up n
+refusals_after Memory n = n
+
 -- so many bytes were used, at most one message was told of, and the end is of its line and number; it stopped at a full line only where that was met
 pub record OneMore (old new : SendView) (used : ℕ) (fed : Fed) : Type 0 where
   pub line : new.line ≡ old.line
@@ -48,4 +54,5 @@ pub record OneMore (old new : SendView) (used : ℕ) (fed : Fed) : Type 0 where
   pub count : length new.list ≡ length old.list + fed.sent
   pub used_is : fed.used ≡ used
   pub few : fed.sent + fed.passed_over + fed.refused ≤ 1
+  pub refusals : new.refusals ≡ refusals_after fed.stop old.refusals
   pub full : FullOnly fed.stop new

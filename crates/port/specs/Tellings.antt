@@ -1,5 +1,5 @@
 -- What the messages of a stream of MIDI bytes tell an instrument, in order.
-use Rattle.std.specs.Prelude.{ℕ, Bool, true, false, List, [], ◌∷◌, ◌++◌, length, Option, Some, None, option_map, slice_get, unwrap_or}
+use Rattle.std.specs.Prelude.{ℕ, Bool, true, false, List, [], ◌∷◌, ◌++◌, length, map, Option, Some, None, slice_get, unwrap_or}
 use Rattle.midi_stream.specs.declared.message.MidiMessage.{MidiMessage}
 use Rattle.midi_stream.specs.Messages.{messages, last_exclusive}
 use Rattle.velocity_map.specs.declared.curve.Curve.{Curve}
@@ -10,23 +10,35 @@ use Rattle.command_set.specs.Message.{Told, Tells, PassedOver, Overlong, Faulty,
 abbrev pub exclusive_of : List ℕ → List ℕ
 exclusive_of stream = unwrap_or (last_exclusive stream) []
 
-abbrev pub one_told : Curve → List ℕ → Option MidiMessage → List Told
-one_told curve bytes None = []
-one_told curve bytes (Some message) = command_of message bytes curve ∷ []
+-- a message of a stream, with the bytes of the last system exclusive message at its end
+pub record Heard : Type 0 where
+  pub message : MidiMessage
+  pub bytes : List ℕ
 
--- what one more byte of a stream tells: nothing where its messages stay, and else what the message tells that is new
-unfoldable pub told_with : Curve → List ℕ → ℕ → List Told
-told_with curve before byte =
-    one_told curve (exclusive_of (before ++ byte ∷ [])) (slice_get (messages (before ++ byte ∷ [])) (length (messages before)))
+abbrev pub one_heard : List ℕ → Option MidiMessage → List Heard
+one_heard bytes None = []
+one_heard bytes (Some message) = record { message = message; bytes = bytes } ∷ []
 
--- what bytes tell behind the stream before them
-unfoldable pub told_behind : Curve → List ℕ → List ℕ → List Told
-told_behind curve before [] = []
-told_behind curve before (byte ∷ bytes) = told_with curve before byte ++ told_behind curve (before ++ byte ∷ []) bytes
+-- the message that a stream gains with one more byte, if it gains one
+unfoldable pub heard_with : List ℕ → ℕ → List Heard
+heard_with before byte = one_heard (exclusive_of (before ++ byte ∷ [])) (slice_get (messages (before ++ byte ∷ [])) (length (messages before)))
+
+-- the messages that a stream gains with more bytes
+unfoldable pub heard_behind : List ℕ → List ℕ → List Heard
+heard_behind before [] = []
+heard_behind before (byte ∷ bytes) = heard_with before byte ++ heard_behind (before ++ byte ∷ []) bytes
+
+-- the messages of a stream, each with its bytes where it is a system exclusive one
+abbrev pub heard_in : List ℕ → List Heard
+heard_in stream = heard_behind [] stream
+
+-- what a message with its bytes tells
+abbrev pub told_by_heard : Curve → Heard → Told
+told_by_heard curve heard = command_of heard.message heard.bytes curve
 
 -- what the messages of a stream tell
 abbrev pub tellings : Curve → List ℕ → List Told
-tellings curve stream = told_behind curve [] stream
+tellings curve stream = map (told_by_heard curve) (heard_in stream)
 
 -- the commands among what is told
 abbrev pub commands_in : List Told → List CommandData

@@ -6,7 +6,7 @@ ghost use Rattle.command_set.specs.Message.{Told};
 ghost use Rattle.command_queue.specs.Ends.{quota_of};
 ghost use Rattle.port.specs.Feeding.{Handles};
 ghost use Rattle.port.specs.Keeping.{KeepsAt};
-ghost use Rattle.port.specs.Settling.{FullOnly, OneMore};
+ghost use Rattle.port.specs.Settling.{FullOnly, OneMore, refusals_after};
 
 use crate::fed::{Fed, PortStop};
 use crate::kept::Kept;
@@ -120,6 +120,7 @@ impl Port {
         ensures used { result.used ≤ length bytes.now }
         ensures all { result.stop ≡ PortStop.All → result.used ≡ length bytes.now }
         ensures full { FullOnly result.stop end.new }
+        ensures refusals { end.new.refusals ≡ refusals_after result.stop end.old.refusals }
         ensures same { (end.new.line ≡ end.old.line) × (end.new.number ≡ end.old.number) }
         ensures count { length end.new.list ≡ length end.old.list + result.sent }
         ensures few { result.sent + result.passed_over + result.refused ≤ result.used + 1 }
