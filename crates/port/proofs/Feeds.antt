@@ -111,19 +111,22 @@ reached_more was reader later was_curve curve later_curve was_kept keeps later_k
   number = one.number ∙ r.number;
   count = (let s : both.sent ≡ fed.sent + two.sent = ap (λ (f : Fed). f.sent) b in omega (arith, s, r.count, one.count));
   few = (
-    let s : both.sent ≡ fed.sent + two.sent = ap (λ (f : Fed). f.sent) b in
-    let p : both.passed_over ≡ fed.passed_over + two.passed_over = ap (λ (f : Fed). f.passed_over) b in
-    let q : both.refused ≡ fed.refused + two.refused = ap (λ (f : Fed). f.refused) b in omega (arith, s, p, q, r.few, one.few));
+      let s : both.sent ≡ fed.sent + two.sent = ap (λ (f : Fed). f.sent) b in
+      let p : both.passed_over ≡ fed.passed_over + two.passed_over = ap (λ (f : Fed). f.passed_over) b in
+      let q : both.refused ≡ fed.refused + two.refused = ap (λ (f : Fed). f.refused) b in omega (arith, s, p, q, r.few, one.few));
   refusals = (
-    let calm : new.refusals ≡ old.refusals = rw stop at r.refusals in
-    one.refusals ∙ ap (refusals_after two.stop) calm ∙ ap (λ (s : PortStop). refusals_after s old.refusals) (sym (ap (λ (f : Fed). f.stop) b)));
+      let calm : new.refusals ≡ old.refusals = rw stop at r.refusals in
+      one.refusals ∙ ap (refusals_after two.stop) calm ∙ ap (λ (s : PortStop). refusals_after s old.refusals) (sym (ap (λ (f : Fed). f.stop) b)));
   heard = λ done stream u.
-    (let h = r.heard done stream u in
-     let k = heard (done ++ h.0) (stream ++ take index bytes) h.1.0 in
-     let bytes_so_far : (stream ++ take index bytes) ++ byte ∷ [] ≡ stream ++ take (index + 1) bytes = append_assoc stream (take index bytes) (byte ∷ []) ∙ ap (λ (bs : List ℕ). stream ++ bs) (sym taken) in
-     (h.0 ++ k.0,
-      (rw (← append_assoc done h.0 k.0, ← bytes_so_far) k.1.0,
-       handles_more h.0 k.0 old new last fed two both stop h.1.1 k.1.1 (ap (λ (f : Fed). f.stop) b) (ap (λ (f : Fed). f.sent) b) (ap (λ (f : Fed). f.passed_over) b) (ap (λ (f : Fed). f.refused) b))));
+      (let h = r.heard done stream u in
+      let k = heard (done ++ h.0) (stream ++ take index bytes) h.1.0 in
+      let bytes_so_far : (stream ++ take index bytes) ++ byte ∷ [] ≡ stream ++ take (index + 1) bytes = append_assoc stream (take index bytes) (byte ∷ []) ∙ ap (λ (bs : List ℕ). stream ++ bs) (sym taken) in (
+        h.0 ++ k.0,
+        (
+          rw (← append_assoc done h.0 k.0, ← bytes_so_far) k.1.0,
+          handles_more h.0 k.0 old new last fed two both stop h.1.1 k.1.1 (ap (λ (f : Fed). f.stop) b) (ap (λ (f : Fed). f.sent) b) (ap (λ (f : Fed). f.passed_over) b) (ap (λ (f : Fed). f.refused) b),
+        ),
+      ));
 }
 
 -- what was heard, by the count of bytes

@@ -119,13 +119,18 @@ heard_by :
     → tellings curve stream ≡ done ++ t ∷ [] → Settles curve sysex t keeps old new fed
     → told_kept curve sysex keeps ≡ told_kept curve (exclusive_of stream) keeps → KeepsLast keeps stream
     → (now : List Told) × (HasUsed reader curve keeps (done ++ now) stream × Handles now old new fed)
-heard_by reader curve keeps done stream sysex t old new fed r ms e s same l =
-    (s.now, (record {
+heard_by reader curve keeps done stream sysex t old new fed r ms e s same l = (
+  s.now,
+  (
+    record {
       reads = r;
       heard = ms;
       tells = e ∙ ap (λ ts. done ++ ts) (s.splits ∙ ap (λ ts. s.now ++ ts) same) ∙ sym (append_assoc done s.now _);
       last = l;
-    }, s.handles))
+    },
+    s.handles,
+  ),
+)
 
 -- a byte that ends a message
 pub byte_told :
@@ -138,8 +143,8 @@ pub byte_told :
 byte_told was reader curve keeps done stream sysex byte m old new fed u r a range has text s k =
     let same = told_same m (last_exclusive (stream ++ byte ∷ [])) sysex curve range has text in
     let tells : tellings curve (stream ++ byte ∷ []) ≡ done ++ command_of m sysex curve ∷ [] =
-        tellings_more curve (Some m) stream byte a ∙ ap (λ (ts : List Told). ts ++ command_of m (exclusive_of (stream ++ byte ∷ [])) curve ∷ []) (u.tells ∙ append-nil done)
-        ∙ ap (λ (t : Told). done ++ t ∷ []) (sym same) in
+    tellings_more curve (Some m) stream byte a ∙ ap (λ (ts : List Told). ts ++ command_of m (exclusive_of (stream ++ byte ∷ [])) curve ∷ []) (u.tells ∙ append-nil done)
+    ∙ ap (λ (t : Told). done ++ t ∷ []) (sym same) in
     heard_by reader curve keeps done (stream ++ byte ∷ []) sysex (command_of m sysex curve) old new fed r (heard_still (Some m) stream byte a u.heard) tells s (kept_same curve keeps m sysex _ k same)
     (keeps_last keeps m (stream ++ byte ∷ []) k (record { earlier = messages stream; last = a; bytes = has }))
 
@@ -151,7 +156,7 @@ pub byte_silent :
 byte_silent was reader curve keeps done stream byte used end e u r a =
     let clear : HasUsed was curve None done stream = rw (← e) u in
     let more : tellings curve (stream ++ byte ∷ []) ≡ (done ++ []) ++ [] =
-        tellings_more curve None stream byte a ∙ ap (λ (ts : List Told). ts ++ []) clear.tells in
+    tellings_more curve None stream byte a ∙ ap (λ (ts : List Told). ts ++ []) clear.tells in
     ([], (rw e (record { reads = r; heard = heard_still None stream byte a clear.heard; tells = more; last = tt }), record { end_is = refl; sent_is = refl; passed_over_is = refl; refused_is = refl }))
 
 -- the same, with another count of bytes

@@ -8,3 +8,6 @@ mod telling;
 
 pub use fed::{Fed, PortStop};
 pub use port::Port;
+
+#[cfg(test)]
+mod tests;

@@ -55,7 +55,13 @@ impl Port {
     {
         match self.kept.take() {
             None => Fed::NOTHING,
-            Some(Kept::Command(waiting)) => send(rt, line, end, &mut self.kept, waiting.into_command()),
+            Some(Kept::Command(waiting)) => send(
+                rt,
+                line,
+                end,
+                &mut self.kept,
+                waiting.into_command(),
+            ),
             Some(Kept::Message(ended)) => tell(
                 rt,
                 alloc,

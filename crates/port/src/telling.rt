@@ -35,10 +35,16 @@ pub(crate) fn send<R: Wait>(
     ensures one { OneMore end.old end.new 0 result }
 {
     match line.send(rt, end, 0, command) {
-        Ok(_) => Fed { sent: 1, ..Fed::NOTHING },
+        Ok(_) => Fed {
+            sent: 1,
+            ..Fed::NOTHING
+        },
         Err(full) => {
             *kept = Some(Kept::Command(Waiting::new(full.command)));
-            Fed { stop: PortStop::Full, ..Fed::NOTHING }
+            Fed {
+                stop: PortStop::Full,
+                ..Fed::NOTHING
+            }
         }
     }
 }
@@ -65,12 +71,24 @@ pub(crate) fn tell<R: Wait>(
 {
     match from_message(alloc, message, sysex, map) {
         Ok(Some(command)) => send(rt, line, end, kept, command),
-        Ok(None) => Fed { passed_over: 1, ..Fed::NOTHING },
+        Ok(None) => Fed {
+            passed_over: 1,
+            ..Fed::NOTHING
+        },
         Err(CommandFault::Memory) => {
             *kept = Some(Kept::Message(Ended::new(message)));
-            Fed { stop: PortStop::Memory, ..Fed::NOTHING }
+            Fed {
+                stop: PortStop::Memory,
+                ..Fed::NOTHING
+            }
         }
-        Err(CommandFault::TooLong { .. }) => Fed { refused: 1, ..Fed::NOTHING },
-        Err(CommandFault::Frame(_)) => Fed { refused: 1, ..Fed::NOTHING },
+        Err(CommandFault::TooLong { .. }) => Fed {
+            refused: 1,
+            ..Fed::NOTHING
+        },
+        Err(CommandFault::Frame(_)) => Fed {
+            refused: 1,
+            ..Fed::NOTHING
+        },
     }
 }
