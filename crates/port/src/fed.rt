@@ -34,6 +34,51 @@ impl Fed {
         stop: PortStop::All,
     };
 
+    /// A command was accepted.
+    pub(crate) const SENT: Fed = Fed {
+        used: 0,
+        sent: 1,
+        passed_over: 0,
+        refused: 0,
+        stop: PortStop::All,
+    };
+
+    /// A message was passed over.
+    pub(crate) const PASSED_OVER: Fed = Fed {
+        used: 0,
+        sent: 0,
+        passed_over: 1,
+        refused: 0,
+        stop: PortStop::All,
+    };
+
+    /// A message was refused.
+    pub(crate) const REFUSED: Fed = Fed {
+        used: 0,
+        sent: 0,
+        passed_over: 0,
+        refused: 1,
+        stop: PortStop::All,
+    };
+
+    /// A command found the line full.
+    pub(crate) const FULL: Fed = Fed {
+        used: 0,
+        sent: 0,
+        passed_over: 0,
+        refused: 0,
+        stop: PortStop::Full,
+    };
+
+    /// A message wanted memory.
+    pub(crate) const MEMORY: Fed = Fed {
+        used: 0,
+        sent: 0,
+        passed_over: 0,
+        refused: 0,
+        stop: PortStop::Memory,
+    };
+
     /// This and then that.
     pub(crate) fn and(self, next: Fed) -> Fed
         requires used { self.used + next.used < 2 ^ 64 }

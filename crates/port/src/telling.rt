@@ -9,7 +9,7 @@ ghost use Rattle.command_set.specs.Message.{Told, Tells, command_of};
 ghost use Rattle.command_queue.specs.Ends.{quota_of};
 ghost use Rattle.port.specs.Settling.{Settles, KeepsThis, KeepsNoMessage, OneMore};
 
-use crate::fed::{Fed, PortStop};
+use crate::fed::Fed;
 use crate::kept::{Ended, Kept, Waiting};
 use command_queue::{Line, SendEnd};
 use command_set::{Command, CommandFault, from_message};
@@ -35,16 +35,10 @@ pub(crate) fn send<R: Wait>(
     ensures one { OneMore end.old end.new 0 result }
 {
     match line.send(rt, end, 0, command) {
-        Ok(_) => Fed {
-            sent: 1,
-            ..Fed::NOTHING
-        },
+        Ok(_) => Fed::SENT,
         Err(full) => {
             *kept = Some(Kept::Command(Waiting::new(full.command)));
-            Fed {
-                stop: PortStop::Full,
-                ..Fed::NOTHING
-            }
+            Fed::FULL
         }
     }
 }
@@ -71,24 +65,12 @@ pub(crate) fn tell<R: Wait>(
 {
     match from_message(alloc, message, sysex, map) {
         Ok(Some(command)) => send(rt, line, end, kept, command),
-        Ok(None) => Fed {
-            passed_over: 1,
-            ..Fed::NOTHING
-        },
+        Ok(None) => Fed::PASSED_OVER,
         Err(CommandFault::Memory) => {
             *kept = Some(Kept::Message(Ended::new(message)));
-            Fed {
-                stop: PortStop::Memory,
-                ..Fed::NOTHING
-            }
+            Fed::MEMORY
         }
-        Err(CommandFault::TooLong { .. }) => Fed {
-            refused: 1,
-            ..Fed::NOTHING
-        },
-        Err(CommandFault::Frame(_)) => Fed {
-            refused: 1,
-            ..Fed::NOTHING
-        },
+        Err(CommandFault::TooLong { .. }) => Fed::REFUSED,
+        Err(CommandFault::Frame(_)) => Fed::REFUSED,
     }
 }
