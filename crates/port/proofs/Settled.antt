@@ -1,5 +1,5 @@
 -- What comes of one message, by what the line and the reading of it answered.
-use Rattle.std.proofs.Common.{◌≡◌, ◌≢◌, ℕ, ◌+◌, ◌≤◌, List, [], ◌∷◌, ◌++◌, length, Bool, true, false, Option, Some, None, refl, sym, ap, ◌∙◌, arith}
+use Rattle.std.proofs.Common.{◌≡◌, ℕ, List, [], ◌∷◌, Option, Some, None, refl}
 use Rattle.midi_stream.specs.declared.message.MidiMessage.{MidiMessage}
 use Rattle.sysex_frame.specs.declared.frame.FrameFault.{FrameFault}
 use Rattle.velocity_map.specs.declared.curve.Curve.{Curve}
@@ -8,9 +8,7 @@ use Rattle.command_set.specs.Message.{Told, Tells, PassedOver, Overlong, Faulty}
 use Rattle.command_queue.specs.Ends.{SendView, accepted, entry_of}
 use Rattle.port.specs.declared.kept.Kept.{Kept}
 use Rattle.port.specs.declared.kept.Kept.TheVariants as kept
-use Rattle.port.specs.declared.fed.Fed.{Fed}
-use Rattle.port.specs.declared.fed.PortStop.TheVariants.{All, Full, Memory}
-use Rattle.port.specs.Tellings.{is_refused}
+use Rattle.port.specs.declared.fed.PortStop.TheVariants.{All}
 use Rattle.port.specs.Settling.{Settles, KeepsThis, KeepsNoMessage}
 
 pub sent_settles :

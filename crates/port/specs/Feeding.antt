@@ -1,5 +1,5 @@
 -- What a feed does to an end of a line.
-use Rattle.std.specs.Prelude.{ℕ, ◌≡◌, List, [], ◌∷◌, length}
+use Rattle.std.specs.Prelude.{◌≡◌, List, [], ◌∷◌, length}
 use Rattle.std.specs.List.{count_by}
 use Rattle.command_set.specs.Command.{CommandData}
 use Rattle.command_set.specs.Message.{Told}

@@ -1,5 +1,5 @@
 -- What a port keeps, and how it stands for the bytes that it used.
-use Rattle.std.specs.Prelude.{ℕ, ◌≡◌, ◌<◌, List, [], ◌∷◌, ◌++◌, map, Option, Some, None}
+use Rattle.std.specs.Prelude.{ℕ, ◌≡◌, List, [], ◌∷◌, ◌++◌, map, Option, Some, None}
 use Rattle.midi_stream.specs.declared.message.MidiMessage.{MidiMessage}
 use Rattle.midi_stream.specs.declared.reader.MidiReader.{MidiReader}
 use Rattle.midi_stream.specs.Messages.{messages, last_exclusive}

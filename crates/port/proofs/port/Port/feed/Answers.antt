@@ -1,4 +1,4 @@
-use Rattle.std.proofs.Common.{◌≡◌, ◌<◌, length, rules, ap, sym, subst, take, List, ℕ, ◌∙◌, arith}
+use Rattle.std.proofs.Common.{◌≡◌, ◌<◌, length, rules, ap, sym, subst, ◌∙◌, arith}
 use Rattle.std.proofs.lemmas.List.{take_more}
 use Rattle.port.specs.declared.fed.Fed.{Fed}
 use Rattle.port.specs.declared.fed.PortStop.{PortStop}
