@@ -1,0 +1,19 @@
+use Rattle.std.proofs.Common.{◌∙◌, ap}
+use Rattle.command_set.specs.Command.{content}
+use Rattle.command_set.specs.Message.{told}
+use Rattle.std.specs.Prelude.{option_map}
+use Rattle.port.proofs.Settled.{passed_settles, overlong_settles, faulty_settles, this_if_none}
+use Rattle.port.proofs.telling.tell.Goals as goal
+
+pub returns-in-Ok-None-clause-settles : goal.returns-in-Ok-None-clause-settles
+returns-in-Ok-None-clause-settles g c =
+    passed_settles _ _ _ _ _ c.requires.clear (c.in-Ok-None.ensures.command ∙ ap (λ found. told (option_map content found)) c.in-Ok-None.field-0-is)
+
+pub returns-in-Ok-Some-clause-message : goal.returns-in-Ok-Some-clause-message
+returns-in-Ok-Some-clause-message g c = this_if_none _ c.args.message c.send.ensures.keeps
+
+pub returns-in-Err-TooLong-clause-settles : goal.returns-in-Err-TooLong-clause-settles
+returns-in-Err-TooLong-clause-settles g c = overlong_settles _ _ _ _ _ _ c.requires.clear (rw c.in-Err-TooLong.field-0-is at c.in-Err-TooLong.ensures.refused)
+
+pub returns-in-Err-Frame-clause-settles : goal.returns-in-Err-Frame-clause-settles
+returns-in-Err-Frame-clause-settles g c = faulty_settles _ _ _ _ _ _ c.requires.clear (rw c.in-Err-Frame.field-0-is at c.in-Err-Frame.ensures.refused)

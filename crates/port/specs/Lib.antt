@@ -1,0 +1,5 @@
+pub mod Tellings
+pub mod Feeding
+pub mod Keeping
+pub mod Settling
+pub mod Used

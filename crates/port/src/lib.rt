@@ -1,0 +1,13 @@
+//! A port: a live stream of MIDI bytes that becomes commands on a line.
+#![tactic(auto)]
+
+mod fed;
+mod kept;
+mod port;
+mod telling;
+
+pub use fed::{Fed, PortStop};
+pub use port::Port;
+
+#[cfg(test)]
+mod tests;
