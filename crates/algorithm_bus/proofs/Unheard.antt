@@ -64,7 +64,6 @@ input_same p q kept k j a h =
 
 module _ (p q : Patch) (kept : ℕ → Bool) (m : AreMuted p q kept)
     (closed : (o to : ℕ) → 1 ≤ o → o ≤ 6 → 1 ≤ to → to ≤ 6 → modulates p.algorithm o to ≡ true → kept to ≡ true → IsCovered (kept o) (p.op o)) where
-
   -- the k-th operator from the top
   own_covered : (k j : ℕ) → k < 6 → ((i : ℕ) → i < k → IsCovered (kept (6 - i)) (p.op (6 - i)) → signals_of q k (6 - i) j ≡ signals_of p k (6 - i) j)
       → IsCovered (kept (6 - k)) (p.op (6 - k)) → own_sample q (6 - k) (input_of q (signals_of q k) k (6 - k)) j ≡ own_sample p (6 - k) (input_of p (signals_of p k) k (6 - k)) j

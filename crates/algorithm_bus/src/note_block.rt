@@ -56,7 +56,13 @@ impl NoteBlock {
         ensures { memory_of self.new.memory ≡ memory_left (block_patch self.old) }
     {
         let ops = self.ops;
-        let _ = feed_back(tables, self.algorithm, self.feedback, &ops, &mut self.memory);
+        let _ = feed_back(
+            tables,
+            self.algorithm,
+            self.feedback,
+            &ops,
+            &mut self.memory,
+        );
     }
 
     /// The same as `run_note`: `out` becomes the sum of the carriers, and the memory the last two samples of the operator with feedback.
@@ -65,7 +71,14 @@ impl NoteBlock {
         ensures memory { memory_of self.new.memory ≡ memory_left (block_patch self.old) }
     {
         let ops = self.ops;
-        run_note(tables, self.algorithm, self.feedback, &ops, &mut self.memory, out);
+        run_note(
+            tables,
+            self.algorithm,
+            self.feedback,
+            &ops,
+            &mut self.memory,
+            out,
+        );
     }
 
     /// The same as `run` for four notes of one algorithm and feedback, whose operators with feedback run side by side.

@@ -85,15 +85,7 @@ impl Sounding {
         ensures begun { (n : NoteData) → IsSounding self.old n → IsUnended self.new (heard n (record { lfo = lfo; delay = delay; bend = bend; wheel = wheel })) }
     {
         let level = self.pitch.step();
-        let shift = pitch_modulation(
-            self.depth,
-            self.sensitivity,
-            level,
-            lfo,
-            delay,
-            bend,
-            wheel,
-        );
+        let shift = pitch_modulation(self.depth, self.sensitivity, level, lfo, delay, bend, wheel);
         tune_all(&mut self.operators, tables, self.shift, shift);
         self.shift = shift;
         let ops = pass_all(&mut self.operators, tables, self.switch, lfo, delay);

@@ -19,8 +19,8 @@ const INSTRUMENT_BLOCKS: u32 = 10_000;
 /// How many commands are applied.
 const COMMANDS: u32 = 1_000_000;
 
-/// One note of six operators, three of them carriers, and feedback.
-pub fn render_note(alloc: Global) -> Result<i64, AllocError> {
+/// One note of six operators, three of them carriers, and feedback. Where its key is let go at once it soon has died away.
+pub fn render_note(alloc: Global, is_let_go: bool) -> Result<i64, AllocError> {
     let tables = Tables::new(alloc)?;
     let mut voice = Voice::init();
     for operator in 0..6u8 {
@@ -31,6 +31,9 @@ pub fn render_note(alloc: Global) -> Result<i64, AllocError> {
     let _ = voice.set(135, 7);
     let mut note = Note::idle();
     note.start(&tables, &voice, 63, 60, 100);
+    if is_let_go {
+        note.release();
+    }
     let mut sum = 0i64;
     for block in 0..NOTE_BLOCKS {
         let mut mix = nothing();

@@ -1,5 +1,5 @@
 //! Runs a kernel many times and prints a checksum of its answers, so that a script can time it:
-//! `notes` renders blocks of six operators, `note` a whole note of them, `sixteen` sixteen notes on the instrument, `commands` applies commands,
+//! `notes` renders blocks of six operators, `note` a whole note of them, `died` one that has died away, `sixteen` sixteen notes on the instrument, `commands` applies commands,
 //! `entries` passes entries through a line, `frames` reads a cartridge's message.
 #![tactic(auto)]
 
@@ -26,8 +26,12 @@ fn main(rt: HostRuntime) -> Result<(), anyhow::Error> {
                 println!(rt; "notes sum {sum}")?;
             }
             "note" => {
-                let sum = engine::render_note(rt.alloc())?;
+                let sum = engine::render_note(rt.alloc(), false)?;
                 println!(rt; "note sum {sum}")?;
+            }
+            "died" => {
+                let sum = engine::render_note(rt.alloc(), true)?;
+                println!(rt; "died sum {sum}")?;
             }
             "sixteen" => {
                 let sum = engine::render_sixteen(rt.alloc())?;
@@ -45,7 +49,7 @@ fn main(rt: HostRuntime) -> Result<(), anyhow::Error> {
                 let sum = read_frames(rt.alloc())?;
                 println!(rt; "frames sum {sum}")?;
             }
-            _ => println!(rt; "usage: speed notes|note|sixteen|commands|entries|frames")?,
+            _ => println!(rt; "usage: speed notes|note|died|sixteen|commands|entries|frames")?,
         }
     }
     Ok(())

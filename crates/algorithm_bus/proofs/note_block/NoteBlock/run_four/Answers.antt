@@ -38,4 +38,3 @@ returns-clause-memory3 c =
     let a = c.requires.algorithm.2 in
     let f = c.requires.feedback.2 in
     rw (a, f) c.run_four_notes.ensures.memory3
-
