@@ -13,8 +13,8 @@ pub use command::{Command, is_known_control};
 pub use entry::{Entry, Logged};
 pub use message::{CommandFault, from_message};
 pub use plain_text::LineText;
-pub use read_bytes::{read_cartridge, read_voice};
 pub use read::{TextFault, texts_are_unique};
+pub use read_bytes::{read_cartridge, read_voice};
 
 #[cfg(test)]
 mod message_tests;

@@ -335,12 +335,14 @@ module _ (a : Asked) (before now : Moment) (status : ℕ) where
       let are : plans ≡ d.plans = ap plans_in same in
       ⊎_elim
       (λ (e : status ≡ 0). (inl e, λ room. inl e))
-      (λ (e : status ≡ 5). (inr (inl e), λ room.
-      let few : places_of_run a.places d.plans < count_all d.plans = few_places a d.plans d.journal d.timed (some_is_left (left_of d.plans d.journal) status d.status_is e) in
-      let room_too : count_all d.plans ≤ places_of_run a.places d.plans = subst (λ (l : List (List PlannedData)). count_all l ≤ places_of_run a.places l) are room in
-      absurd (omega (arith, few, room_too))))
+      (λ (e : status ≡ 5). (
+        inr (inl e),
+        λ room.
+            let few : places_of_run a.places d.plans < count_all d.plans = few_places a d.plans d.journal d.timed (some_is_left (left_of d.plans d.journal) status d.status_is e) in
+            let room_too : count_all d.plans ≤ places_of_run a.places d.plans = subst (λ (l : List (List PlannedData)). count_all l ≤ places_of_run a.places l) are room in
+            absurd (omega (arith, few, room_too)),
+      ))
       (left_status (left_of d.plans d.journal) status d.status_is)
-
 
 -- what an order file says, of a journal with its plans
 abbrev pub data_of : Asked → List (List PlannedData) → List LoggedData → OrderData
@@ -377,9 +379,11 @@ module _ (words : List (List ℕ)) (a : Asked) (before now : Moment) (status : �
 
   pub clause_order : Played words status before.files (λ b plans. (o : OrderData) × Lists now.files b.order o × (o.scripts ≡ length b.scripts))
   clause_order = of_done (λ b plans. (o : OrderData) × Lists now.files b.order o × (o.scripts ≡ length b.scripts))
-      (λ d told is. (data_of a d.plans d.journal,
-      (subst (λ (f : Option (List ℕ)). IsSomeAnd f (λ text. IsOrder text (data_of a d.plans d.journal))) (sym (order_bytes d told is)) (record { ordered = d.ordered; spelled = refl })),
-      d.planned.0))
+      (λ d told is. (
+        data_of a d.plans d.journal,
+        (subst (λ (f : Option (List ℕ)). IsSomeAnd f (λ text. IsOrder text (data_of a d.plans d.journal))) (sym (order_bytes d told is)) (record { ordered = d.ordered; spelled = refl })),
+        d.planned.0,
+      ))
 
   pub clause_blocks : PlayedAs words status before.files now.files (λ b plans o. o.blocks ≡ blocks_of_run b.blocks plans)
   clause_blocks = of_order (λ b plans o. o.blocks ≡ blocks_of_run b.blocks plans) (λ d told is. refl)

@@ -5,9 +5,7 @@ ghost use Rattle.play_core.specs.Lines as lines;
 ghost use Rattle.play_core.specs.Refused.{IsWithin};
 
 use crate::refusal::Refusal;
-use fault_lines::{
-    say, say_cannot_read, say_limit_commands, say_limit_file, say_out_of_memory,
-};
+use fault_lines::{say, say_cannot_read, say_limit_commands, say_limit_file, say_out_of_memory};
 use outside::Out;
 use plain_text::{LineText, push_number, push_text};
 use script_read::{Place, ScriptKind, push_script_text};

@@ -88,11 +88,7 @@ fn prepare<S: Shelf>(
 }
 
 // Makes both files with their first bytes.
-fn begin_files<S: Shelf>(
-    shelf: &mut S,
-    request: Request<'_>,
-    blocks: u32,
-) -> Result<(), Target>
+fn begin_files<S: Shelf>(shelf: &mut S, request: Request<'_>, blocks: u32) -> Result<(), Target>
     requires differ { request.out.now ≢ request.order.now }
     requires blocks { blocks ≤ block_limit }
     requires scripts { length request.scripts.now ≤ 256 }

@@ -16,7 +16,9 @@ use std::alloc::Global;
 use velocity_map::MapSet;
 
 const SCRIPT_LIMIT: u64 = 16_777_216;
+
 const SCRIPTS_LIMIT: u64 = 67_108_864;
+
 const COMMAND_LIMIT: u32 = 1_000_000;
 
 /// The scripts with these names, each with at most as many commands as a run may have with those before. It touches no file.

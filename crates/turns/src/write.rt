@@ -7,8 +7,8 @@ ghost use Rattle.outside.specs.Faults.{HasCause};
 ghost use Rattle.turns.specs.Steps.{block_before};
 ghost use Rattle.turns.specs.Written.{order_lines};
 
-use command_set::{LineText, Logged};
 use crate::target::Target;
+use command_set::{LineText, Logged};
 use outside::{Shelf, append_all};
 use take_files::{order_line, wav_block};
 

@@ -78,10 +78,22 @@ returns g c =
 
 pub put_report-requires : goal.put_report-requires
 put_report-requires g c =
-    omega (arith, not_more (plans_of c.args.stage.players.items) (journal_data c.play_scripts-journal.result.0.items) c.play_scripts-journal.ensures.played,
-    length-map c.play_scripts-journal.result.0.items logged_data, c.len.ensures, c.play_scripts-journal.result.0.ok, c.requires.stage.commands)
+    omega (
+      arith,
+      not_more (plans_of c.args.stage.players.items) (journal_data c.play_scripts-journal.result.0.items) c.play_scripts-journal.ensures.played,
+      length-map c.play_scripts-journal.result.0.items logged_data,
+      c.len.ensures,
+      c.play_scripts-journal.result.0.ok,
+      c.requires.stage.commands,
+    )
 
 pub overflow_cast-len : goal.overflow_cast-len
 overflow_cast-len g c =
-    omega (arith, not_more (plans_of c.args.stage.players.items) (journal_data c.play_scripts-journal.result.0.items) c.play_scripts-journal.ensures.played,
-    length-map c.play_scripts-journal.result.0.items logged_data, c.len.ensures, c.play_scripts-journal.result.0.ok, c.requires.few)
+    omega (
+      arith,
+      not_more (plans_of c.args.stage.players.items) (journal_data c.play_scripts-journal.result.0.items) c.play_scripts-journal.ensures.played,
+      length-map c.play_scripts-journal.result.0.items logged_data,
+      c.len.ensures,
+      c.play_scripts-journal.result.0.ok,
+      c.requires.few,
+    )

@@ -21,7 +21,8 @@ returns-in-Ok-set_stage-clause-plans g c =
     subst (λ (l : List (List PlannedData)). c.in-Some.blocks ≡ blocks_of_run c.args.request.blocks l) c.deref.ensures.value c.in-Some.ensures.some.0 in
     let few : c.in-Some.blocks ≤ block_limit = c.in-Some.ensures.some.2 in
     let within : blocks_of_run c.args.request.blocks c.in-Ok.scripts.items ≤ block_limit = omega (arith, blocks, few) in
-    let stage = c.in-Ok-set_stage.ensures c.args.request.blocks blocks in
-    (ap length stage.plans_are ∙ c.in-Ok.ensures.many ∙ sym (length-map c.args.request.scripts.now string_bytes),
-    subst (λ (l : List (List PlannedData)). IfSome (g.S.Shelf.files c.args.shelf.now) (λ told. verdict (asked c.args.request) told ≡ Plays l)) (sym stage.plans_are)
-    (few_blocks (asked c.args.request) (g.S.Shelf.files c.args.shelf.now) c.in-Ok.scripts.items within c.in-Ok.ensures.plans))
+    let stage = c.in-Ok-set_stage.ensures c.args.request.blocks blocks in (
+      ap length stage.plans_are ∙ c.in-Ok.ensures.many ∙ sym (length-map c.args.request.scripts.now string_bytes),
+      subst (λ (l : List (List PlannedData)). IfSome (g.S.Shelf.files c.args.shelf.now) (λ told. verdict (asked c.args.request) told ≡ Plays l)) (sym stage.plans_are)
+          (few_blocks (asked c.args.request) (g.S.Shelf.files c.args.shelf.now) c.in-Ok.scripts.items within c.in-Ok.ensures.plans),
+    )
