@@ -18,3 +18,8 @@ pub use surely::play_surely;
 pub use top::play_main;
 pub use totals::Totals;
 pub use words::Request;
+
+#[cfg(test)]
+mod one_byte;
+#[cfg(test)]
+mod tests;
