@@ -1,5 +1,5 @@
 -- What an answer says of the plan.
-use Rattle.std.proofs.Common.{◌≡◌, ℕ, ◌<◌, ◌≤◌, List, [], ◌∷◌, ◌++◌, length, true, false, refl, ap, sym, ◌∙◌, subst, arith}
+use Rattle.std.proofs.Common.{◌≡◌, ℕ, ◌<◌, ◌≤◌, List, [], ◌∷◌, length, true, false, refl, ap, sym, ◌∙◌, subst, arith}
 use Rattle.std.specs.Prelude.{All, Option, Some, None, Result, Ok, Err, IfOk, IfSome, bytes_eq, codes}
 use Rattle.midi_stream.specs.Messages.{is_unfinished}
 use Rattle.script_plan.specs.Plan.{PlannedData}
@@ -9,7 +9,7 @@ use Rattle.script_read.specs.declared.fault.ScriptKind.{ScriptKind}
 use Rattle.script_read.specs.declared.fault.ScriptKind.TheVariants as kind
 use Rattle.script_read.specs.declared.fault.ScriptFault.{ScriptFault}
 use Rattle.script_read.specs.declared.fault.ScriptFault.TheVariants as faults
-use Rattle.script_read.specs.Lines.{Said, sayings}
+use Rattle.script_read.specs.Lines.{sayings}
 use Rattle.script_read.specs.Outcomes.{Outcome, stream_of, outcomes_behind, text_outcomes}
 use Rattle.script_read.specs.Plan.{Commands, Refused, TooMany, at_first, is_stream, is_midi_file, lines_outcomes, outcomes, plan, plan_of}
 use Rattle.script_read.specs.Reading.{Settles, Stops, all_given}

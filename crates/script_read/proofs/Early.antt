@@ -1,5 +1,5 @@
 -- Each command that comes of a script is due below the number of blocks.
-use Rattle.std.proofs.Common.{◌≡◌, ℕ, ◌<◌, ◌≤◌, List, [], ◌∷◌, ◌++◌, zero, suc, length, Bool, true, false, cond, refl, arith, subst, leb-false}
+use Rattle.std.proofs.Common.{◌≡◌, ℕ, ◌<◌, List, [], ◌∷◌, ◌++◌, zero, suc, length, Bool, true, false, cond, refl, arith, leb-false}
 use Rattle.std.specs.Prelude.{All, Option, Some, None, nat_lt, nat_le, bytes_eq, codes, if◌then◌else◌, slice_index_or}
 use Rattle.midi_stream.specs.Messages.{is_unfinished}
 use Rattle.velocity_map.specs.declared.curve.Curve.{Curve}
@@ -14,7 +14,7 @@ use Rattle.script_read.specs.declared.fault.ScriptKind.TheVariants as kind
 use Rattle.script_read.specs.Lines.{Said, Blank, Maps, Orders, Feeds, Wrong, sayings}
 use Rattle.script_read.specs.Words.{lines_of}
 use Rattle.script_read.specs.Stream.{Heard, begun_at, heard_with}
-use Rattle.script_read.specs.Outcomes.{Outcome, Gives, Fails, told_outcomes, heard_outcomes, fed_outcomes, block_behind, time_fault, timed, line_behind, line_outcomes, outcomes_behind, text_end, text_outcomes, stream_end, stream_outcomes, stream_of, curve_behind, curved, fed_line}
+use Rattle.script_read.specs.Outcomes.{Outcome, Gives, Fails, told_outcomes, heard_outcomes, fed_outcomes, block_behind, timed, line_behind, line_outcomes, outcomes_behind, text_end, text_outcomes, stream_end, stream_outcomes, stream_of, curve_behind, curved, fed_line}
 use Rattle.script_read.specs.Plan.{at_first, lines_outcomes, outcomes, is_stream, is_midi_file}
 use Rattle.script_read.specs.Reading.{all_given}
 

@@ -1,6 +1,6 @@
 -- One more byte of a stream.
-use Rattle.std.proofs.Common.{◌≡◌, ℕ, ◌+◌, ◌<◌, ◌≤◌, List, [], ◌∷◌, ◌++◌, length, Bool, true, false, refl, ap, sym, ◌∙◌, subst, arith, append_assoc, append-nil, length-append, if◌then◌else◌}
-use Rattle.std.specs.Prelude.{Option, Some, None, option_map, unwrap_or, slice_get, IfSome, IsSomeAnd}
+use Rattle.std.proofs.Common.{◌≡◌, ℕ, ◌+◌, ◌≤◌, List, [], ◌∷◌, ◌++◌, length, refl, ap, sym, ◌∙◌, arith, append_assoc, append-nil, length-append, if◌then◌else◌}
+use Rattle.std.specs.Prelude.{Option, Some, None, option_map, unwrap_or, slice_get, IfSome}
 use Rattle.std.proofs.lemmas.Option.{slice_get_past, slice_get-get_or}
 use Rattle.std.proofs.Math.Seq.{get_or-append_seam}
 use Rattle.midi_stream.specs.declared.message.MidiMessage.{MidiMessage}
@@ -9,7 +9,7 @@ use Rattle.midi_stream.specs.Messages.{messages, last_exclusive}
 use Rattle.midi_stream.specs.Ranges.{InRange}
 use Rattle.midi_stream.specs.Standing.{Answers, HasBytes}
 use Rattle.velocity_map.specs.declared.curve.Curve.{Curve}
-use Rattle.command_set.specs.Message.{Told, command_of}
+use Rattle.command_set.specs.Message.{command_of}
 use Rattle.script_read.specs.declared.fault.Place.{Place}
 use Rattle.script_read.specs.Stream.{Heard, heard_with, begins, begun_behind, begun_at}
 use Rattle.script_read.specs.Outcomes.{Outcome, told_outcomes, heard_outcomes, fed_outcomes}

@@ -1,5 +1,5 @@
 -- Numbers of 1 to 10 digits.
-use Rattle.std.proofs.Common.{◌≡◌, ℕ, ◌+◌, ◌-◌, ◌*◌, take, ◌<◌, ◌≤◌, List, length, get_or, refl, sym, ◌∙◌, ap, arith, lt-ltb, ltb-true, leb-true}
+use Rattle.std.proofs.Common.{◌≡◌, ℕ, take, ◌<◌, ◌≤◌, List, length, get_or, refl, arith, lt-ltb, ltb-true, leb-true}
 use Rattle.std.proofs.lemmas.Bool.{le-leb}
 use Rattle.std.specs.Prelude.{Option, Some, None, Bool, true, false, ◌&&◌, nat_lt, nat_le, if◌then◌else◌}
 use Rattle.std.specs.Str.{all_ascii_digits}

@@ -1,8 +1,8 @@
 -- The plan of commands, and of commands with a fault or one more behind them.
-use Rattle.std.proofs.Common.{◌≡◌, ℕ, ◌+◌, ◌<◌, ◌≤◌, List, [], ◌∷◌, ◌++◌, length, Bool, true, false, cond, refl, ap, sym, ◌∙◌, subst, arith, append_assoc, append-nil, lt-ltb, ltb-false, length-append}
+use Rattle.std.proofs.Common.{◌≡◌, ℕ, ◌+◌, ◌≤◌, List, [], ◌∷◌, ◌++◌, length, Bool, true, false, cond, refl, ap, sym, ◌∙◌, subst, arith, append_assoc, append-nil, lt-ltb, length-append}
 use Rattle.std.proofs.lemmas.Bool.{le-ltb}
 use Rattle.std.specs.Prelude.{nat_lt}
-use Rattle.script_plan.specs.Plan.{PlannedData, last_due_or, last_due, planned_at}
+use Rattle.script_plan.specs.Plan.{PlannedData, last_due_or, last_due}
 use Rattle.script_read.specs.declared.fault.Place.{Place}
 use Rattle.script_read.specs.declared.fault.ScriptKind.{ScriptKind}
 use Rattle.script_read.specs.declared.fault.ScriptFault.{ScriptFault}

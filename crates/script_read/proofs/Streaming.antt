@@ -14,7 +14,7 @@ use Rattle.script_read.specs.declared.fault.ScriptKind.TheVariants as kind
 use Rattle.script_read.specs.declared.fault.ScriptFault.{ScriptFault}
 use Rattle.script_read.specs.declared.fault.ScriptFault.TheVariants as faults
 use Rattle.script_read.specs.Stream.{Heard, begun_at, begun_behind, heard_with, is_status, begins}
-use Rattle.script_read.specs.Outcomes.{Outcome, Fails, heard_outcomes, fed_outcomes, stream_end, stream_outcomes}
+use Rattle.script_read.specs.Outcomes.{Outcome, heard_outcomes, fed_outcomes, stream_end, stream_outcomes}
 use Rattle.script_read.specs.Plan.{Refused, plan_of}
 use Rattle.script_read.specs.Reading.{Settles, Stops, all_given}
 use Rattle.script_read.proofs.Plans.{fails, stops_more}

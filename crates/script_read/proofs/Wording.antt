@@ -1,6 +1,6 @@
 -- The first word of a line.
-use Rattle.std.proofs.Common.{◌≡◌, ℕ, ◌<◌, List, [], ◌∷◌, length, Bool, true, false, refl, ap, ◌∙◌, arith, lt-ltb}
-use Rattle.std.specs.Prelude.{filter, cond}
+use Rattle.std.proofs.Common.{◌≡◌, ℕ, ◌<◌, List, [], ◌∷◌, length, refl, ap, ◌∙◌, lt-ltb}
+use Rattle.std.specs.Prelude.{filter}
 use Rattle.plain_text.specs.Parts.{parts}
 use Rattle.script_read.specs.Words.{is_some_word, words_of}
 

@@ -1,9 +1,9 @@
 -- What a line of a text script says.
-use Rattle.std.specs.Prelude.{ℕ, ◌^◌, ◌-◌, ◌==◌, Bool, false, List, [], ◌∷◌, codes, bytes_eq, map, Option, Some, None, option_map, option_map, if◌then◌else◌}
+use Rattle.std.specs.Prelude.{ℕ, ◌^◌, ◌-◌, ◌==◌, Bool, false, List, [], ◌∷◌, codes, bytes_eq, map, Option, Some, None, if◌then◌else◌}
 use Rattle.velocity_map.specs.declared.curve.Curve.{Curve}
 use Rattle.velocity_map.specs.declared.curve.Curve.TheVariants.{Linear, Soft, Hard}
 use Rattle.command_set.specs.Command.{CommandData}
-use Rattle.script_read.specs.Words.{hex_bytes, lines_of, number_to, words_of}
+use Rattle.script_read.specs.Words.{hex_bytes, number_to, words_of}
 use Rattle.script_read.specs.Grammar.{command_said}
 
 -- what a line says: nothing, it is passed over; or the curve of the lines behind it; or a command at a block; or MIDI bytes at a block; or it isn't of the grammar

@@ -1,5 +1,5 @@
 -- What a reader of a script knows in the middle of it.
-use Rattle.std.specs.Prelude.{ℕ, ◌≡◌, ◌+◌, ◌≤◌, List, [], ◌∷◌, ◌++◌, length, map, Option, Result, MatchResult}
+use Rattle.std.specs.Prelude.{ℕ, ◌≡◌, ◌+◌, ◌≤◌, List, [], ◌++◌, length, map, Option, Result, MatchResult}
 use Rattle.midi_stream.specs.Reading.{Reads}
 use Rattle.velocity_map.specs.declared.curve.Curve.TheVariants.{Linear}
 use Rattle.script_plan.specs.Plan.{PlannedData, last_due}
@@ -9,7 +9,7 @@ use Rattle.script_read.specs.declared.progress.Progress.{Progress}
 use Rattle.script_read.specs.Lines.{Said, sayings}
 use Rattle.script_read.specs.Outcomes.{Outcome, Gives, block_behind, curve_behind, fed_line, outcomes_behind, stream_of}
 use Rattle.script_read.specs.Words.{lines_of}
-use Rattle.script_read.specs.Plan.{Plan, Refused, TooMany, plan_of}
+use Rattle.script_read.specs.Plan.{Refused, TooMany, plan_of}
 
 -- commands alone
 abbrev pub all_given : List PlannedData → List Outcome

@@ -1,9 +1,8 @@
-use Rattle.std.proofs.Common.{◌≡◌, ◌+◌, ◌++◌, ℕ, List, [], ◌∷◌, take, drop, get_or, length, refl, ap, sym, subst, ◌∙◌, append_assoc, append-nil}
-use Rattle.std.proofs.lemmas.List.{take_all}
+use Rattle.std.proofs.Common.{◌++◌, ℕ, List, [], ◌∷◌, take, get_or, refl, ap, sym, subst, ◌∙◌, append_assoc, append-nil}
 use Rattle.midi_stream.specs.Reading.{Reads}
 use Rattle.velocity_map.specs.Map.{curve_of}
-use Rattle.script_read.specs.Outcomes.{Outcome, fed_outcomes}
-use Rattle.script_read.specs.Reading.{Stops, all_given}
+use Rattle.script_read.specs.Outcomes.{Outcome}
+use Rattle.script_read.specs.Reading.{all_given}
 use Rattle.script_read.proofs.Streaming.{fed_none, fed_step, fed_stopped, take_next}
 use Rattle.script_read.proofs.feed.take_all.Goals as goal
 

@@ -1,4 +1,4 @@
-use Rattle.std.proofs.Common.{ap, sym, subst, Err}
+use Rattle.std.proofs.Common.{ap, sym, Err}
 use Rattle.script_read.proofs.Dumps.{cartridge_found, cartridge_missed}
 use Rattle.script_read.proofs.grammar.cartridge_of.Goals as goal
 

@@ -1,4 +1,4 @@
-use Rattle.std.proofs.Common.{ap, sym, subst, Err}
+use Rattle.std.proofs.Common.{ap, sym, Err}
 use Rattle.script_read.proofs.Dumps.{voice_found, voice_missed}
 use Rattle.script_read.proofs.grammar.voice_of.Goals as goal
 

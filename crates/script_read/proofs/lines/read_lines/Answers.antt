@@ -1,4 +1,4 @@
-use Rattle.std.proofs.Common.{◌≡◌, ◌++◌, ◌∷◌, [], List, ℕ, subst, sym, arith}
+use Rattle.std.proofs.Common.{◌≡◌, ◌++◌, ◌∷◌, [], List, ℕ, subst, arith}
 use Rattle.script_read.specs.Lines.{Said, said}
 use Rattle.script_read.specs.Outcomes.{outcomes_behind, stream_of}
 use Rattle.script_read.specs.Reading.{IsBehind, Stops}

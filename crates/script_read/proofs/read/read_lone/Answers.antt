@@ -1,4 +1,4 @@
-use Rattle.std.proofs.Common.{◌∙◌, sym, refl, []}
+use Rattle.std.proofs.Common.{◌∙◌, sym, []}
 use Rattle.script_read.proofs.Answering.{midi_alone, edit_refused, other_refused}
 use Rattle.script_read.proofs.read.read_lone.Goals as goal
 

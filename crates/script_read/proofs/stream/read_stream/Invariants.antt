@@ -1,4 +1,4 @@
-use Rattle.std.proofs.Common.{◌≡◌, ◌≤◌, ◌<◌, ◌^◌, [], take, length}
+use Rattle.std.proofs.Common.{◌≡◌, ◌≤◌, [], take, length}
 use Rattle.midi_stream.specs.Reading.{Reads}
 use Rattle.velocity_map.specs.declared.curve.Curve.TheVariants.{Linear}
 use Rattle.script_plan.specs.Plan.{last_due}

@@ -1,4 +1,4 @@
-use Rattle.std.proofs.Common.{◌≡◌, ap, sym, subst, ◌∙◌, ◌++◌, append-nil, List}
+use Rattle.std.proofs.Common.{ap, sym, subst, ◌∙◌, ◌++◌, append-nil, List}
 use Rattle.script_read.specs.Outcomes.{Outcome}
 use Rattle.script_read.specs.Reading.{Stops, all_given}
 use Rattle.script_read.proofs.Plans.{on_ok_more, if_err_more}

@@ -1,4 +1,4 @@
-use Rattle.std.proofs.Common.{◌≡◌, ◌++◌, List, refl, ap, sym, ◌∙◌, append-nil}
+use Rattle.std.proofs.Common.{◌++◌, List, refl, ap, sym, ◌∙◌, append-nil}
 use Rattle.script_read.specs.Outcomes.{Outcome}
 use Rattle.script_read.specs.Lines.{Blank}
 use Rattle.script_read.specs.Reading.{all_given}

@@ -1,5 +1,4 @@
-use Rattle.std.proofs.Common.{◌≡◌, ◌++◌, List, [], ◌∷◌, refl, ap, sym, subst, ◌∙◌}
-use Rattle.velocity_map.specs.Map.{curve_of}
+use Rattle.std.proofs.Common.{◌++◌, List, [], ◌∷◌, refl, ap, sym, subst, ◌∙◌}
 use Rattle.velocity_map.specs.declared.curve.Curve.{Curve}
 use Rattle.script_read.specs.declared.fault.Place.TheVariants as place
 use Rattle.script_read.specs.declared.fault.ScriptFault.{ScriptFault}
