@@ -11,7 +11,9 @@ fn main(rt: HostRuntime) -> ExitCode {
     let alloc = rt.alloc();
     let words = match read_words(&rt) {
         Ok(words) => words,
-        Err(error) => return ExitCode::from(status_of(error)),
+        Err(error) if error.kind() == io::ErrorKind::OutOfMemory => return ExitCode::from(8),
+        // Words that are no UTF-8 are of no grammar, as no words are.
+        Err(_) => Vec::new(alloc),
     };
     let mut shelf = DiskShelf::new(&rt);
     let mut out = StdOut::new(&rt);
@@ -25,12 +27,4 @@ fn read_words<R: Env + AllocGlobal>(rt: &R) -> io::Result<Vec<String>> {
         words.push(word)?;
     }
     Ok(words)
-}
-
-fn status_of(error: io::Error) -> u8 {
-    if error.kind() == io::ErrorKind::OutOfMemory {
-        8
-    } else {
-        1
-    }
 }
