@@ -62,9 +62,9 @@ refused_status why.LongFile status is (inr e) = absurd (omega arith)
 refused_status why.LongScripts status is (inl (inl e)) = absurd (omega arith)
 refused_status why.LongScripts status is (inl (inr e)) = absurd (omega arith)
 refused_status why.LongScripts status is (inr e) = absurd (omega arith)
-refused_status (why.Fault k place kind) status is (inl (inl e)) = absurd (omega arith)
-refused_status (why.Fault k place kind) status is (inl (inr e)) = absurd (omega arith)
-refused_status (why.Fault k place kind) status is (inr e) = absurd (omega arith)
+refused_status (why.Fault k place what) status is (inl (inl e)) = absurd (omega arith)
+refused_status (why.Fault k place what) status is (inl (inr e)) = absurd (omega arith)
+refused_status (why.Fault k place what) status is (inr e) = absurd (omega arith)
 refused_status why.ManyCommands status is (inl (inl e)) = absurd (omega arith)
 refused_status why.ManyCommands status is (inl (inr e)) = absurd (omega arith)
 refused_status why.ManyCommands status is (inr e) = absurd (omega arith)
@@ -99,7 +99,7 @@ module _ (a : Asked) (before now : Moment) (status : ℕ) where
       of_refusal (why.Unread k) is = inr (inr (inl is))
       of_refusal why.LongFile is = inr (inr (inr (inr (inr (inr (inl is))))))
       of_refusal why.LongScripts is = inr (inr (inr (inr (inr (inr (inl is))))))
-      of_refusal (why.Fault k place kind) is = inr (inr (inr (inr (inl is))))
+      of_refusal (why.Fault k place what) is = inr (inr (inr (inr (inl is))))
       of_refusal why.ManyCommands is = inr (inr (inr (inr (inr (inr (inl is))))))
       of_refusal why.ManyBlocks is = inr (inr (inr (inr (inr (inr (inl is))))))
       of_refusal why.Memory is = inr (inr (inr (inr (inr (inr (inr (inl is)))))))
@@ -113,7 +113,7 @@ module _ (a : Asked) (before now : Moment) (status : ℕ) where
       of_refusal (why.Unread k) e = omega arith
       of_refusal why.LongFile e = omega arith
       of_refusal why.LongScripts e = omega arith
-      of_refusal (why.Fault k place kind) e = omega arith
+      of_refusal (why.Fault k place what) e = omega arith
       of_refusal why.ManyCommands e = omega arith
       of_refusal why.ManyBlocks e = omega arith
       of_refusal why.Memory e = omega arith
@@ -280,14 +280,14 @@ module _ (a : Asked) (before now : Moment) (status : ℕ) where
   told_tells words v asks f = told_of words before.files a (λ b told. verdict b told ≡ v) asks f
 
   fault_of : (words : List (List ℕ)) → asked_by words ≡ Some a → IsRefused a before now status → status ≡ 4
-      → (k : ℕ) × (place : Place) × (kind : ScriptKind) × Told words before.files (λ b told. verdict b told ≡ Faulty k place kind)
-      × Says (fault_line k place kind) before.written now.written before.faults now.faults
+      → (k : ℕ) × (place : Place) × (what : ScriptKind) × Told words before.files (λ b told. verdict b told ≡ Faulty k place what)
+      × Says (fault_line k place what) before.written now.written before.faults now.faults
   fault_of words asks r four = by_why r.why r.status_is (λ told is. if_told (λ x. Tells r.why (verdict a x)) before.files told is r.tells) r.line
     where
       by_why : (why : Refusal) → status ≡ refusal_status why → ((told : Files) → before.files ≡ Some told → Tells why (verdict a told))
           → Says (refusal_line why a.scripts) before.written now.written before.faults now.faults
-          → (k : ℕ) × (place : Place) × (kind : ScriptKind) × Told words before.files (λ b told. verdict b told ≡ Faulty k place kind)
-          × Says (fault_line k place kind) before.written now.written before.faults now.faults
+          → (k : ℕ) × (place : Place) × (what : ScriptKind) × Told words before.files (λ b told. verdict b told ≡ Faulty k place what)
+          × Says (fault_line k place what) before.written now.written before.faults now.faults
       by_why (why.Unread k) e tells line = absurd (omega arith)
       by_why why.LongFile e tells line = absurd (omega arith)
       by_why why.LongScripts e tells line = absurd (omega arith)
@@ -453,8 +453,8 @@ module _ (words : List (List ℕ)) (a : Asked) (before now : Moment) (status : �
       asked_for words a (λ b. (plans : List (List PlannedData)) × (journal : List LoggedData) × HavePlans b before.files plans × SaysOfStop b plans journal before now) asks
       (s.plans, s.journal, s.planned, s.line)
 
-  pub clause_fault : status ≡ 4 → (k : ℕ) × (place : Place) × (kind : ScriptKind) × Told words before.files (λ b told. verdict b told ≡ Faulty k place kind)
-      × Says (fault_line k place kind) before.written now.written before.faults now.faults
+  pub clause_fault : status ≡ 4 → (k : ℕ) × (place : Place) × (what : ScriptKind) × Told words before.files (λ b told. verdict b told ≡ Faulty k place what)
+      × Says (fault_line k place what) before.written now.written before.faults now.faults
   clause_fault four = fault_of a before now status words asks (refused_of a before now status run (other_status status 4 four (λ e. omega arith) (λ e. omega arith)) (λ e. omega arith)) four
 
   pub clause_limit : status ≡ 6 → (v : Verdict) × IsLimit v × Told words before.files (λ b told. verdict b told ≡ v) × Says (limit_line v) before.written now.written before.faults now.faults

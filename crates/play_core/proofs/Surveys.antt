@@ -24,7 +24,7 @@ all_none (Plays plans) = refl
 all_none (Lacking name) = refl
 all_none LongFile = refl
 all_none LongScripts = refl
-all_none (Faulty number place kind) = refl
+all_none (Faulty number place what) = refl
 all_none ManyCommands = refl
 all_none ManyBlocks = refl
 
@@ -33,7 +33,7 @@ all_pushed before one (Plays plans) = ap (λ (l : List (List PlannedData)). Play
 all_pushed before one (Lacking name) = refl
 all_pushed before one LongFile = refl
 all_pushed before one LongScripts = refl
-all_pushed before one (Faulty number place kind) = refl
+all_pushed before one (Faulty number place what) = refl
 all_pushed before one ManyCommands = refl
 all_pushed before one ManyBlocks = refl
 
@@ -77,7 +77,7 @@ tells_all : (why : Refusal) (plans : List (List PlannedData)) (said : Verdict) �
 tells_all (why.Unread number) plans said tells = tt
 tells_all why.LongFile plans said tells = rw tells refl
 tells_all why.LongScripts plans said tells = rw tells refl
-tells_all (why.Fault number place kind) plans said tells = rw tells refl
+tells_all (why.Fault number place what) plans said tells = rw tells refl
 tells_all why.ManyCommands plans said tells = rw tells refl
 tells_all why.ManyBlocks plans said tells = rw tells refl
 tells_all why.Memory plans said tells = tt
@@ -152,7 +152,7 @@ refused_cause (why.Unread k) files blocks names i number name q plans t before n
     })
 refused_cause why.LongFile files blocks names i number name q plans t before now below is text counted so_far cause = cause
 refused_cause why.LongScripts files blocks names i number name q plans t before now below is text counted so_far cause = cause
-refused_cause (why.Fault script place kind) files blocks names i number name q plans t before now below is text counted so_far cause = cause
+refused_cause (why.Fault script place what) files blocks names i number name q plans t before now below is text counted so_far cause = cause
 refused_cause why.ManyCommands files blocks names i number name q plans t before now below is text counted so_far cause = cause
 refused_cause why.ManyBlocks files blocks names i number name q plans t before now below is text counted so_far cause = cause
 refused_cause why.Memory files blocks names i number name q plans t before now below is text counted so_far cause = cause
@@ -171,7 +171,7 @@ tells_blocks : (why : Refusal) (blocks : Option ℕ) (said : Verdict) → Tells 
 tells_blocks (why.Unread number) blocks said tells = tt
 tells_blocks why.LongFile blocks said tells = rw tells refl
 tells_blocks why.LongScripts blocks said tells = rw tells refl
-tells_blocks (why.Fault number place kind) blocks said tells = rw tells refl
+tells_blocks (why.Fault number place what) blocks said tells = rw tells refl
 tells_blocks why.ManyCommands blocks said tells = rw tells refl
 tells_blocks why.ManyBlocks blocks said tells = rw tells refl
 tells_blocks why.Memory blocks said tells = tt

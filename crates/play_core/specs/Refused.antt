@@ -11,7 +11,7 @@ abbrev pub Tells : Refusal → Verdict → Type 0
 Tells (why.Unread number) said = Unit {0}
 Tells why.LongFile said = said ≡ LongFile
 Tells why.LongScripts said = said ≡ LongScripts
-Tells (why.Fault number place kind) said = said ≡ Faulty number place kind
+Tells (why.Fault number place what) said = said ≡ Faulty number place what
 Tells why.ManyCommands said = said ≡ ManyCommands
 Tells why.ManyBlocks said = said ≡ ManyBlocks
 Tells why.Memory said = Unit {0}
@@ -21,7 +21,7 @@ abbrev pub IsOfContent : Refusal → Type 0
 IsOfContent (why.Unread number) = ⊥
 IsOfContent why.LongFile = Unit {0}
 IsOfContent why.LongScripts = Unit {0}
-IsOfContent (why.Fault number place kind) = Unit {0}
+IsOfContent (why.Fault number place what) = Unit {0}
 IsOfContent why.ManyCommands = Unit {0}
 IsOfContent why.ManyBlocks = Unit {0}
 IsOfContent why.Memory = Unit {0}
@@ -37,7 +37,7 @@ abbrev pub HasCause : Refusal → Option ℕ → Option Files → List (List ℕ
 HasCause (why.Unread k) blocks files names before now = IsUnread k blocks files names before now
 HasCause why.LongFile blocks files names before now = now ≡ before
 HasCause why.LongScripts blocks files names before now = now ≡ before
-HasCause (why.Fault number place kind) blocks files names before now = now ≡ before
+HasCause (why.Fault number place what) blocks files names before now = now ≡ before
 HasCause why.ManyCommands blocks files names before now = now ≡ before
 HasCause why.ManyBlocks blocks files names before now = now ≡ before
 HasCause why.Memory blocks files names before now = now ≡ before
@@ -47,7 +47,7 @@ abbrev pub IsWithin : Refusal → ℕ → Type 0
 IsWithin (why.Unread k) count = k < count
 IsWithin why.LongFile count = Unit {0}
 IsWithin why.LongScripts count = Unit {0}
-IsWithin (why.Fault number place kind) count = Unit {0}
+IsWithin (why.Fault number place what) count = Unit {0}
 IsWithin why.ManyCommands count = Unit {0}
 IsWithin why.ManyBlocks count = Unit {0}
 IsWithin why.Memory count = Unit {0}

@@ -34,7 +34,7 @@ with_all before (Plays plans) = Plays (before ++ plans)
 with_all before (Lacking name) = Lacking name
 with_all before LongFile = LongFile
 with_all before LongScripts = LongScripts
-with_all before (Faulty number place kind) = Faulty number place kind
+with_all before (Faulty number place what) = Faulty number place what
 with_all before ManyCommands = ManyCommands
 with_all before ManyBlocks = ManyBlocks
 
@@ -53,7 +53,7 @@ abbrev pub NextCause : Refusal → ℕ → Option Files → List ℕ → ℕ →
 NextCause (why.Unread k) number files name before now = (k ≡ number) × (Rose before now ⊎ Lacks files name)
 NextCause why.LongFile number files name before now = now ≡ before
 NextCause why.LongScripts number files name before now = now ≡ before
-NextCause (why.Fault script place kind) number files name before now = now ≡ before
+NextCause (why.Fault script place what) number files name before now = now ≡ before
 NextCause why.ManyCommands number files name before now = now ≡ before
 NextCause why.ManyBlocks number files name before now = now ≡ before
 NextCause why.Memory number files name before now = now ≡ before

@@ -48,14 +48,14 @@ with_plan one (Plays plans) = Plays (one ∷ plans)
 with_plan one (Lacking name) = Lacking name
 with_plan one LongFile = LongFile
 with_plan one LongScripts = LongScripts
-with_plan one (Faulty number place kind) = Faulty number place kind
+with_plan one (Faulty number place what) = Faulty number place what
 with_plan one ManyCommands = ManyCommands
 with_plan one ManyBlocks = ManyBlocks
 
 -- what the next script comes to, whose plan this is; after it come others
 abbrev pub of_plan : ℕ → Plan → (List PlannedData → Verdict) → Verdict
 of_plan number (Commands one) after = with_plan one (after one)
-of_plan number (Refused place kind) after = Faulty number place kind
+of_plan number (Refused place what) after = Faulty number place what
 of_plan number TooMany after = ManyCommands
 
 -- what the next script comes to, which has these bytes
@@ -101,7 +101,7 @@ of_blocks blocks (Plays plans) = if nat_lt block_limit (blocks_of_run blocks pla
 of_blocks blocks (Lacking name) = Lacking name
 of_blocks blocks LongFile = LongFile
 of_blocks blocks LongScripts = LongScripts
-of_blocks blocks (Faulty number place kind) = Faulty number place kind
+of_blocks blocks (Faulty number place what) = Faulty number place what
 of_blocks blocks ManyCommands = ManyCommands
 of_blocks blocks ManyBlocks = ManyBlocks
 
@@ -115,7 +115,7 @@ IsPlayed (Plays plans) = Unit {0}
 IsPlayed (Lacking name) = ⊥
 IsPlayed LongFile = ⊥
 IsPlayed LongScripts = ⊥
-IsPlayed (Faulty number place kind) = ⊥
+IsPlayed (Faulty number place what) = ⊥
 IsPlayed ManyCommands = ⊥
 IsPlayed ManyBlocks = ⊥
 
@@ -125,6 +125,6 @@ plans_in (Plays plans) = plans
 plans_in (Lacking name) = []
 plans_in LongFile = []
 plans_in LongScripts = []
-plans_in (Faulty number place kind) = []
+plans_in (Faulty number place what) = []
 plans_in ManyCommands = []
 plans_in ManyBlocks = []
