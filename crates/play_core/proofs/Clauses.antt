@@ -10,9 +10,10 @@ use Rattle.fault_lines.specs.Lines.{Says, cannot_read, out_of_memory, limit_file
 use Rattle.fault_lines.specs.Statuses.{IsOneOf}
 use Rattle.command_set.specs.Entries.{LoggedData}
 use Rattle.script_plan.specs.Plan.{PlannedData}
-use Rattle.script_read.specs.declared.fault.Place.{Place}
-use Rattle.script_read.specs.declared.fault.ScriptKind.{ScriptKind}
-use Rattle.script_read.specs.Plan.{Plan, Commands, Refused, TooMany, plan}
+use Rattle.script_outcome.specs.declared.fault.Place.{Place}
+use Rattle.script_outcome.specs.declared.fault.ScriptKind.{ScriptKind}
+use Rattle.script_outcome.specs.Plan.{Plan, Commands, Refused, TooMany}
+use Rattle.script_read.specs.Plan.{plan}
 use Rattle.take_files.specs.Files.{wav}
 use Rattle.take_files.specs.Orders.{OrderData, IsOrder}
 use Rattle.take_files.proofs.Laws.{orders_unique}

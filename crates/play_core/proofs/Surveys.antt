@@ -10,7 +10,8 @@ use Rattle.std.specs.FinMap.{get}
 use Rattle.std.proofs.lemmas.List.{append-nil}
 use Rattle.outside.specs.Files.{Files, Lacks}
 use Rattle.script_plan.specs.Plan.{PlannedData}
-use Rattle.script_read.specs.Plan.{Plan, Commands, Refused, TooMany, plan}
+use Rattle.script_outcome.specs.Plan.{Plan, Commands, Refused, TooMany}
+use Rattle.script_read.specs.Plan.{plan}
 use Rattle.play_core.specs.declared.totals.Totals.{Totals}
 use Rattle.play_core.specs.declared.refusal.Refusal.{Refusal}
 use Rattle.play_core.specs.declared.refusal.Refusal.TheVariants as why

@@ -4,7 +4,8 @@ use Rattle.std.specs.FinMap.{get}
 use Rattle.outside.specs.Files.{Files, Lacks}
 use Rattle.outside.specs.Faults.{Rose}
 use Rattle.script_plan.specs.Plan.{PlannedData}
-use Rattle.script_read.specs.Plan.{Commands, plan}
+use Rattle.script_outcome.specs.Plan.{Commands}
+use Rattle.script_read.specs.Plan.{plan}
 use Rattle.play_core.specs.declared.totals.Totals.{Totals}
 use Rattle.play_core.specs.declared.refusal.Refusal.{Refusal}
 use Rattle.play_core.specs.declared.refusal.Refusal.TheVariants as why

@@ -3,9 +3,10 @@ use Rattle.std.specs.Prelude.{ℕ, ◌+◌, ◌-◌, max, nat_lt, List, [], ◌�
 use Rattle.std.specs.FinMap.{get}
 use Rattle.outside.specs.Files.{Files}
 use Rattle.script_plan.specs.Plan.{PlannedData, last_due}
-use Rattle.script_read.specs.declared.fault.Place.{Place}
-use Rattle.script_read.specs.declared.fault.ScriptKind.{ScriptKind}
-use Rattle.script_read.specs.Plan.{Plan, Commands, Refused, TooMany, plan}
+use Rattle.script_outcome.specs.declared.fault.Place.{Place}
+use Rattle.script_outcome.specs.declared.fault.ScriptKind.{ScriptKind}
+use Rattle.script_outcome.specs.Plan.{Plan, Commands, Refused, TooMany}
+use Rattle.script_read.specs.Plan.{plan}
 use Rattle.play_core.specs.declared.totals.Totals.{Totals}
 use Rattle.play_core.specs.Words.{Asked}
 

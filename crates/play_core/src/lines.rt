@@ -8,7 +8,7 @@ use crate::refusal::Refusal;
 use fault_lines::{say, say_cannot_read, say_limit_commands, say_limit_file, say_out_of_memory};
 use outside::Out;
 use plain_text::{LineText, push_number, push_text};
-use script_read::{Place, ScriptKind, push_script_text};
+use script_outcome::{Place, ScriptKind, push_script_text};
 
 /// The words are not of the grammar.
 #[tactic(auto, unfolding(crate::specs::Lines::usage))]

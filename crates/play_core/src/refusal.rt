@@ -1,6 +1,6 @@
 //! Why nothing is played.
 
-use script_read::{Place, ScriptKind};
+use script_outcome::{Place, ScriptKind};
 
 /// Why nothing is played and no file is touched.
 #[derive(Clone, Copy, Debug, PartialEq, Eq)]

@@ -8,7 +8,7 @@ use command_queue::{Line, SendEnd};
 use instrument::Engine;
 use live_renderer::LiveRenderer;
 use players::Player;
-use script_read::Script;
+use script_plan::Script;
 use std::alloc::{AllocError, Global};
 use turns::new_players;
 

@@ -3,7 +3,8 @@ ghost use Rattle.std.specs.Prelude.{◌≡◌, ◌+◌, ◌-◌, ◌<◌, ◌≤
 ghost use Rattle.outside.specs.Files.{Lacks};
 ghost use Rattle.outside.specs.Faults.{Rose};
 ghost use Rattle.script_plan.specs.Plan.{PlannedData};
-ghost use Rattle.script_read.specs.Plan.{Commands, plan};
+ghost use Rattle.script_outcome.specs.Plan.{Commands};
+ghost use Rattle.script_read.specs.Plan.{plan};
 ghost use Rattle.play_core.specs.Verdict.{Verdict, command_limit, script_limit, scripts_limit, nothing, count_all, of_text, of_scripts, Plays};
 ghost use Rattle.play_core.specs.Refused.{HasCause, IsOfContent, Tells};
 ghost use Rattle.play_core.specs.Survey.{IsNext, NextCause, NextTells, AreBelow};
@@ -11,7 +12,9 @@ ghost use Rattle.play_core.specs.Survey.{IsNext, NextCause, NextTells, AreBelow}
 use crate::refusal::Refusal;
 use crate::totals::Totals;
 use outside::{ReadFault, Shelf, read_all};
-use script_read::{Bounds, Script, ScriptFault, read_script};
+use script_outcome::{Bounds, ScriptFault};
+use script_plan::Script;
+use script_read::read_script;
 use std::alloc::Global;
 use velocity_map::MapSet;
 

@@ -3,18 +3,21 @@ use Rattle.std.proofs.Common.{◌≡◌, ℕ, ◌<◌, ◌≤◌, List, [], ◌�
 use Rattle.std.specs.Prelude.{All, Option, Some, None, Result, Ok, Err, IfOk, IfSome, bytes_eq, codes}
 use Rattle.midi_stream.specs.Messages.{is_unfinished}
 use Rattle.script_plan.specs.Plan.{PlannedData}
-use Rattle.script_read.specs.declared.fault.Place.{Place}
-use Rattle.script_read.specs.declared.fault.Place.TheVariants as place
-use Rattle.script_read.specs.declared.fault.ScriptKind.{ScriptKind}
-use Rattle.script_read.specs.declared.fault.ScriptKind.TheVariants as kind
-use Rattle.script_read.specs.declared.fault.ScriptFault.{ScriptFault}
-use Rattle.script_read.specs.declared.fault.ScriptFault.TheVariants as faults
+use Rattle.script_outcome.specs.declared.fault.Place.{Place}
+use Rattle.script_outcome.specs.declared.fault.Place.TheVariants as place
+use Rattle.script_outcome.specs.declared.fault.ScriptKind.{ScriptKind}
+use Rattle.script_outcome.specs.declared.fault.ScriptKind.TheVariants as kind
+use Rattle.script_outcome.specs.declared.fault.ScriptFault.{ScriptFault}
+use Rattle.script_outcome.specs.declared.fault.ScriptFault.TheVariants as faults
 use Rattle.script_read.specs.Lines.{sayings}
-use Rattle.script_read.specs.Outcomes.{Outcome, stream_of, outcomes_behind, text_outcomes}
-use Rattle.script_read.specs.Plan.{Commands, Refused, TooMany, at_first, is_stream, is_midi_file, lines_outcomes, outcomes, plan, plan_of}
-use Rattle.script_read.specs.Reading.{Settles, Stops, all_given}
-use Rattle.script_read.proofs.Plans.{fails_behind, stopped_refused, stopped_many, whole}
-use Rattle.script_read.proofs.Early.{AllEarly, all_early, given_early}
+use Rattle.script_outcome.specs.Outcomes.{Outcome}
+use Rattle.script_read.specs.Outcomes.{stream_of, outcomes_behind, text_outcomes}
+use Rattle.script_outcome.specs.Plan.{Commands, Refused, TooMany, plan_of}
+use Rattle.script_read.specs.Plan.{at_first, is_stream, is_midi_file, lines_outcomes, outcomes, plan}
+use Rattle.script_outcome.specs.Reading.{Settles, Stops, all_given}
+use Rattle.script_outcome.proofs.Plans.{fails_behind, stopped_refused, stopped_many, whole}
+use Rattle.script_outcome.proofs.Early.{AllEarly, given_early}
+use Rattle.script_read.proofs.Early.{all_early}
 
 -- an answer as that of what comes of the script
 of_result : (r s : Result (List PlannedData) ScriptFault) (room : ℕ) (os : List Outcome) → r ≡ s → Settles r room os → Settles s room os

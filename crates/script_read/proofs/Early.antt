@@ -7,52 +7,24 @@ use Rattle.velocity_map.specs.declared.curve.Curve.TheVariants.{Linear}
 use Rattle.command_set.specs.Message.{Told, Tells, PassedOver, Overlong, Faulty}
 use Rattle.command_set.specs.Message.{command_of}
 use Rattle.script_plan.specs.Plan.{PlannedData, planned_at}
-use Rattle.script_read.specs.declared.fault.Place.{Place}
-use Rattle.script_read.specs.declared.fault.Place.TheVariants as place
-use Rattle.script_read.specs.declared.fault.ScriptKind.{ScriptKind}
-use Rattle.script_read.specs.declared.fault.ScriptKind.TheVariants as kind
+use Rattle.script_outcome.specs.declared.fault.Place.{Place}
+use Rattle.script_outcome.specs.declared.fault.Place.TheVariants as place
+use Rattle.script_outcome.specs.declared.fault.ScriptKind.{ScriptKind}
+use Rattle.script_outcome.specs.declared.fault.ScriptKind.TheVariants as kind
 use Rattle.script_read.specs.Lines.{Said, Blank, Maps, Orders, Feeds, Wrong, sayings}
 use Rattle.script_read.specs.Words.{lines_of}
-use Rattle.script_read.specs.Stream.{Heard, begun_at, heard_with}
-use Rattle.script_read.specs.Outcomes.{Outcome, Gives, Fails, told_outcomes, heard_outcomes, fed_outcomes, block_behind, timed, line_behind, line_outcomes, outcomes_behind, text_end, text_outcomes, stream_end, stream_outcomes, stream_of, curve_behind, curved, fed_line}
+use Rattle.script_outcome.specs.Stream.{Heard, begun_at, heard_with}
+use Rattle.script_outcome.specs.Outcomes.{Outcome, Gives, Fails, told_outcomes, heard_outcomes, fed_outcomes}
+use Rattle.script_read.specs.Outcomes.{block_behind, timed, line_behind, line_outcomes, outcomes_behind, text_end, text_outcomes, stream_end, stream_outcomes, stream_of, curve_behind, curved, fed_line}
+use Rattle.script_outcome.proofs.Early.{AllEarly, both_early, fed_early, below_all}
 use Rattle.script_read.specs.Plan.{at_first, lines_outcomes, outcomes, is_stream, is_midi_file}
-use Rattle.script_read.specs.Reading.{all_given}
-
-abbrev pub AllEarly : ℕ → List Outcome → Type 0
-AllEarly blocks [] = Unit {0}
-AllEarly blocks (Gives c ∷ later) = (c.due < blocks) × AllEarly blocks later
-AllEarly blocks (Fails at why ∷ later) = AllEarly blocks later
-
-both_early : (blocks : ℕ) (xs ys : List Outcome) → AllEarly blocks xs → AllEarly blocks ys → AllEarly blocks (xs ++ ys)
-both_early blocks [] ys a b = b
-both_early blocks (Gives c ∷ xs) ys a b = (a.0, both_early blocks xs ys a.1 b)
-both_early blocks (Fails at why ∷ xs) ys a b = both_early blocks xs ys a b
-
-told_early : (blocks block : ℕ) (at : Place) (told : Told) → block < blocks → AllEarly blocks (told_outcomes at block told)
-told_early blocks block at (Tells command) below = (below, tt)
-told_early blocks block at PassedOver below = tt
-told_early blocks block at (Overlong count) below = tt
-told_early blocks block at (Faulty fault) below = tt
-
-heard_early : (blocks block : ℕ) (at : Place) (curve : Curve) (heard : Option Heard) → block < blocks → AllEarly blocks (heard_outcomes at block curve heard)
-heard_early blocks block at curve None below = tt
-heard_early blocks block at curve (Some h) below = told_early blocks block at (command_of h.message h.bytes curve) below
-
-fed_early : (blocks block : ℕ) (place_of : List ℕ → Place) (curve : Curve) (before bytes : List ℕ) → block < blocks → AllEarly blocks (fed_outcomes place_of block curve before bytes)
-unfolding fed_outcomes
-fed_early blocks block place_of curve before [] below = tt
-fed_early blocks block place_of curve before (byte ∷ bytes) below =
-    both_early blocks (heard_outcomes (place_of before) block curve (heard_with before byte)) (fed_outcomes place_of block curve (before ++ byte ∷ []) bytes)
-    (heard_early blocks block (place_of before) curve (heard_with before byte) below) (fed_early blocks block place_of curve (before ++ byte ∷ []) bytes below)
+use Rattle.script_outcome.specs.Reading.{all_given}
 
 timed_early : (blocks : ℕ) (falls late : Bool) (at : Place) (os : List Outcome) → (late ≡ false → AllEarly blocks os)
     → AllEarly blocks (timed (cond falls (Some kind.Falls) (cond late (Some kind.Late) None)) at os)
 timed_early blocks true late at os early = tt
 timed_early blocks false true at os early = tt
 timed_early blocks false false at os early = early refl
-
-below_all : (blocks block : ℕ) → nat_le blocks block ≡ false → block < blocks
-below_all blocks block e = leb-false blocks block e
 
 line_early : (blocks : ℕ) (lines : List Said) (s : Said) → AllEarly blocks (line_outcomes (Some blocks) lines s)
 unfolding line_outcomes
@@ -97,11 +69,3 @@ unfolding outcomes
 all_early blocks bytes some =
     either_early blocks (is_stream bytes) (stream_outcomes bytes) (if is_midi_file bytes then at_first kind.NotYet else lines_outcomes (Some blocks) (lines_of bytes))
     (stream_early blocks bytes some) (either_early blocks (is_midi_file bytes) (at_first kind.NotYet) (lines_outcomes (Some blocks) (lines_of bytes)) tt (by_lines blocks (lines_of bytes)))
-
-given_at : (blocks : ℕ) (cs : List PlannedData) → AllEarly blocks (all_given cs) → (k : ℕ) (d : PlannedData) → k < length cs → (slice_index_or cs k d).due < blocks
-given_at blocks [] early k d l = absurd (omega arith)
-given_at blocks (c ∷ cs) early zero d l = early.0
-given_at blocks (c ∷ cs) early (suc k) d l = given_at blocks cs early.1 k d (omega arith)
-
-pub given_early : (blocks : ℕ) (cs : List PlannedData) → AllEarly blocks (all_given cs) → All (λ (c : PlannedData). c.due < blocks) cs
-given_early blocks cs early = given_at blocks cs early

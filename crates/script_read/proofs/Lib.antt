@@ -1,5 +1,3 @@
-pub mod Plans
-pub mod Hearing
 pub mod Wording
 pub mod Numerals
 pub mod Dumps

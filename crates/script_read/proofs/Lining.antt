@@ -9,19 +9,21 @@ use Rattle.velocity_map.specs.declared.curve.Curve.{Curve}
 use Rattle.velocity_map.specs.declared.curve.Curve.TheVariants.{Linear}
 use Rattle.command_set.specs.Command.{CommandData}
 use Rattle.script_plan.specs.Plan.{PlannedData, planned_at}
-use Rattle.script_read.specs.declared.fault.Place.{Place}
-use Rattle.script_read.specs.declared.fault.Place.TheVariants as place
-use Rattle.script_read.specs.declared.fault.ScriptKind.{ScriptKind}
-use Rattle.script_read.specs.declared.fault.ScriptKind.TheVariants as kind
-use Rattle.script_read.specs.declared.fault.ScriptFault.{ScriptFault}
-use Rattle.script_read.specs.declared.fault.ScriptFault.TheVariants as faults
+use Rattle.script_outcome.specs.declared.fault.Place.{Place}
+use Rattle.script_outcome.specs.declared.fault.Place.TheVariants as place
+use Rattle.script_outcome.specs.declared.fault.ScriptKind.{ScriptKind}
+use Rattle.script_outcome.specs.declared.fault.ScriptKind.TheVariants as kind
+use Rattle.script_outcome.specs.declared.fault.ScriptFault.{ScriptFault}
+use Rattle.script_outcome.specs.declared.fault.ScriptFault.TheVariants as faults
 use Rattle.script_read.specs.declared.progress.Progress.{Progress}
 use Rattle.script_read.specs.Words.{ended, lines_of, without_return}
 use Rattle.script_read.specs.Lines.{Said, Blank, Maps, Orders, Feeds, Wrong, said, sayings}
-use Rattle.script_read.specs.Outcomes.{Outcome, Gives, Fails, curved, curve_behind, block_behind, stream_of, fed_line, fed_outcomes, time_fault, timed, line_behind, line_outcomes, outcomes_behind, text_end, text_outcomes}
-use Rattle.script_read.specs.Plan.{Refused, plan_of}
-use Rattle.script_read.specs.Reading.{IsBehind, IsWithin, Settles, Stops, all_given}
-use Rattle.script_read.proofs.Plans.{fails, stops_more}
+use Rattle.script_outcome.specs.Outcomes.{Outcome, Gives, Fails, fed_outcomes}
+use Rattle.script_read.specs.Outcomes.{curved, curve_behind, block_behind, stream_of, fed_line, time_fault, timed, line_behind, line_outcomes, outcomes_behind, text_end, text_outcomes}
+use Rattle.script_outcome.specs.Plan.{Refused, plan_of}
+use Rattle.script_outcome.specs.Reading.{Settles, Stops, all_given}
+use Rattle.script_read.specs.Reading.{IsBehind, IsWithin}
+use Rattle.script_outcome.proofs.Plans.{fails, stops_more}
 
 -- what one line changes
 abbrev pub curve_after : Curve → Said → Curve

@@ -8,33 +8,19 @@ use Rattle.midi_stream.specs.Messages.{is_unfinished}
 use Rattle.velocity_map.specs.declared.curve.Curve.{Curve}
 use Rattle.velocity_map.specs.declared.curve.Curve.TheVariants.{Linear}
 use Rattle.script_plan.specs.Plan.{PlannedData}
-use Rattle.script_read.specs.declared.fault.Place.{Place}
-use Rattle.script_read.specs.declared.fault.Place.TheVariants as place
-use Rattle.script_read.specs.declared.fault.ScriptKind.TheVariants as kind
-use Rattle.script_read.specs.declared.fault.ScriptFault.{ScriptFault}
-use Rattle.script_read.specs.declared.fault.ScriptFault.TheVariants as faults
-use Rattle.script_read.specs.Stream.{Heard, begun_at, begun_behind, heard_with, is_status, begins}
-use Rattle.script_read.specs.Outcomes.{Outcome, heard_outcomes, fed_outcomes, stream_end, stream_outcomes}
-use Rattle.script_read.specs.Plan.{Refused, plan_of}
-use Rattle.script_read.specs.Reading.{Settles, Stops, all_given}
-use Rattle.script_read.proofs.Plans.{fails, stops_more}
-use Rattle.script_read.proofs.Hearing.{begun_more, fed_more}
-
-pub take_next : (bytes : List ℕ) (at byte : ℕ) → at < length bytes → get_or bytes at 0 ≡ byte → take (at + 1) bytes ≡ take at bytes ++ byte ∷ []
-take_next bytes at byte below is = (take_at_read bytes at 0 below).1 ∙ ap (λ (b : ℕ). take at bytes ++ b ∷ []) is
-
--- what comes of more bytes
-pub fed_append : (place_of : List ℕ → Place) (block : ℕ) (curve : Curve) (before xs ys : List ℕ)
-    → fed_outcomes place_of block curve before (xs ++ ys)
-    ≡ fed_outcomes place_of block curve before xs ++ fed_outcomes place_of block curve (before ++ xs) ys
-unfolding fed_outcomes
-fed_append place_of block curve before [] ys = rw (append-nil before) refl
-fed_append place_of block curve before (x ∷ xs) ys =
-    let first : List Outcome = heard_outcomes (place_of before) block curve (heard_with before x) in
-    let join : (before ++ x ∷ []) ++ xs ≡ before ++ x ∷ xs = append_assoc before (x ∷ []) xs in
-    ap (λ (os : List Outcome). first ++ os) (fed_append place_of block curve (before ++ x ∷ []) xs ys
-    ∙ ap (λ (s : List ℕ). fed_outcomes place_of block curve (before ++ x ∷ []) xs ++ fed_outcomes place_of block curve s ys) join)
-    ∙ sym (append_assoc first _ _)
+use Rattle.script_outcome.specs.declared.fault.Place.{Place}
+use Rattle.script_outcome.specs.declared.fault.Place.TheVariants as place
+use Rattle.script_outcome.specs.declared.fault.ScriptKind.TheVariants as kind
+use Rattle.script_outcome.specs.declared.fault.ScriptFault.{ScriptFault}
+use Rattle.script_outcome.specs.declared.fault.ScriptFault.TheVariants as faults
+use Rattle.script_outcome.specs.Stream.{Heard, begun_at, begun_behind, heard_with, is_status, begins}
+use Rattle.script_outcome.specs.Outcomes.{Outcome, heard_outcomes, fed_outcomes}
+use Rattle.script_read.specs.Outcomes.{stream_end, stream_outcomes}
+use Rattle.script_outcome.specs.Plan.{Refused, plan_of}
+use Rattle.script_outcome.specs.Reading.{Settles, Stops, all_given}
+use Rattle.script_outcome.proofs.Plans.{fails, stops_more}
+use Rattle.script_outcome.proofs.Hearing.{begun_more, fed_more, take_next}
+use Rattle.script_outcome.proofs.Feeding.{fed_append}
 
 abbrev place_in : List ℕ → Place
 place_in before = place.Byte (begun_at before)
@@ -117,44 +103,3 @@ stream_settled (Ok script) bytes room start cs given few began same whole cut un
     (stream_whole bytes cs given whole ∙ ap all_given (sym same), subst (λ (x : List PlannedData). length x ≤ room) (sym same) few)
 stream_settled (Err why) bytes room start cs given few began same whole cut unfinished =
     subst (λ (w : ScriptFault). Stops w room (stream_outcomes bytes)) (sym cut) (stream_cut bytes room start cs given few unfinished began)
-
--- ---- bytes of a line
-
-pub fed_none : (place_of : List ℕ → Place) (block : ℕ) (curve : Curve) (before : List ℕ) → fed_outcomes place_of block curve before [] ≡ []
-unfolding fed_outcomes
-fed_none place_of block curve before = refl
-
-fed_front : (place_of : List ℕ → Place) (block : ℕ) (curve : Curve) (before bytes : List ℕ) (at byte : ℕ) (first : List Outcome) → at < length bytes → get_or bytes at 0 ≡ byte
-    → first ++ fed_outcomes place_of block curve before (take (at + 1) bytes)
-    ≡ first ++ fed_outcomes place_of block curve before (take at bytes) ++ heard_outcomes (place_of (before ++ take at bytes)) block curve (heard_with (before ++ take at bytes) byte)
-fed_front place_of block curve before bytes at byte first below is =
-    ap (λ (s : List ℕ). first ++ fed_outcomes place_of block curve before s) (take_next bytes at byte below is)
-    ∙ ap (λ (os : List Outcome). first ++ os) (fed_more place_of block curve before (take at bytes) byte)
-    ∙ sym (append_assoc first _ _)
-
-pub fed_step : (place_of : List ℕ → Place) (block : ℕ) (curve : Curve) (before bytes : List ℕ) (at byte : ℕ) (old now new : List PlannedData)
-    → at < length bytes → get_or bytes at 0 ≡ byte
-    → all_given now ≡ all_given old ++ fed_outcomes place_of block curve before (take at bytes)
-    → all_given new ≡ all_given now ++ heard_outcomes (place_of (before ++ take at bytes)) block curve (heard_with (before ++ take at bytes) byte)
-    → all_given new ≡ all_given old ++ fed_outcomes place_of block curve before (take (at + 1) bytes)
-fed_step place_of block curve before bytes at byte old now new below is was more =
-    more ∙ ap (λ (os : List Outcome). os ++ heard_outcomes (place_of (before ++ take at bytes)) block curve (heard_with (before ++ take at bytes) byte)) was
-    ∙ sym (fed_front place_of block curve before bytes at byte (all_given old) below is)
-
-pub fed_stopped : (place_of : List ℕ → Place) (block : ℕ) (curve : Curve) (before bytes : List ℕ) (at byte : ℕ) (why : ScriptFault) (room : ℕ) (old now : List PlannedData)
-    → at < length bytes → get_or bytes at 0 ≡ byte
-    → all_given now ≡ all_given old ++ fed_outcomes place_of block curve before (take at bytes)
-    → Stops why room (all_given now ++ heard_outcomes (place_of (before ++ take at bytes)) block curve (heard_with (before ++ take at bytes) byte))
-    → Stops why room (all_given old ++ fed_outcomes place_of block curve before bytes)
-fed_stopped place_of block curve before bytes at byte why room old now below is was stops =
-    let parts : all_given old ++ fed_outcomes place_of block curve before bytes
-    ≡ all_given old ++ fed_outcomes place_of block curve before (take (at + 1) bytes) ++ fed_outcomes place_of block curve (before ++ take (at + 1) bytes) (drop (at + 1) bytes) =
-    ap (λ (s : List ℕ). all_given old ++ fed_outcomes place_of block curve before s) (sym (take-append-drop (at + 1) bytes))
-    ∙ ap (λ (os : List Outcome). all_given old ++ os) (fed_append place_of block curve before (take (at + 1) bytes) (drop (at + 1) bytes))
-    ∙ sym (append_assoc (all_given old) _ _) in
-    let front : all_given now ++ heard_outcomes (place_of (before ++ take at bytes)) block curve (heard_with (before ++ take at bytes) byte)
-    ≡ all_given old ++ fed_outcomes place_of block curve before (take (at + 1) bytes) =
-    ap (λ (os : List Outcome). os ++ heard_outcomes (place_of (before ++ take at bytes)) block curve (heard_with (before ++ take at bytes) byte)) was
-    ∙ sym (fed_front place_of block curve before bytes at byte (all_given old) below is) in
-    subst (λ (os : List Outcome). Stops why room os) (sym parts)
-    (stops_more why room _ _ (subst (λ (os : List Outcome). Stops why room os) front stops))

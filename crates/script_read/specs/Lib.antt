@@ -2,8 +2,6 @@ pub mod Words
 pub mod Grammar
 pub mod Lines
 pub mod Says
-pub mod Stream
 pub mod Outcomes
 pub mod Plan
 pub mod Reading
-pub mod Text

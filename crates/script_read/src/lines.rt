@@ -4,13 +4,13 @@ ghost use Rattle.std.specs.Prelude.{ℕ, List, ◌≡◌, ◌+◌, ◌≤◌, �
 ghost use Rattle.script_read.specs.Words.{lines_of, without_return};
 ghost use Rattle.script_read.specs.Lines.{Said, said, sayings};
 ghost use Rattle.script_read.specs.Outcomes.{outcomes_behind, text_outcomes};
-ghost use Rattle.script_read.specs.Reading.{HasOrder, IsBehind, Settles, Stops};
+ghost use Rattle.script_outcome.specs.Reading.{Settles, Stops};
+ghost use Rattle.script_read.specs.Reading.{HasOrder, IsBehind};
 
-use crate::bounds::Bounds;
-use crate::fault::ScriptFault;
 use crate::line::read_line;
 use crate::progress::Progress;
 use plain_text::cut;
+use script_outcome::{Bounds, ScriptFault};
 use script_plan::Script;
 use std::alloc::Global;
 use velocity_map::MapSet;

@@ -3,13 +3,11 @@
 ghost use Rattle.std.specs.Prelude.{ℕ, ◌≡◌, Option, if◌then◌else◌};
 ghost use Rattle.velocity_map.specs.Map.{curve_of};
 ghost use Rattle.command_set.specs.Command.{IsInRange, content};
-ghost use Rattle.script_read.specs.Outcomes.{curved, is_late, time_fault};
+ghost use Rattle.script_read.specs.Outcomes.{curved, time_fault};
 
-use crate::bounds::Bounds;
-use crate::fault::{Place, ScriptFault, ScriptKind};
-use crate::feed::{Feed, Spot, give, take_all};
 use crate::line::Line;
 use command_set::Command;
+use script_outcome::{Bounds, Feed, Place, ScriptFault, ScriptKind, Spot, give, take_all};
 use script_plan::Script;
 use std::alloc::{AllocError, Global};
 use velocity_map::{Curve, MapSet, VelocityMap};
@@ -36,7 +34,8 @@ impl Progress {
     ghost use Rattle.script_read.specs.Lines.{Said, Blank, Feeds, Maps, Orders, Wrong};
     ghost use Rattle.script_read.specs.Says.{IsSound, says};
     ghost use Rattle.script_read.specs.Outcomes.{outcomes_behind};
-    ghost use Rattle.script_read.specs.Reading.{HasOrder, IsBehind, Stops};
+    ghost use Rattle.script_outcome.specs.Reading.{Stops};
+    ghost use Rattle.script_read.specs.Reading.{HasOrder, IsBehind};
 
     /// Before the line behind the first. It takes the memory that a reader of MIDI bytes needs.
     pub(crate) fn new(alloc: Global) -> Result<Progress, AllocError>
@@ -134,7 +133,7 @@ impl Progress {
         ensures stops { IfErr result (λ why. (lines : List Said) → IsBehind self.old bounds.blocks lines
             → Stops why bounds.room (outcomes_behind bounds.blocks [] (lines ++ Orders block (content command) ∷ []))) }
     {
-        match fault_of_block(block, self.least, bounds.blocks) {
+        match fault_of_block(block, self.least, bounds) {
             Some(kind) => return Err(refused(self.number, kind)),
             None => {}
         }
@@ -166,7 +165,7 @@ impl Progress {
         ensures stops { IfErr result (λ why. (lines : List Said) → IsBehind self.old bounds.blocks lines
             → Stops why bounds.room (outcomes_behind bounds.blocks [] (lines ++ Feeds block bytes.now ∷ []))) }
     {
-        match fault_of_block(block, self.least, bounds.blocks) {
+        match fault_of_block(block, self.least, bounds) {
             Some(kind) => return Err(refused(self.number, kind)),
             None => {}
         }
@@ -212,25 +211,15 @@ fn refused(number: u32, kind: ScriptKind) -> ScriptFault
 }
 
 /// What is wrong with a line's block.
-fn fault_of_block(block: u32, least: u32, blocks: Option<u32>) -> Option<ScriptKind>
-    ensures { result ≡ time_fault blocks least block }
+fn fault_of_block(block: u32, least: u32, bounds: Bounds) -> Option<ScriptKind>
+    ensures { result ≡ time_fault bounds.blocks least block }
 {
     if block < least {
         Some(ScriptKind::Falls)
-    } else if is_late(block, blocks) {
+    } else if bounds.is_late(block) {
         Some(ScriptKind::Late)
     } else {
         None
-    }
-}
-
-/// Whether a block is not one of the run's.
-fn is_late(block: u32, blocks: Option<u32>) -> bool
-    ensures { result ≡ is_late blocks block }
-{
-    match blocks {
-        Some(blocks) => block >= blocks,
-        None => false,
     }
 }
 

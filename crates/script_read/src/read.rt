@@ -1,16 +1,16 @@
 ghost use Rattle.std.specs.Prelude.{◌≡◌, ◌<◌, ◌≤◌, [], ◌∷◌, length, All, Err, IfOk, IfSome, Option, ℕ};
 ghost use Rattle.script_plan.specs.Plan.{PlannedData};
-ghost use Rattle.script_read.specs.declared.fault.Place.{Place};
-ghost use Rattle.script_read.specs.declared.fault.ScriptKind.{ScriptKind};
+ghost use Rattle.script_outcome.specs.declared.fault.Place.{Place};
+ghost use Rattle.script_outcome.specs.declared.fault.ScriptKind.{ScriptKind};
 ghost use Rattle.script_read.specs.Words.{lines_of};
-ghost use Rattle.script_read.specs.Plan.{Commands, Refused, TooMany, is_midi_file, is_stream, lines_outcomes, outcomes, plan};
-ghost use Rattle.script_read.specs.Reading.{Settles};
+ghost use Rattle.script_outcome.specs.Plan.{Commands, Refused, TooMany};
+ghost use Rattle.script_read.specs.Plan.{is_midi_file, is_stream, lines_outcomes, outcomes, plan};
+ghost use Rattle.script_outcome.specs.Reading.{Settles};
 
-use crate::bounds::Bounds;
-use crate::fault::{Place, ScriptFault, ScriptKind};
 use crate::lines::{read_lines, without_return};
 use crate::stream::read_stream;
 use plain_text::{cut, is_word};
+use script_outcome::{Bounds, Place, ScriptFault, ScriptKind};
 use script_plan::Script;
 use std::alloc::Global;
 use velocity_map::{Curve, MapSet};

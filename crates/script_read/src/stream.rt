@@ -5,12 +5,11 @@ ghost use Rattle.midi_stream.specs.Messages.{is_unfinished};
 ghost use Rattle.midi_stream.specs.Reading.{Reads};
 ghost use Rattle.velocity_map.specs.declared.curve.Curve.TheVariants.{Linear};
 ghost use Rattle.velocity_map.specs.Map.{curve_of};
-ghost use Rattle.script_read.specs.Stream.{is_status};
+ghost use Rattle.script_outcome.specs.Stream.{is_status};
 ghost use Rattle.script_read.specs.Outcomes.{stream_outcomes};
-ghost use Rattle.script_read.specs.Reading.{Settles};
+ghost use Rattle.script_outcome.specs.Reading.{Settles};
 
-use crate::fault::{Place, ScriptFault, ScriptKind};
-use crate::feed::{Feed, Spot};
+use script_outcome::{Feed, Place, ScriptFault, ScriptKind, Spot};
 use script_plan::Script;
 use std::alloc::Global;
 use velocity_map::VelocityMap;

@@ -2,6 +2,7 @@
 
 use super::*;
 use plain_text::{LineText, push_number, push_text};
+use script_outcome::push_script_text;
 use std::alloc::{AllocError, Global};
 use std::process::Abort;
 use std::test::Fail;
@@ -344,29 +345,4 @@ fn dumps_in_text(rt: HostRuntime) -> Result<(), Fail> {
     let refused = told(alloc, &maps, &cartridge, None, 1)?;
     assert_eq!(rt; refused.as_slice(), b"line 2: line".as_slice());
     Ok(())
-}
-
-#[test]
-fn kinds_have_their_texts(rt: HostRuntime) {
-    let rows: [(ScriptKind, &[u8]); 14] = [
-        (ScriptKind::Kind, b"kind"),
-        (ScriptKind::Line, b"line"),
-        (ScriptKind::Falls, b"falls"),
-        (ScriptKind::Late, b"late"),
-        (ScriptKind::Long, b"long"),
-        (ScriptKind::Cut, b"cut"),
-        (ScriptKind::Value, b"value"),
-        (ScriptKind::Undo, b"undo"),
-        (ScriptKind::Redo, b"redo"),
-        (ScriptKind::Header, b"header"),
-        (ScriptKind::Format, b"format"),
-        (ScriptKind::Division, b"division"),
-        (ScriptKind::Event, b"event"),
-        (ScriptKind::NotYet, b"not yet"),
-    ];
-    for (kind, text) in rows {
-        let mut line = LineText::new();
-        push_script_text(&kind, &mut line);
-        assert_eq!(rt; line.as_slice(), text);
-    }
 }

@@ -1,9 +1,10 @@
 use Rattle.std.proofs.Common.{◌≡◌, ◌++◌, ◌∷◌, [], List, ℕ, subst, arith}
 use Rattle.script_read.specs.Lines.{Said, said}
 use Rattle.script_read.specs.Outcomes.{outcomes_behind, stream_of}
-use Rattle.script_read.specs.Reading.{IsBehind, Stops}
+use Rattle.script_outcome.specs.Reading.{Stops}
+use Rattle.script_read.specs.Reading.{IsBehind}
 use Rattle.script_read.proofs.Lining.{within_none, within_more, stopped_at_line, stopped_at_last, settled_at_end}
-use Rattle.script_read.proofs.Plans.{on_ok_more, on_err_more}
+use Rattle.script_outcome.proofs.Plans.{on_ok_more, on_err_more}
 use Rattle.script_read.proofs.lines.read_lines.Goals as goal
 
 pub loop-line-init : goal.loop-line-init

@@ -3,12 +3,13 @@ use Rattle.std.proofs.lemmas.List.{take_all}
 use Rattle.midi_stream.specs.Reading.{Reads}
 use Rattle.velocity_map.specs.Map.{curve_of}
 use Rattle.velocity_map.specs.declared.curve.Curve.TheVariants.{Linear}
-use Rattle.script_read.specs.declared.fault.Place.TheVariants as place
-use Rattle.script_read.specs.Stream.{begun_at, heard_with}
-use Rattle.script_read.specs.Outcomes.{Outcome, fed_outcomes}
-use Rattle.script_read.specs.Reading.{Stops, all_given}
-use Rattle.script_read.proofs.Streaming.{fed_next, heard_same, nothing_fed, none_begun, start_next, stopped_within, stream_settled, take_next}
-use Rattle.script_read.proofs.Plans.{on_ok_more, on_err_more, few_of_none, due_of_none}
+use Rattle.script_outcome.specs.declared.fault.Place.TheVariants as place
+use Rattle.script_outcome.specs.Stream.{begun_at, heard_with}
+use Rattle.script_outcome.specs.Outcomes.{Outcome, fed_outcomes}
+use Rattle.script_outcome.specs.Reading.{Stops, all_given}
+use Rattle.script_outcome.proofs.Hearing.{take_next}
+use Rattle.script_read.proofs.Streaming.{fed_next, heard_same, nothing_fed, none_begun, start_next, stopped_within, stream_settled}
+use Rattle.script_outcome.proofs.Plans.{on_ok_more, on_err_more, few_of_none, due_of_none}
 use Rattle.script_read.proofs.stream.read_stream.Goals as goal
 
 pub loop-at-init : goal.loop-at-init

@@ -1,9 +1,9 @@
 use Rattle.std.proofs.Common.{sym, subst, [], ◌∷◌, ◌++◌}
-use Rattle.script_read.specs.declared.fault.ScriptFault.{ScriptFault}
-use Rattle.script_read.specs.declared.fault.ScriptKind.TheVariants as kind
+use Rattle.script_outcome.specs.declared.fault.ScriptFault.{ScriptFault}
+use Rattle.script_outcome.specs.declared.fault.ScriptKind.TheVariants as kind
 use Rattle.script_read.specs.Lines.{Wrong}
 use Rattle.script_read.specs.Outcomes.{outcomes_behind}
-use Rattle.script_read.specs.Reading.{Stops}
+use Rattle.script_outcome.specs.Reading.{Stops}
 use Rattle.script_read.proofs.Lining.{stops_line, wrong_outcomes}
 use Rattle.script_read.proofs.progress.Progress.refuse.Goals as goal
 

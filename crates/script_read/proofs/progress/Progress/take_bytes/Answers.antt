@@ -1,10 +1,11 @@
 use Rattle.std.proofs.Common.{◌++◌, List, [], ◌∷◌, refl, ap, sym, subst, ◌∙◌}
 use Rattle.velocity_map.specs.declared.curve.Curve.{Curve}
-use Rattle.script_read.specs.declared.fault.Place.TheVariants as place
-use Rattle.script_read.specs.declared.fault.ScriptFault.{ScriptFault}
-use Rattle.script_read.specs.Outcomes.{Outcome, fed_outcomes, outcomes_behind, line_behind, stream_of}
+use Rattle.script_outcome.specs.declared.fault.Place.TheVariants as place
+use Rattle.script_outcome.specs.declared.fault.ScriptFault.{ScriptFault}
+use Rattle.script_outcome.specs.Outcomes.{Outcome, fed_outcomes}
+use Rattle.script_read.specs.Outcomes.{outcomes_behind, line_behind, stream_of}
 use Rattle.script_read.specs.Lines.{Feeds}
-use Rattle.script_read.specs.Reading.{Stops, all_given}
+use Rattle.script_outcome.specs.Reading.{Stops, all_given}
 use Rattle.script_read.proofs.Lining.{behind_more, stops_line, stops_in_line, feed_outcomes, timed_some, timed_none}
 use Rattle.script_read.proofs.progress.Progress.take_bytes.Goals as goal
 

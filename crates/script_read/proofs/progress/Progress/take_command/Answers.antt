@@ -2,10 +2,11 @@ use Rattle.std.proofs.Common.{◌≡◌, ◌++◌, List, [], ◌∷◌, refl, ap
 use Rattle.velocity_map.specs.declared.curve.Curve.{Curve}
 use Rattle.command_set.specs.Command.{CommandData, content}
 use Rattle.script_plan.specs.Plan.{planned_at}
-use Rattle.script_read.specs.declared.fault.ScriptFault.{ScriptFault}
-use Rattle.script_read.specs.Outcomes.{Outcome, Gives, curved, outcomes_behind, line_behind}
+use Rattle.script_outcome.specs.declared.fault.ScriptFault.{ScriptFault}
+use Rattle.script_outcome.specs.Outcomes.{Outcome, Gives}
+use Rattle.script_read.specs.Outcomes.{curved, outcomes_behind, line_behind}
 use Rattle.script_read.specs.Lines.{Orders}
-use Rattle.script_read.specs.Reading.{Stops, all_given}
+use Rattle.script_outcome.specs.Reading.{Stops, all_given}
 use Rattle.script_read.proofs.Lining.{behind_more, stops_line, stops_in_line, order_outcomes, timed_some, timed_none}
 use Rattle.script_read.proofs.progress.Progress.take_command.Goals as goal
 

@@ -1,5 +1,6 @@
 -- One more byte of a stream.
-use Rattle.std.proofs.Common.{◌≡◌, ℕ, ◌+◌, ◌≤◌, List, [], ◌∷◌, ◌++◌, length, refl, ap, sym, ◌∙◌, arith, append_assoc, append-nil, length-append, if◌then◌else◌}
+use Rattle.std.proofs.lemmas.Grind.{take_at_read}
+use Rattle.std.proofs.Common.{◌≡◌, ℕ, ◌+◌, ◌<◌, ◌≤◌, take, get_or, List, [], ◌∷◌, ◌++◌, length, refl, ap, sym, ◌∙◌, arith, append_assoc, append-nil, length-append, if◌then◌else◌}
 use Rattle.std.specs.Prelude.{Option, Some, None, option_map, unwrap_or, slice_get, IfSome}
 use Rattle.std.proofs.lemmas.Option.{slice_get_past, slice_get-get_or}
 use Rattle.std.proofs.Math.Seq.{get_or-append_seam}
@@ -10,9 +11,9 @@ use Rattle.midi_stream.specs.Ranges.{InRange}
 use Rattle.midi_stream.specs.Standing.{Answers, HasBytes}
 use Rattle.velocity_map.specs.declared.curve.Curve.{Curve}
 use Rattle.command_set.specs.Message.{command_of}
-use Rattle.script_read.specs.declared.fault.Place.{Place}
-use Rattle.script_read.specs.Stream.{Heard, heard_with, begins, begun_behind, begun_at}
-use Rattle.script_read.specs.Outcomes.{Outcome, told_outcomes, heard_outcomes, fed_outcomes}
+use Rattle.script_outcome.specs.declared.fault.Place.{Place}
+use Rattle.script_outcome.specs.Stream.{Heard, heard_with, begins, begun_behind, begun_at}
+use Rattle.script_outcome.specs.Outcomes.{Outcome, told_outcomes, heard_outcomes, fed_outcomes}
 
 answered : (r : Option MidiMessage) (before now : List MidiMessage) → Answers r before now → slice_get now (length before) ≡ r
 answered None before now e = slice_get_past now (length before) (let same : length now ≡ length before = ap length e in omega arith)
@@ -85,3 +86,7 @@ begun_more_behind before (x ∷ xs) start byte =
 pub begun_more : (xs : List ℕ) (byte : ℕ) → begun_at (xs ++ byte ∷ []) ≡ (if begins xs byte then length xs else begun_at xs)
 unfolding begun_at
 begun_more xs byte = begun_more_behind [] xs 0 byte
+
+-- one more byte of bytes
+pub take_next : (bytes : List ℕ) (at byte : ℕ) → at < length bytes → get_or bytes at 0 ≡ byte → take (at + 1) bytes ≡ take at bytes ++ byte ∷ []
+take_next bytes at byte below is = (take_at_read bytes at 0 below).1 ∙ ap (λ (b : ℕ). take at bytes ++ b ∷ []) is

@@ -1,10 +1,11 @@
 use Rattle.std.proofs.Common.{◌++◌, ℕ, List, [], ◌∷◌, take, get_or, refl, ap, sym, subst, ◌∙◌, append_assoc, append-nil}
 use Rattle.midi_stream.specs.Reading.{Reads}
 use Rattle.velocity_map.specs.Map.{curve_of}
-use Rattle.script_read.specs.Outcomes.{Outcome}
-use Rattle.script_read.specs.Reading.{all_given}
-use Rattle.script_read.proofs.Streaming.{fed_none, fed_step, fed_stopped, take_next}
-use Rattle.script_read.proofs.feed.take_all.Goals as goal
+use Rattle.script_outcome.specs.Outcomes.{Outcome}
+use Rattle.script_outcome.specs.Reading.{all_given}
+use Rattle.script_outcome.proofs.Hearing.{take_next}
+use Rattle.script_outcome.proofs.Feeding.{fed_none, fed_step, fed_stopped}
+use Rattle.script_outcome.proofs.feed.take_all.Goals as goal
 
 pub loop-byte-init : goal.loop-byte-init
 loop-byte-init g c = record {

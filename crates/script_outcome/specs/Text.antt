@@ -1,8 +1,8 @@
 -- The text of a fault of a script.
 use Rattle.std.specs.Prelude.{ℕ, List, ◌++◌, codes}
 use Rattle.fault_text.specs.Text.{frame_text}
-use Rattle.script_read.specs.declared.fault.ScriptKind.{ScriptKind}
-use Rattle.script_read.specs.declared.fault.ScriptKind.TheVariants as kind
+use Rattle.script_outcome.specs.declared.fault.ScriptKind.{ScriptKind}
+use Rattle.script_outcome.specs.declared.fault.ScriptKind.TheVariants as kind
 
 unfoldable pub script_text : ScriptKind → List ℕ
 script_text kind.Kind = codes "kind"

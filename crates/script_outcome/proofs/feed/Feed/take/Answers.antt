@@ -1,10 +1,10 @@
 use Rattle.std.proofs.Common.{ap, sym, subst, ◌∙◌, ◌++◌, append-nil, List}
-use Rattle.script_read.specs.Outcomes.{Outcome}
-use Rattle.script_read.specs.Reading.{Stops, all_given}
-use Rattle.script_read.proofs.Plans.{on_ok_more, if_err_more}
-use Rattle.script_read.proofs.Hearing.{none_heard, told_is_heard}
+use Rattle.script_outcome.specs.Outcomes.{Outcome}
+use Rattle.script_outcome.specs.Reading.{Stops, all_given}
+use Rattle.script_outcome.proofs.Plans.{on_ok_more, if_err_more}
+use Rattle.script_outcome.proofs.Hearing.{none_heard, told_is_heard}
 use Rattle.velocity_map.specs.Map.{curve_of}
-use Rattle.script_read.proofs.feed.Feed.take.Goals as goal
+use Rattle.script_outcome.proofs.feed.Feed.take.Goals as goal
 
 pub returns-in-None-clause-given : goal.returns-in-None-clause-given
 returns-in-None-clause-given g c = λ stream reads.

@@ -7,9 +7,9 @@ ghost use Rattle.velocity_map.specs.Map.{curve_of};
 ghost use Rattle.command_set.specs.Command.{IsInRange, content};
 ghost use Rattle.command_set.specs.Message.{command_of};
 ghost use Rattle.script_plan.specs.Plan.{last_due, planned_at};
-ghost use Rattle.script_read.specs.Stream.{heard_with};
-ghost use Rattle.script_read.specs.Outcomes.{Gives, fed_outcomes, heard_outcomes, told_outcomes};
-ghost use Rattle.script_read.specs.Reading.{Stops, all_given};
+ghost use Rattle.script_outcome.specs.Stream.{heard_with};
+ghost use Rattle.script_outcome.specs.Outcomes.{Gives, fed_outcomes, heard_outcomes, told_outcomes};
+ghost use Rattle.script_outcome.specs.Reading.{Stops, all_given};
 
 use crate::fault::{Place, ScriptFault, ScriptKind};
 use command_set::{Command, CommandFault, from_message};
@@ -20,21 +20,21 @@ use velocity_map::VelocityMap;
 
 /// A reader of a stream, and the commands so far.
 #[derive(Drop)]
-pub(crate) struct Feed {
-    pub(crate) reader: MidiReader,
-    pub(crate) script: Script,
+pub struct Feed {
+    pub reader: MidiReader,
+    pub script: Script,
 }
 
 /// Where a byte stands: the place that a fault names, and the block at which a command is due.
 #[derive(Clone, Copy, Debug)]
-pub(crate) struct Spot {
-    pub(crate) place: Place,
-    pub(crate) block: u32,
+pub struct Spot {
+    pub place: Place,
+    pub block: u32,
 }
 
 impl Feed {
     /// A reader of a new stream, and no commands. It takes the memory that the reader needs.
-    pub(crate) fn new(alloc: Global) -> Result<Feed, AllocError>
+    pub fn new(alloc: Global) -> Result<Feed, AllocError>
         ensures reads { IfOk result (λ feed. Reads feed.reader []) }
         ensures script { IfOk result (λ feed. feed.script ≡ []) }
     {
@@ -45,7 +45,7 @@ impl Feed {
     }
 
     /// Takes the next byte.
-    pub(crate) fn take(
+    pub fn take(
         &mut self,
         alloc: Global,
         byte: u8,
@@ -74,7 +74,7 @@ impl Feed {
 }
 
 /// Takes all bytes of a line.
-pub(crate) fn take_all(
+pub fn take_all(
     alloc: Global,
     feed: &mut Feed,
     bytes: &[u8],
@@ -134,12 +134,7 @@ fn take_message(
 }
 
 /// Adds a command, where there is room.
-pub(crate) fn give(
-    script: &mut Script,
-    block: u32,
-    command: Command,
-    room: u32,
-) -> Result<(), ScriptFault>
+pub fn give(script: &mut Script, block: u32, command: Command, room: u32) -> Result<(), ScriptFault>
     requires command { IsInRange (content command) }
     requires due { last_due script.old ≤ block }
     requires few { length script.old ≤ room }

@@ -3,17 +3,17 @@ use Rattle.std.proofs.Common.{◌≡◌, ℕ, ◌+◌, ◌≤◌, List, [], ◌�
 use Rattle.std.proofs.lemmas.Bool.{le-ltb}
 use Rattle.std.specs.Prelude.{nat_lt}
 use Rattle.script_plan.specs.Plan.{PlannedData, last_due_or, last_due}
-use Rattle.script_read.specs.declared.fault.Place.{Place}
-use Rattle.script_read.specs.declared.fault.ScriptKind.{ScriptKind}
-use Rattle.script_read.specs.declared.fault.ScriptFault.{ScriptFault}
-use Rattle.script_read.specs.declared.fault.ScriptFault.TheVariants as faults
-use Rattle.script_read.specs.declared.fault.ScriptKind.TheVariants as kind
+use Rattle.script_outcome.specs.declared.fault.Place.{Place}
+use Rattle.script_outcome.specs.declared.fault.ScriptKind.{ScriptKind}
+use Rattle.script_outcome.specs.declared.fault.ScriptFault.{ScriptFault}
+use Rattle.script_outcome.specs.declared.fault.ScriptFault.TheVariants as faults
+use Rattle.script_outcome.specs.declared.fault.ScriptKind.TheVariants as kind
 use Rattle.sysex_frame.specs.declared.frame.FrameFault.{FrameFault}
 use Rattle.command_set.specs.Message.{Told, Overlong, Faulty}
 use Rattle.std.specs.Prelude.{Result, Ok, Err, OnOk, IfOk, IfErr, OnErr}
-use Rattle.script_read.specs.Outcomes.{Outcome, Gives, Fails, told_outcomes}
-use Rattle.script_read.specs.Plan.{Plan, Commands, Refused, TooMany, given, verdict, plan_of}
-use Rattle.script_read.specs.Reading.{Stops, all_given}
+use Rattle.script_outcome.specs.Outcomes.{Outcome, Gives, Fails, told_outcomes}
+use Rattle.script_outcome.specs.Plan.{Plan, Commands, Refused, TooMany, given, verdict, plan_of}
+use Rattle.script_outcome.specs.Reading.{Stops, all_given}
 
 given_all : (cs : List PlannedData) (more : List Outcome) → given (all_given cs ++ more) ≡ cs ++ given more
 given_all [] more = refl

@@ -1,7 +1,7 @@
 //! The text of why a script is refused.
 
 ghost use Rattle.std.specs.Prelude.{◌≡◌, ◌+◌, ◌≤◌, ◌++◌, length};
-ghost use Rattle.script_read.specs.Text.{script_text};
+ghost use Rattle.script_outcome.specs.Text.{script_text};
 
 use crate::fault::ScriptKind;
 use fault_text::push_frame_text;

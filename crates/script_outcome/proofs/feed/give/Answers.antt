@@ -1,7 +1,7 @@
 use Rattle.std.proofs.Common.{◌≡◌, ap, ◌∙◌, arith}
 use Rattle.script_plan.specs.Plan.{last_due}
-use Rattle.script_read.proofs.Plans.{many, last_due_more}
-use Rattle.script_read.proofs.feed.give.Goals as goal
+use Rattle.script_outcome.proofs.Plans.{many, last_due_more}
+use Rattle.script_outcome.proofs.feed.give.Goals as goal
 
 pub returns-then-len-room-clause-stops : goal.returns-then-len-room-clause-stops
 returns-then-len-room-clause-stops c = λ more. many c.args.room c.args.script.now _ more (omega arith)

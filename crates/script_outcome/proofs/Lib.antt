@@ -1,0 +1,4 @@
+pub mod Plans
+pub mod Hearing
+pub mod Feeding
+pub mod Early

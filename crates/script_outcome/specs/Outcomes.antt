@@ -1,0 +1,36 @@
+-- What comes of a script: commands and faults, in reading order.
+use Rattle.std.specs.Prelude.{ℕ, nat_le, Bool, false, List, [], ◌∷◌, ◌++◌, Option, Some, None}
+use Rattle.velocity_map.specs.declared.curve.Curve.{Curve}
+use Rattle.command_set.specs.Message.{Told, Tells, PassedOver, Overlong, Faulty, command_of}
+use Rattle.script_plan.specs.Plan.{PlannedData, planned_at}
+use Rattle.script_outcome.specs.declared.fault.Place.{Place}
+use Rattle.script_outcome.specs.declared.fault.ScriptKind.{ScriptKind}
+use Rattle.script_outcome.specs.declared.fault.ScriptKind.TheVariants as kind
+use Rattle.script_outcome.specs.Stream.{Heard, heard_with}
+
+-- a command at its block, or a fault at its place
+pub data Outcome : Type 0 where
+  Gives : PlannedData → Outcome
+  Fails : Place → ScriptKind → Outcome
+
+-- what comes of a message
+abbrev pub told_outcomes : Place → ℕ → Told → List Outcome
+told_outcomes at block (Tells command) = Gives (planned_at block command) ∷ []
+told_outcomes at block PassedOver = []
+told_outcomes at block (Overlong count) = Fails at kind.Long ∷ []
+told_outcomes at block (Faulty fault) = Fails at (kind.Message fault) ∷ []
+
+abbrev pub heard_outcomes : Place → ℕ → Curve → Option Heard → List Outcome
+heard_outcomes at block curve None = []
+heard_outcomes at block curve (Some heard) = told_outcomes at block (command_of heard.message heard.bytes curve)
+
+-- What comes of bytes behind the stream before them. A message comes of its last byte; the place of a fault is one that the stream before that byte tells.
+unfoldable pub fed_outcomes : (List ℕ → Place) → ℕ → Curve → List ℕ → List ℕ → List Outcome
+fed_outcomes place_of block curve before [] = []
+fed_outcomes place_of block curve before (byte ∷ bytes) =
+    heard_outcomes (place_of before) block curve (heard_with before byte) ++ fed_outcomes place_of block curve (before ++ byte ∷ []) bytes
+
+-- a block is not one of the run's, where their number is known
+abbrev pub is_late : Option ℕ → ℕ → Bool
+is_late None block = false
+is_late (Some blocks) block = nat_le blocks block

@@ -1,0 +1,29 @@
+//! The texts of the kinds of fault.
+
+use super::*;
+use plain_text::LineText;
+
+#[test]
+fn kinds_have_their_texts(rt: HostRuntime) {
+    let rows: [(ScriptKind, &[u8]); 14] = [
+        (ScriptKind::Kind, b"kind"),
+        (ScriptKind::Line, b"line"),
+        (ScriptKind::Falls, b"falls"),
+        (ScriptKind::Late, b"late"),
+        (ScriptKind::Long, b"long"),
+        (ScriptKind::Cut, b"cut"),
+        (ScriptKind::Value, b"value"),
+        (ScriptKind::Undo, b"undo"),
+        (ScriptKind::Redo, b"redo"),
+        (ScriptKind::Header, b"header"),
+        (ScriptKind::Format, b"format"),
+        (ScriptKind::Division, b"division"),
+        (ScriptKind::Event, b"event"),
+        (ScriptKind::NotYet, b"not yet"),
+    ];
+    for (kind, text) in rows {
+        let mut line = LineText::new();
+        push_script_text(&kind, &mut line);
+        assert_eq!(rt; line.as_slice(), text);
+    }
+}
