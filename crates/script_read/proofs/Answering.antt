@@ -1,6 +1,6 @@
 -- What an answer says of the plan.
-use Rattle.std.proofs.Common.{◌≡◌, ℕ, ◌<◌, ◌≤◌, List, [], ◌∷◌, length, true, false, refl, ap, sym, ◌∙◌, subst, arith}
-use Rattle.std.specs.Prelude.{All, Option, Some, None, Result, Ok, Err, IfOk, IfSome, bytes_eq, codes}
+use Rattle.std.proofs.Common.{◌≡◌, ℕ, ◌<◌, ◌≤◌, List, [], ◌∷◌, length, Bool, true, false, cond, refl, ap, sym, ◌∙◌, subst, arith}
+use Rattle.std.specs.Prelude.{◌||◌, All, Option, Some, None, Result, Ok, Err, IfOk, IfSome, bytes_eq, codes}
 use Rattle.midi_stream.specs.Messages.{is_unfinished}
 use Rattle.script_plan.specs.Plan.{PlannedData}
 use Rattle.script_outcome.specs.declared.fault.Place.{Place}
@@ -10,6 +10,8 @@ use Rattle.script_outcome.specs.declared.fault.ScriptKind.TheVariants as kind
 use Rattle.script_outcome.specs.declared.fault.ScriptFault.{ScriptFault}
 use Rattle.script_outcome.specs.declared.fault.ScriptFault.TheVariants as faults
 use Rattle.script_read.specs.Lines.{sayings}
+use Rattle.script_read.specs.EditLines.{edit_sayings}
+use Rattle.script_read.specs.Edits.{edit_text_outcomes, edits_behind}
 use Rattle.script_outcome.specs.Outcomes.{Outcome}
 use Rattle.script_read.specs.Outcomes.{stream_of, outcomes_behind, text_outcomes}
 use Rattle.script_outcome.specs.Plan.{Commands, Refused, TooMany, plan_of}
@@ -56,8 +58,12 @@ pub midi_first : (blocks : Option ℕ) (first : List ℕ) (lines : List (List �
 midi_first blocks first lines e = rw e refl
 
 edit_first : (blocks : Option ℕ) (first : List ℕ) (lines : List (List ℕ)) → bytes_eq first (codes "midi 1") ≡ false → bytes_eq first (codes "edit 1") ≡ true
-    → lines_outcomes blocks (first ∷ lines) ≡ at_first kind.NotYet
+    → lines_outcomes blocks (first ∷ lines) ≡ edit_text_outcomes blocks (edit_sayings lines)
 edit_first blocks first lines e f = rw (e, f) refl
+
+pub edit_settled : (r : Result (List PlannedData) ScriptFault) (room : ℕ) (blocks : Option ℕ) (first : List ℕ) (lines : List (List ℕ)) → bytes_eq first (codes "midi 1") ≡ false → bytes_eq first (codes "edit 1") ≡ true
+    → Settles r room (edit_text_outcomes blocks (edit_sayings lines)) → Settles r room (lines_outcomes blocks (first ∷ lines))
+edit_settled r room blocks first lines e f h = subst (λ (os : List Outcome). Settles r room os) (sym (edit_first blocks first lines e f)) h
 
 other_first : (blocks : Option ℕ) (first : List ℕ) (lines : List (List ℕ)) → bytes_eq first (codes "midi 1") ≡ false → bytes_eq first (codes "edit 1") ≡ false
     → lines_outcomes blocks (first ∷ lines) ≡ at_first kind.Kind
@@ -70,10 +76,6 @@ refused_with : (fault : ScriptFault) (room : ℕ) (why : ScriptKind) (os : List 
 refused_with fault room why os is e =
     subst (λ (xs : List Outcome). Stops fault room xs) (sym is) (subst (λ (w : ScriptFault). Stops w room (at_first why)) (sym e) (stops_first room why))
 
-pub edit_refused : (fault : ScriptFault) (room : ℕ) (blocks : Option ℕ) (first : List ℕ) (lines : List (List ℕ)) → bytes_eq first (codes "midi 1") ≡ false → bytes_eq first (codes "edit 1") ≡ true
-    → fault ≡ faults.Refused (place.Line 1) kind.NotYet → Stops fault room (lines_outcomes blocks (first ∷ lines))
-edit_refused fault room blocks first lines e f is = refused_with fault room kind.NotYet _ (edit_first blocks first lines e f) is
-
 pub other_refused : (fault : ScriptFault) (room : ℕ) (blocks : Option ℕ) (first : List ℕ) (lines : List (List ℕ)) → bytes_eq first (codes "midi 1") ≡ false → bytes_eq first (codes "edit 1") ≡ false
     → fault ≡ faults.Refused (place.Line 1) kind.Kind → Stops fault room (lines_outcomes blocks (first ∷ lines))
 other_refused fault room blocks first lines e f is = refused_with fault room kind.Kind _ (other_first blocks first lines e f) is
@@ -83,10 +85,29 @@ pub nothing_comes : (blocks : Option ℕ) → text_outcomes blocks [] ≡ []
 unfolding text_outcomes outcomes_behind stream_of is_unfinished
 nothing_comes blocks = refl
 
-pub midi_alone : (blocks : Option ℕ) (room : ℕ) (first : List ℕ) (script : List PlannedData) → bytes_eq first (codes "midi 1") ≡ true → script ≡ []
+no_edits : (blocks : Option ℕ) → edit_text_outcomes blocks [] ≡ []
+unfolding edits_behind
+no_edits blocks = refl
+
+neither : (a b : Bool) (xs ys zs : List Outcome) → xs ≡ [] → ys ≡ [] → (a || b) ≡ true → cond a xs (cond b ys zs) ≡ []
+neither true b xs ys zs x y either = x
+neither false true xs ys zs x y either = y
+neither false false xs ys zs x y either = absurd (cc)
+
+pub nothing_alone : (blocks : Option ℕ) (room : ℕ) (first : List ℕ) (script : List PlannedData) → (bytes_eq first (codes "midi 1") || bytes_eq first (codes "edit 1")) ≡ true → script ≡ []
     → (lines_outcomes blocks (first ∷ []) ≡ all_given script) × (length script ≤ room)
-midi_alone blocks room first script e none =
-    (midi_first blocks first [] e ∙ nothing_comes blocks ∙ ap all_given (sym none), rw none (omega arith))
+nothing_alone blocks room first script known none =
+    (neither (bytes_eq first (codes "midi 1")) (bytes_eq first (codes "edit 1")) (text_outcomes blocks []) (edit_text_outcomes blocks []) (at_first kind.Kind) (nothing_comes blocks) (no_edits blocks) known ∙ ap all_given (sym none), rw none (omega arith))
+
+unknown : (a b : Bool) (xs ys zs : List Outcome) → (a || b) ≡ false → cond a xs (cond b ys zs) ≡ zs
+unknown true b xs ys zs e = absurd (cc)
+unknown false true xs ys zs e = absurd (cc)
+unknown false false xs ys zs e = refl
+
+pub unknown_refused : (fault : ScriptFault) (room : ℕ) (blocks : Option ℕ) (first : List ℕ) → (bytes_eq first (codes "midi 1") || bytes_eq first (codes "edit 1")) ≡ false
+    → fault ≡ faults.Refused (place.Line 1) kind.Kind → Stops fault room (lines_outcomes blocks (first ∷ []))
+unknown_refused fault room blocks first e is =
+    refused_with fault room kind.Kind _ (unknown (bytes_eq first (codes "midi 1")) (bytes_eq first (codes "edit 1")) (text_outcomes blocks []) (edit_text_outcomes blocks []) (at_first kind.Kind) e) is
 
 -- a MIDI file
 pub midi_file_refused : (fault : ScriptFault) (room : ℕ) (blocks : Option ℕ) (bytes : List ℕ) → is_stream bytes ≡ false → is_midi_file bytes ≡ true

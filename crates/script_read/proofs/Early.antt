@@ -12,6 +12,8 @@ use Rattle.script_outcome.specs.declared.fault.Place.TheVariants as place
 use Rattle.script_outcome.specs.declared.fault.ScriptKind.{ScriptKind}
 use Rattle.script_outcome.specs.declared.fault.ScriptKind.TheVariants as kind
 use Rattle.script_read.specs.Lines.{Said, Blank, Maps, Orders, Feeds, Wrong, sayings}
+use Rattle.script_read.specs.EditLines.{EditSaid, Passed, Asks, Bad, edit_sayings}
+use Rattle.script_read.specs.Edits.{Answered, Becomes, Refuses, answer_outcomes, answered, edit_block, edit_outcomes, edit_place, edit_text_outcomes, edits_behind, history_behind, opened}
 use Rattle.script_read.specs.Words.{lines_of}
 use Rattle.script_outcome.specs.Stream.{Heard, begun_at, heard_with}
 use Rattle.script_outcome.specs.Outcomes.{Outcome, Gives, Fails, told_outcomes, heard_outcomes, fed_outcomes}
@@ -49,6 +51,28 @@ text_early : (blocks : ℕ) (lines : List Said) → AllEarly blocks (text_outcom
 unfolding text_outcomes
 text_early blocks lines = both_early blocks (outcomes_behind (Some blocks) [] lines) (text_end lines) (lines_early blocks [] lines) (end_early blocks (is_unfinished (stream_of lines)) (place.Line (fed_line 0 2 lines)) kind.Cut)
 
+-- ---- edits
+
+answer_early : (blocks block : ℕ) (at : Place) (answer : Answered) → block < blocks → AllEarly blocks (answer_outcomes at block answer)
+answer_early blocks block at (Becomes next command) below = (below, tt)
+answer_early blocks block at (Refuses why) below = tt
+
+edit_early : (blocks : ℕ) (lines : List EditSaid) (s : EditSaid) → AllEarly blocks (edit_outcomes (Some blocks) lines s)
+unfolding edit_outcomes
+edit_early blocks lines Passed = tt
+edit_early blocks lines (Asks block what) =
+    let answer : Answered = answered (history_behind opened lines) what in
+    timed_early blocks (nat_lt block (edit_block 0 lines)) (nat_le blocks block) (edit_place lines) (answer_outcomes (edit_place lines) block answer)
+    (λ e. answer_early blocks block (edit_place lines) answer (below_all blocks block e))
+edit_early blocks lines Bad = tt
+
+edits_early : (blocks : ℕ) (before lines : List EditSaid) → AllEarly blocks (edits_behind (Some blocks) before lines)
+unfolding edits_behind
+edits_early blocks before [] = tt
+edits_early blocks before (s ∷ lines) = both_early blocks (edit_outcomes (Some blocks) before s) (edits_behind (Some blocks) (before ++ s ∷ []) lines) (edit_early blocks before s) (edits_early blocks (before ++ s ∷ []) lines)
+
+-- ---- streams and whole scripts
+
 stream_early : (blocks : ℕ) (bytes : List ℕ) → 0 < blocks → AllEarly blocks (stream_outcomes bytes)
 unfolding stream_outcomes
 stream_early blocks bytes some =
@@ -61,8 +85,10 @@ either_early blocks false xs ys a b = b
 by_lines : (blocks : ℕ) (lines : List (List ℕ)) → AllEarly blocks (lines_outcomes (Some blocks) lines)
 by_lines blocks [] = tt
 by_lines blocks (first ∷ lines) =
-    either_early blocks (bytes_eq first (codes "midi 1")) (text_outcomes (Some blocks) (sayings lines)) (if bytes_eq first (codes "edit 1") then at_first kind.NotYet else at_first kind.Kind)
-    (text_early blocks (sayings lines)) (either_early blocks (bytes_eq first (codes "edit 1")) (at_first kind.NotYet) (at_first kind.Kind) tt tt)
+    either_early blocks (bytes_eq first (codes "midi 1")) (text_outcomes (Some blocks) (sayings lines))
+    (if bytes_eq first (codes "edit 1") then edit_text_outcomes (Some blocks) (edit_sayings lines) else at_first kind.Kind)
+    (text_early blocks (sayings lines))
+    (either_early blocks (bytes_eq first (codes "edit 1")) (edit_text_outcomes (Some blocks) (edit_sayings lines)) (at_first kind.Kind) (edits_early blocks [] (edit_sayings lines)) tt)
 
 pub all_early : (blocks : ℕ) (bytes : List ℕ) → 0 < blocks → AllEarly blocks (outcomes (Some blocks) bytes)
 unfolding outcomes

@@ -3,5 +3,7 @@ pub mod Numerals
 pub mod Dumps
 pub mod Streaming
 pub mod Lining
+pub mod EditLining
+pub mod EditNames
 pub mod Early
 pub mod Answering

@@ -1,8 +1,10 @@
 -- The first word of a line.
 use Rattle.std.proofs.Common.{◌≡◌, ℕ, ◌<◌, List, [], ◌∷◌, length, refl, ap, ◌∙◌, lt-ltb}
+use Rattle.std.proofs.lemmas.List.Splits.{join_with_byte-slice_split}
 use Rattle.std.specs.Prelude.{filter}
+use Rattle.std.specs.List.{join_with_byte}
 use Rattle.plain_text.specs.Parts.{parts}
-use Rattle.script_read.specs.Words.{is_some_word, words_of}
+use Rattle.script_read.specs.Words.{behind_word, is_some_word, text_behind, words_of}
 
 pub word_first : (line word behind : List ℕ) → parts 32 line ≡ word ∷ parts 32 behind → 0 < length word → words_of line ≡ word ∷ words_of behind
 unfolding words_of
@@ -24,3 +26,18 @@ word_none line e none = ap (filter is_some_word) e ∙ rw none refl
 pub none_of_empty : words_of [] ≡ []
 unfolding words_of
 none_of_empty = refl
+
+-- ---- the text behind the first word
+
+pub text_first : (line word behind : List ℕ) → parts 32 line ≡ word ∷ parts 32 behind → 0 < length word → text_behind line ≡ behind
+unfolding text_behind
+text_first line word behind e some =
+    ap (λ (ps : List (List ℕ)). join_with_byte 32 (behind_word ps)) e ∙ rw (lt-ltb 0 (length word) some) (join_with_byte-slice_split 32 behind)
+
+pub text_skipped : (line behind word : List ℕ) → parts 32 line ≡ word ∷ parts 32 behind → length word ≡ 0 → text_behind line ≡ text_behind behind
+unfolding text_behind
+text_skipped line behind word e none = ap (λ (ps : List (List ℕ)). join_with_byte 32 (behind_word ps)) e ∙ rw none refl
+
+pub text_last : (line : List ℕ) → parts 32 line ≡ line ∷ [] → 0 < length line → text_behind line ≡ []
+unfolding text_behind
+text_last line e some = ap (λ (ps : List (List ℕ)). join_with_byte 32 (behind_word ps)) e ∙ rw (lt-ltb 0 (length line) some) refl

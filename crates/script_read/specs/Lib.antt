@@ -2,6 +2,10 @@ pub mod Words
 pub mod Grammar
 pub mod Lines
 pub mod Says
+pub mod EditSays
 pub mod Outcomes
+pub mod EditLines
+pub mod Edits
 pub mod Plan
 pub mod Reading
+pub mod EditReading

@@ -1,5 +1,6 @@
 -- The lines of a text, their words, and the numbers and bytes that words write.
 use Rattle.std.specs.Prelude.{ℕ, ◌-◌, ◌==◌, ◌&&◌, Bool, nat_lt, nat_le, List, [], ◌∷◌, filter, length, take, slice_index, Option, Some, None, if◌then◌else◌}
+use Rattle.std.specs.List.{join_with_byte}
 use Rattle.std.specs.Str.{all_ascii_digits}
 use Rattle.std.specs.Str.Parse.{digits_value}
 use Rattle.std.specs.Result.{result_ok}
@@ -27,6 +28,15 @@ is_some_word word = nat_lt 0 (length word)
 -- the words of a line, which one or more spaces part; spaces at its ends don't count
 unfoldable pub words_of : List ℕ → List (List ℕ)
 words_of line = filter is_some_word (parts 32 line)
+
+-- of the parts of a line, those behind its first word
+abbrev pub behind_word : List (List ℕ) → List (List ℕ)
+behind_word [] = []
+behind_word (part ∷ more) = if is_some_word part then more else behind_word more
+
+-- what stands behind the first word of a line and one space
+unfoldable pub text_behind : List ℕ → List ℕ
+text_behind line = join_with_byte 32 (behind_word (parts 32 line))
 
 -- 1 to 10 digits, zeros in front among them
 abbrev pub is_numeral : List ℕ → Bool

@@ -43,7 +43,7 @@ fn read_store(word: &[u8]) -> Option<Command>
 }
 
 /// The voice of a word of hex digits.
-fn voice_of(alloc: Global, word: &[u8]) -> Result<Option<Command>, AllocError>
+pub(crate) fn voice_of(alloc: Global, word: &[u8]) -> Result<Option<Command>, AllocError>
     ensures said { IfOk result (λ found. option_map content found ≡ voice_said word.now) }
     ensures range { IfOk result (λ found. IfSome found (λ command. IsInRange (content command))) }
 {

@@ -1,6 +1,9 @@
 //! Scripts: bytes from which the commands of a run are read, each with the block at which it is due.
 #![tactic(auto)]
 
+mod edit_line;
+mod edit_lines;
+mod editing;
 mod grammar;
 mod line;
 mod lines;

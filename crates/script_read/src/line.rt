@@ -44,7 +44,7 @@ pub(crate) fn read_line(alloc: Global, line: &[u8]) -> Result<Line, AllocError>
 }
 
 /// Whether the very first byte is a number sign.
-fn starts_comment(line: &[u8]) -> bool
+pub(crate) fn starts_comment(line: &[u8]) -> bool
     ensures { result ≡ is_comment line.now }
 {
     match line {

@@ -201,7 +201,7 @@ impl Progress {
 }
 
 /// The refusal of a line.
-fn refused(number: u32, kind: ScriptKind) -> ScriptFault
+pub(crate) fn refused(number: u32, kind: ScriptKind) -> ScriptFault
     ensures { result ≡ ScriptFault.Refused (Place.Line number) kind }
 {
     ScriptFault::Refused {
@@ -211,7 +211,7 @@ fn refused(number: u32, kind: ScriptKind) -> ScriptFault
 }
 
 /// What is wrong with a line's block.
-fn fault_of_block(block: u32, least: u32, bounds: Bounds) -> Option<ScriptKind>
+pub(crate) fn fault_of_block(block: u32, least: u32, bounds: Bounds) -> Option<ScriptKind>
     ensures { result ≡ time_fault bounds.blocks least block }
 {
     if block < least {

@@ -1,4 +1,4 @@
-ghost use Rattle.std.specs.Prelude.{◌≡◌, ◌<◌, ◌≤◌, [], ◌∷◌, length, All, Err, IfOk, IfSome, Option, ℕ};
+ghost use Rattle.std.specs.Prelude.{◌≡◌, ◌<◌, ◌≤◌, ◌||◌, [], ◌∷◌, bytes_eq, codes, length, All, Err, IfOk, IfSome, Option, ℕ};
 ghost use Rattle.script_plan.specs.Plan.{PlannedData};
 ghost use Rattle.script_outcome.specs.declared.fault.Place.{Place};
 ghost use Rattle.script_outcome.specs.declared.fault.ScriptKind.{ScriptKind};
@@ -7,6 +7,7 @@ ghost use Rattle.script_outcome.specs.Plan.{Commands, Refused, TooMany};
 ghost use Rattle.script_read.specs.Plan.{is_midi_file, is_stream, lines_outcomes, outcomes, plan};
 ghost use Rattle.script_outcome.specs.Reading.{Settles};
 
+use crate::edit_lines::read_edit_lines;
 use crate::lines::{read_lines, without_return};
 use crate::stream::read_stream;
 use plain_text::{cut, is_word};
@@ -110,20 +111,25 @@ fn read_kind(
     if is_word(first, b"midi 1") {
         read_lines(alloc, rest, maps, bounds)
     } else if is_word(first, b"edit 1") {
-        Err(at_first(ScriptKind::NotYet))
+        read_edit_lines(alloc, rest, bounds)
     } else {
         Err(at_first(ScriptKind::Kind))
     }
+}
+
+/// Whether a line tells a kind of text.
+fn is_text_kind(line: &[u8]) -> bool
+    ensures { result ≡ (bytes_eq line.now (codes "midi 1") || bytes_eq line.now (codes "edit 1")) }
+{
+    is_word(line, b"midi 1") || is_word(line, b"edit 1")
 }
 
 /// Reads a text of one line without a line feed.
 fn read_lone(alloc: Global, line: &[u8]) -> Result<Script, ScriptFault>
     ensures { (blocks : Option ℕ) (room : ℕ) → Settles result room (lines_outcomes blocks (line.now ∷ [])) }
 {
-    if is_word(line, b"midi 1") {
+    if is_text_kind(line) {
         Ok(Script::new(alloc))
-    } else if is_word(line, b"edit 1") {
-        Err(at_first(ScriptKind::NotYet))
     } else {
         Err(at_first(ScriptKind::Kind))
     }

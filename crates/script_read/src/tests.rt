@@ -2,7 +2,8 @@
 
 use super::*;
 use plain_text::{LineText, push_number, push_text};
-use script_outcome::push_script_text;
+use script_outcome::{Bounds, Place, ScriptFault, ScriptKind, push_script_text};
+use script_plan::Script;
 use std::alloc::{AllocError, Global};
 use std::process::Abort;
 use std::test::Fail;
@@ -168,7 +169,7 @@ fn texts_are_refused(rt: HostRuntime) -> Result<(), Fail> {
         (b"midi 1\r\r\n", b"line 1: kind"),
         (b"#\nmidi 1\n", b"line 1: kind"),
         (b"\xEF\xBB\xBFmidi 1\n", b"line 1: kind"),
-        (b"edit 1\n0 undo\n", b"line 1: not yet"),
+        (b"edit 1 \n0 undo\n", b"line 1: kind"),
         (b"MThd\0\0\0\x06", b"line 1: not yet"),
         (b"midi 1\n\n # x\n", b"line 3: line"),
         (b"midi 1\nmap\n", b"line 2: line"),
@@ -198,6 +199,137 @@ fn texts_are_refused(rt: HostRuntime) -> Result<(), Fail> {
         ),
     ];
     judge(&rt, alloc, &maps, &rows)?;
+    Ok(())
+}
+
+#[test]
+fn edits_are_read(rt: HostRuntime) -> Result<(), Fail> {
+    let alloc = rt.alloc();
+    let maps = make_maps!(alloc);
+    let rows: [(&[u8], &[u8]); 8] = [
+        (b"edit 1", b""),
+        (b"edit 1\n\n  \r\n# 0 undo\n", b""),
+        (
+            b"edit 1\n0 set 134 4\n0 undo\n10 store 3\n",
+            b"0 param 134 4\n0 param 134 0\n10 store 3\n",
+        ),
+        (
+            b"edit 1\r\n  007  set 0144   0048 \r\n",
+            b"7 param 144 48\n",
+        ),
+        (
+            b"edit 1\n0 set 134 4\n1 set 135 7\n2 undo\n3 undo\n4 redo\n5 redo",
+            b"0 param 134 4\n1 param 135 7\n2 param 135 0\n3 param 134 0\n4 param 134 4\n5 param 135 7\n",
+        ),
+        (
+            b"edit 1\n0 set 134 4\n0 undo\n0 store 31\n0 redo\n",
+            b"0 param 134 4\n0 param 134 0\n0 store 31\n0 param 134 4\n",
+        ),
+        (
+            b"edit 1\n0 set 134 4\n0 set 134 4\n0 undo\n0 undo\n",
+            b"0 param 134 4\n0 param 134 4\n0 param 134 4\n0 param 134 0\n",
+        ),
+        (b"edit 1\n99 set 154 127\n", b"99 param 154 127\n"),
+    ];
+    judge(&rt, alloc, &maps, &rows)?;
+    Ok(())
+}
+
+#[test]
+fn edits_are_refused(rt: HostRuntime) -> Result<(), Fail> {
+    let alloc = rt.alloc();
+    let maps = make_maps!(alloc);
+    let rows: [(&[u8], &[u8]); 28] = [
+        (b"edit 1\n0 undo\n", b"line 2: undo"),
+        (b"edit 1\n0 redo\n", b"line 2: redo"),
+        (
+            b"edit 1\n0 set 134 4\n0 undo\n0 set 134 5\n0 redo\n",
+            b"line 5: redo",
+        ),
+        (b"edit 1\n0 set 134 32\n", b"line 2: value"),
+        (b"edit 1\n0 set 134 256\n", b"line 2: value"),
+        (b"edit 1\n0 set 134 4294967295\n", b"line 2: value"),
+        (b"edit 1\n0 set 134 4294967296\n", b"line 2: line"),
+        (b"edit 1\n0 set 155 1\n", b"line 2: line"),
+        (b"edit 1\n0 set 134\n", b"line 2: line"),
+        (b"edit 1\n0 set 134 4 5\n", b"line 2: line"),
+        (b"edit 1\n0 undo 1\n", b"line 2: line"),
+        (b"edit 1\n0\n", b"line 2: line"),
+        (b"edit 1\nundo\n", b"line 2: line"),
+        (b"edit 1\nmap soft\n", b"line 2: line"),
+        (b"edit 1\n0 bytes F8\n", b"line 2: line"),
+        (b"edit 1\n0 on 0 60 100\n", b"line 2: line"),
+        (b"edit 1\n0 param 134 4\n", b"line 2: line"),
+        (b"edit 1\n0 store 32\n", b"line 2: line"),
+        (b"edit 1\n0 voice 00\n", b"line 2: line"),
+        (b"edit 1\n0 name\n", b"line 2: line"),
+        (b"edit 1\n0 name \r\n", b"line 2: line"),
+        (b"edit 1\n0 name ELEVENBYTES\n", b"line 2: line"),
+        (b"edit 1\n0 name a\x7f\n", b"line 2: line"),
+        (b"edit 1\n0 name a\tb\n", b"line 2: line"),
+        (b"edit 1\n5 set 134 4\n4 undo\n", b"line 3: falls"),
+        (b"edit 1\n5 set 134 4\n4 set 134 32\n", b"line 3: falls"),
+        (b"edit 1\n100 undo\n", b"line 2: late"),
+        (b"edit 1\n100 set 134 32\n", b"line 2: late"),
+    ];
+    judge(&rt, alloc, &maps, &rows)?;
+    Ok(())
+}
+
+#[test]
+fn names_are_taken_whole(rt: HostRuntime) -> Result<(), Fail> {
+    let alloc = rt.alloc();
+    let maps = make_maps!(alloc);
+    let rows: [(&[u8], &[u8]); 6] = [
+        (b"edit 1\n0 name A\n", b"41202020202020202020\n"),
+        (b"edit 1\n  0   name  ~ # \r\n", b"207e2023202020202020\n"),
+        (b"edit 1\n0 name 0123456789", b"30313233343536373839\n"),
+        (b"edit 1\n0 name  \n", b"20202020202020202020\n"),
+        (b"edit 1\n0 name A\n0 undo\n", b"494e495420564f494345\n"),
+        (
+            b"edit 1\n0 name A\n0 undo\n0 redo\n",
+            b"41202020202020202020\n",
+        ),
+    ];
+    for (bytes, name) in rows {
+        let text = told(alloc, &maps, bytes, None, 3)?;
+        assert!(rt;
+            text.starts_with(b"0 voice 6363") && text.ends_with(name),
+            "{bytes:?}"
+        );
+    }
+    Ok(())
+}
+
+#[test]
+fn edits_are_bounded(rt: HostRuntime) -> Result<(), Fail> {
+    let alloc = rt.alloc();
+    let maps = make_maps!(alloc);
+    // one act more than can be undone
+    let mut text = Vec::from_slice(alloc, b"edit 1\n")?;
+    for _ in 0..101u8 {
+        text.extend_from_slice(b"0 set 134 4\n")?;
+    }
+    for _ in 0..100u8 {
+        text.extend_from_slice(b"0 undo\n")?;
+    }
+    let read = told(alloc, &maps, &text, None, 201)?;
+    assert!(rt; read.ends_with(b"0 param 134 4\n"));
+    let many = told(alloc, &maps, &text, None, 200)?;
+    assert_eq!(rt; many.as_slice(), b"too many".as_slice());
+    text.extend_from_slice(b"0 undo\n")?;
+    let refused = told(alloc, &maps, &text, None, 300)?;
+    assert_eq!(rt; refused.as_slice(), b"line 203: undo".as_slice());
+    // whole voices
+    let mut voice = Vec::from_slice(alloc, b"edit 1\n0  voice  0a")?;
+    voice.resize(327, b'0')?;
+    voice.extend_from_slice(b" \n0 undo\n")?;
+    let read = told(alloc, &maps, &voice, None, 2)?;
+    assert!(rt; read.starts_with(b"0 voice 0a00") && read.ends_with(b"494e495420564f494345\n"));
+    let mut voice = Vec::from_slice(alloc, b"edit 1\n0  voice  0A")?;
+    voice.resize(327, b'0')?;
+    let refused = told(alloc, &maps, &voice, None, 2)?;
+    assert_eq!(rt; refused.as_slice(), b"line 2: line".as_slice());
     Ok(())
 }
 

@@ -2,18 +2,19 @@
 
 ghost use Rattle.std.specs.Prelude.{◌≡◌, ◌≤◌, ◌↔◌, ◌&&◌, [], ◌∷◌, IfNone, IfSome, IsTrue, length, nat_le, if◌then◌else◌, Some, None};
 ghost use Rattle.std.specs.Int.{IsInRange};
-ghost use Rattle.script_read.specs.Words.{number_to, words_of};
+ghost use Rattle.script_read.specs.Words.{number_to, text_behind, words_of};
 
 use plain_text::cut;
 
 /// The most digits of a number, zeros in front among them.
 const DIGITS: usize = 10;
 
-/// The first word of a line and what stands behind it, where there is one.
+/// The first word of a line and what stands behind it and one space, where there is a word.
 #[tactic(auto, unfolding(crate::specs::Words::words_of))]
 pub(crate) fn next_word(line: &[u8]) -> Option<(&[u8], &[u8])>
     ensures none { IfNone result (words_of line.now ≡ []) }
     ensures some { IfSome result (λ r. words_of line.now ≡ r.0.now ∷ words_of r.1.now) }
+    ensures behind { IfSome result (λ r. text_behind line.now ≡ r.1.now) }
 {
     let mut rest = line;
     while let Some((word, behind)) = cut(rest, b' ') {

@@ -1,0 +1,258 @@
+//! One line of an `edit 1` script.
+
+ghost use Rattle.std.specs.Prelude.{◌≡◌, ◌≤◌, ◌^◌, ◌-◌, ◌&&◌, ◌++◌, [], ◌∷◌, option_and_then, option_map, nat_lt, nat_le, length, replicate, IfOk, IfSome, IsTrue};
+ghost use Rattle.std.specs.List.{list_all};
+ghost use Rattle.command_set.specs.Command.{content};
+ghost use Rattle.script_read.specs.Words.{number_to, text_behind, words_of};
+ghost use Rattle.script_read.specs.Grammar.{voice_said};
+ghost use Rattle.script_read.specs.EditLines.{Loads, Puts, Renames, alone_asked, asked, asked_at, edit_said, is_name_byte, name_said, one_asked, set_said, two_asked, voice_taken, words_asked};
+ghost use Rattle.script_read.specs.EditSays.{IsSoundAsk, IsSoundLine, asks, edit_says};
+
+use crate::grammar::voice_of;
+use crate::line::starts_comment;
+use crate::words::{next_word, read_number};
+use command_set::Command;
+use plain_text::is_word;
+use std::alloc::{AllocError, Global};
+use voice_record::Voice;
+
+/// The bytes of a name.
+const NAME: usize = 10;
+
+/// What an editor is asked for.
+#[derive(Drop)]
+pub(crate) enum Ask {
+    /// A number of the voice, 0 to 154, set to a value, which may be above its greatest.
+    Set { number: u8, value: u32 },
+    /// The last act taken back.
+    Undo,
+    /// The act done again that was taken back last.
+    Redo,
+    /// Another name.
+    Rename([u8; 10]),
+    /// Another voice.
+    Load(Box<Voice>),
+    /// The voice put into a slot, 0 to 31, of the instrument.
+    Store { slot: u8 },
+}
+
+/// What a line says.
+#[derive(Drop)]
+pub(crate) enum EditLine {
+    /// Nothing: it is passed over.
+    Blank,
+    /// Something is asked for at a block.
+    Asks { block: u32, ask: Ask },
+    /// It isn't of the grammar.
+    Wrong,
+}
+
+/// Reads a line, without its line feed.
+#[tactic(auto, unfolding(crate::specs::EditLines::edit_said, crate::specs::EditLines::edit_words_said))]
+pub(crate) fn read_edit_line(alloc: Global, line: &[u8]) -> Result<EditLine, AllocError>
+    ensures said { IfOk result (λ found. edit_says found ≡ edit_said line.now) }
+    ensures sound { IfOk result IsSoundLine }
+{
+    if starts_comment(line) {
+        return Ok(EditLine::Blank);
+    }
+    match next_word(line) {
+        None => Ok(EditLine::Blank),
+        Some((word, behind)) => match read_number(word, u32::MAX) {
+            None => Ok(EditLine::Wrong),
+            Some(block) => match read_ask(alloc, behind) {
+                Ok(ask) => Ok(line_of(block, ask)),
+                Err(fault) => Err(fault),
+            },
+        },
+    }
+}
+
+/// The line of what is asked for, where there is something.
+fn line_of(block: u32, ask: Option<Ask>) -> EditLine
+    requires { IfSome ask IsSoundAsk }
+    ensures said { edit_says result ≡ asked_at block (option_map asks ask) }
+    ensures sound { IsSoundLine result }
+{
+    match ask {
+        Some(ask) => EditLine::Asks { block, ask },
+        None => EditLine::Wrong,
+    }
+}
+
+/// What stands behind a block.
+fn read_ask(alloc: Global, behind: &[u8]) -> Result<Option<Ask>, AllocError>
+    ensures said { IfOk result (λ found. option_map asks found ≡ asked (text_behind behind.now) (words_of behind.now)) }
+    ensures sound { IfOk result (λ found. IfSome found IsSoundAsk) }
+{
+    match next_word(behind) {
+        None => Ok(None),
+        Some((kind, rest)) => {
+            if is_word(kind, b"name") {
+                Ok(read_rename(rest))
+            } else {
+                read_words(alloc, kind, rest)
+            }
+        }
+    }
+}
+
+/// What a kind and the words behind it ask for.
+fn read_words(alloc: Global, kind: &[u8], rest: &[u8]) -> Result<Option<Ask>, AllocError>
+    ensures said { IfOk result (λ found. option_map asks found ≡ words_asked kind.now (words_of rest.now)) }
+    ensures sound { IfOk result (λ found. IfSome found IsSoundAsk) }
+{
+    match next_word(rest) {
+        None => Ok(read_alone(kind)),
+        Some((first, rest)) => match next_word(rest) {
+            None => read_one(alloc, kind, first),
+            Some((second, rest)) => match next_word(rest) {
+                None => Ok(read_two(kind, first, second)),
+                Some(_) => Ok(None),
+            },
+        },
+    }
+}
+
+fn read_alone(kind: &[u8]) -> Option<Ask>
+    ensures said { option_map asks result ≡ alone_asked kind.now }
+    ensures sound { IfSome result IsSoundAsk }
+{
+    if is_word(kind, b"undo") {
+        Some(Ask::Undo)
+    } else if is_word(kind, b"redo") {
+        Some(Ask::Redo)
+    } else {
+        None
+    }
+}
+
+fn read_one(alloc: Global, kind: &[u8], word: &[u8]) -> Result<Option<Ask>, AllocError>
+    ensures said { IfOk result (λ found. option_map asks found ≡ one_asked kind.now word.now) }
+    ensures sound { IfOk result (λ found. IfSome found IsSoundAsk) }
+{
+    if is_word(kind, b"voice") {
+        read_load(alloc, word)
+    } else if is_word(kind, b"store") {
+        Ok(read_store(word))
+    } else {
+        Ok(None)
+    }
+}
+
+fn read_store(word: &[u8]) -> Option<Ask>
+    ensures said { option_map asks result ≡ option_map Puts (number_to 31 word.now) }
+    ensures sound { IfSome result IsSoundAsk }
+{
+    match read_number(word, 31) {
+        Some(slot) => Some(Ask::Store { slot: slot as u8 }),
+        None => None,
+    }
+}
+
+/// The voice of a word of hex digits.
+fn read_load(alloc: Global, word: &[u8]) -> Result<Option<Ask>, AllocError>
+    ensures said { IfOk result (λ found. option_map asks found ≡ option_map Loads (option_and_then voice_taken (voice_said word.now))) }
+    ensures sound { IfOk result (λ found. IfSome found IsSoundAsk) }
+{
+    match voice_of(alloc, word) {
+        Ok(Some(command)) => Ok(load_of(command)),
+        Ok(None) => Ok(None),
+        Err(fault) => Err(fault),
+    }
+}
+
+/// The voice of a command that takes one.
+fn load_of(command: Command) -> Option<Ask>
+    ensures said { option_map asks result ≡ option_map Loads (voice_taken (content command)) }
+    ensures sound { IfSome result IsSoundAsk }
+{
+    match command {
+        Command::Voice(voice) => Some(Ask::Load(voice)),
+        _ => None,
+    }
+}
+
+fn read_two(kind: &[u8], first: &[u8], second: &[u8]) -> Option<Ask>
+    ensures said { option_map asks result ≡ two_asked kind.now first.now second.now }
+    ensures sound { IfSome result IsSoundAsk }
+{
+    if is_word(kind, b"set") {
+        read_set(first, second)
+    } else {
+        None
+    }
+}
+
+fn read_set(number: &[u8], value: &[u8]) -> Option<Ask>
+    ensures said { option_map asks result ≡ set_said (number_to 154 number.now) (number_to (2 ^ 32 - 1) value.now) }
+    ensures sound { IfSome result IsSoundAsk }
+{
+    let number = read_number(number, 154)?;
+    let value = read_number(value, u32::MAX)?;
+    Some(Ask::Set {
+        number: number as u8,
+        value,
+    })
+}
+
+fn read_rename(text: &[u8]) -> Option<Ask>
+    ensures said { option_map asks result ≡ option_map Renames (name_said text.now) }
+    ensures sound { IfSome result IsSoundAsk }
+{
+    match read_name(text) {
+        Some(name) => Some(Ask::Rename(name)),
+        None => None,
+    }
+}
+
+/// A name of 1 to 10 bytes, filled with spaces.
+#[tactic(auto, unfolding(crate::specs::EditLines::name_said))]
+fn read_name(text: &[u8]) -> Option<[u8; 10]>
+    ensures { result ≡ name_said text.now }
+{
+    if is_name(text) {
+        Some(filled(text))
+    } else {
+        None
+    }
+}
+
+/// Whether a text may be a name.
+fn is_name(text: &[u8]) -> bool
+    ensures value { result ≡ ((nat_lt 0 (length text.now) && nat_le (length text.now) 10) && list_all is_name_byte text.now) }
+    ensures short { IsTrue result → length text.now ≤ 10 }
+{
+    is_short(text) && has_name_bytes(text)
+}
+
+/// Whether a text has 1 to 10 bytes.
+fn is_short(text: &[u8]) -> bool
+    ensures value { result ≡ (nat_lt 0 (length text.now) && nat_le (length text.now) 10) }
+    ensures short { IsTrue result → length text.now ≤ 10 }
+{
+    !text.is_empty() && text.len() <= NAME
+}
+
+fn has_name_bytes(text: &[u8]) -> bool
+    ensures { result ≡ list_all is_name_byte text.now }
+{
+    text.iter().all(|byte| is_name_byte(*byte))
+}
+
+/// Whether a name may have a byte, from the space to the tilde.
+fn is_name_byte(byte: u8) -> bool
+    ensures { result ≡ is_name_byte byte }
+{
+    b' ' <= byte && byte <= b'~'
+}
+
+/// A text of at most ten bytes, filled with spaces to ten.
+fn filled(text: &[u8]) -> [u8; 10]
+    requires { length text.now ≤ 10 }
+    ensures { result ≡ text.now ++ replicate (10 - length text.now) 32 }
+{
+    let mut name = [b' '; NAME];
+    name[..text.len()].copy_from_slice(text);
+    name
+}

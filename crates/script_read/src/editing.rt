@@ -1,0 +1,204 @@
+//! A script of edits in the middle of its lines.
+
+ghost use Rattle.std.specs.Prelude.{◌≡◌, ◌≤◌, IfErr, IfOk};
+ghost use Rattle.command_set.specs.Command.{IsInRange, content};
+ghost use Rattle.script_read.specs.EditLines.{Redoes, Sets, Undoes};
+ghost use Rattle.script_read.specs.EditSays.{IsSoundAsk, asks};
+ghost use Rattle.script_read.specs.Edits.{Becomes, answered};
+ghost use Rattle.script_read.specs.EditReading.{IsRefusal};
+
+use crate::edit_line::{Ask, EditLine};
+use crate::progress::{fault_of_block, refused};
+use command_set::Command;
+use editor::{EditFault, Editor};
+use script_outcome::{Bounds, Place, ScriptFault, ScriptKind, give};
+use script_plan::Script;
+use std::alloc::{AllocError, Global};
+use voice_record::{Voice, greatest};
+
+/// How many acts can be undone.
+const DEPTH: usize = 100;
+
+/// Where the reader of edits stands behind some lines.
+#[derive(Drop)]
+pub(crate) struct Editing {
+    pub(crate) editor: Editor,
+    pub(crate) script: Script,
+    /// The block of the last line that has one.
+    pub(crate) least: u32,
+    /// The number of the next line.
+    pub(crate) number: u32,
+}
+
+impl Editing {
+    ghost use Rattle.std.specs.Prelude.{ℕ, List, Option, ◌≡◌, ◌+◌, ◌^◌, ◌-◌, ◌<◌, [], ◌∷◌, ◌++◌, IfErr, IfOk, OnOk};
+    ghost use Rattle.script_read.specs.EditLines.{Asks, Bad, EditSaid, Passed};
+    ghost use Rattle.script_read.specs.EditSays.{IsSoundAsk, IsSoundLine, asks, edit_says};
+    ghost use Rattle.script_read.specs.Edits.{edits_behind};
+    ghost use Rattle.script_read.specs.EditReading.{HasEditOrder, IsEditing};
+    ghost use Rattle.script_outcome.specs.Reading.{Stops};
+
+    /// Before the line behind the first, with the opening voice. It takes the memory that an editor needs.
+    pub(crate) fn new(alloc: Global) -> Result<Editing, AllocError>
+        ensures behind { IfOk result (λ p. (blocks : Option ℕ) → IsEditing p blocks []) }
+        ensures order { IfOk result (λ p. (room : ℕ) → HasEditOrder p room) }
+        ensures number { IfOk result (λ p. p.number ≡ 2) }
+    {
+        match Editor::new(alloc, &Voice::init(), DEPTH) {
+            Ok(editor) => Ok(Editing {
+                editor,
+                script: Script::new(alloc),
+                least: 0,
+                number: 2,
+            }),
+            Err(fault) => Err(fault),
+        }
+    }
+
+    /// Takes what the next line says.
+    pub(crate) fn take(
+        &mut self,
+        alloc: Global,
+        said: EditLine,
+        bounds: Bounds,
+    ) -> Result<(), ScriptFault>
+        requires order { HasEditOrder self.old bounds.room }
+        requires number { self.old.number < 2 ^ 32 - 1 }
+        requires sound { IsSoundLine said }
+        ensures behind { OnOk result ((lines : List EditSaid) → IsEditing self.old bounds.blocks lines → IsEditing self.new bounds.blocks (lines ++ edit_says said ∷ [])) }
+        ensures order { OnOk result (HasEditOrder self.new bounds.room) }
+        ensures number { OnOk result (self.new.number ≡ self.old.number + 1) }
+        ensures stops { IfErr result (λ why. (lines : List EditSaid) → IsEditing self.old bounds.blocks lines
+            → Stops why bounds.room (edits_behind bounds.blocks [] (lines ++ edit_says said ∷ []))) }
+    {
+        match said {
+            EditLine::Blank => {
+                self.pass_over();
+                Ok(())
+            }
+            EditLine::Asks { block, ask } => self.take_ask(alloc, block, ask, bounds),
+            EditLine::Wrong => Err(self.refuse()),
+        }
+    }
+
+    /// Passes over the next line.
+    fn pass_over(&mut self)
+        requires { self.old.number < 2 ^ 32 - 1 }
+        ensures behind { (blocks : Option ℕ) (lines : List EditSaid) → IsEditing self.old blocks lines → IsEditing self.new blocks (lines ++ Passed ∷ []) }
+        ensures order { (room : ℕ) → HasEditOrder self.old room → HasEditOrder self.new room }
+        ensures number { self.new.number ≡ self.old.number + 1 }
+    {
+        self.number += 1;
+    }
+
+    /// The refusal of a next line that isn't of the grammar.
+    fn refuse(&self) -> ScriptFault
+        ensures { (blocks : Option ℕ) (room : ℕ) (lines : List EditSaid) → IsEditing self.now blocks lines → HasEditOrder self.now room
+            → Stops result room (edits_behind blocks [] (lines ++ Bad ∷ [])) }
+    {
+        refused(self.number, ScriptKind::Line)
+    }
+
+    /// Takes what is asked for at a block.
+    fn take_ask(
+        &mut self,
+        alloc: Global,
+        block: u32,
+        ask: Ask,
+        bounds: Bounds,
+    ) -> Result<(), ScriptFault>
+        requires order { HasEditOrder self.old bounds.room }
+        requires number { self.old.number < 2 ^ 32 - 1 }
+        requires sound { IsSoundAsk ask }
+        ensures behind { OnOk result ((lines : List EditSaid) → IsEditing self.old bounds.blocks lines → IsEditing self.new bounds.blocks (lines ++ Asks block (asks ask) ∷ [])) }
+        ensures order { OnOk result (HasEditOrder self.new bounds.room) }
+        ensures number { OnOk result (self.new.number ≡ self.old.number + 1) }
+        ensures stops { IfErr result (λ why. (lines : List EditSaid) → IsEditing self.old bounds.blocks lines
+            → Stops why bounds.room (edits_behind bounds.blocks [] (lines ++ Asks block (asks ask) ∷ []))) }
+    {
+        match fault_of_block(block, self.least, bounds) {
+            Some(kind) => return Err(refused(self.number, kind)),
+            None => {}
+        }
+        let command = match answer(alloc, &mut self.editor, ask, self.number) {
+            Ok(command) => command,
+            Err(fault) => return Err(fault),
+        };
+        match give(&mut self.script, block, command, bounds.room) {
+            Ok(()) => {
+                self.least = block;
+                self.number += 1;
+                Ok(())
+            }
+            Err(fault) => Err(fault),
+        }
+    }
+}
+
+/// What the editor answers. A refusal names the line.
+#[tactic(auto, unfolding(crate::specs::Edits::answered))]
+fn answer(alloc: Global, editor: &mut Editor, ask: Ask, line: u32) -> Result<Command, ScriptFault>
+    requires { IsSoundAsk ask }
+    ensures answered { IfOk result (λ command. answered editor.old (asks ask) ≡ Becomes editor.new (content command)) }
+    ensures range { IfOk result (λ command. IsInRange (content command)) }
+    ensures refused { IfErr result (λ why. IsRefusal why (Place.Line line) (answered editor.old (asks ask))) }
+{
+    match ask {
+        Ask::Set { number, value } => set(editor, number, value, line),
+        Ask::Undo => undo(alloc, editor, line),
+        Ask::Redo => redo(alloc, editor, line),
+        // the bytes of a name are in range: nothing but memory can be wanting
+        Ask::Rename(name) => match editor.rename(alloc, &name) {
+            Ok(command) => Ok(command),
+            Err(_) => Err(ScriptFault::Memory),
+        },
+        Ask::Load(voice) => match editor.load(alloc, &voice) {
+            Ok(command) => Ok(command),
+            Err(_) => Err(ScriptFault::Memory),
+        },
+        Ask::Store { slot } => Ok(Command::Store { slot }),
+    }
+}
+
+/// Sets a number of the voice to a value, which may be above its greatest.
+#[tactic(auto, unfolding(crate::specs::Edits::answered))]
+fn set(editor: &mut Editor, number: u8, value: u32, line: u32) -> Result<Command, ScriptFault>
+    requires { number ≤ 154 }
+    ensures answered { IfOk result (λ command. answered editor.old (Sets number value) ≡ Becomes editor.new (content command)) }
+    ensures range { IfOk result (λ command. IsInRange (content command)) }
+    ensures refused { IfErr result (λ why. IsRefusal why (Place.Line line) (answered editor.old (Sets number value))) }
+{
+    if value > u32::from(greatest(number)) {
+        return Err(refused(line, ScriptKind::Value));
+    }
+    match editor.set(number, value as u8) {
+        Ok(command) => Ok(command),
+        Err(_) => Err(refused(line, ScriptKind::Value)),
+    }
+}
+
+#[tactic(auto, unfolding(crate::specs::Edits::answered))]
+fn undo(alloc: Global, editor: &mut Editor, line: u32) -> Result<Command, ScriptFault>
+    ensures answered { IfOk result (λ command. answered editor.old Undoes ≡ Becomes editor.new (content command)) }
+    ensures range { IfOk result (λ command. IsInRange (content command)) }
+    ensures refused { IfErr result (λ why. IsRefusal why (Place.Line line) (answered editor.old Undoes)) }
+{
+    match editor.undo(alloc) {
+        Ok(command) => Ok(command),
+        Err(EditFault::NothingToUndo) => Err(refused(line, ScriptKind::Undo)),
+        Err(_) => Err(ScriptFault::Memory),
+    }
+}
+
+#[tactic(auto, unfolding(crate::specs::Edits::answered))]
+fn redo(alloc: Global, editor: &mut Editor, line: u32) -> Result<Command, ScriptFault>
+    ensures answered { IfOk result (λ command. answered editor.old Redoes ≡ Becomes editor.new (content command)) }
+    ensures range { IfOk result (λ command. IsInRange (content command)) }
+    ensures refused { IfErr result (λ why. IsRefusal why (Place.Line line) (answered editor.old Redoes)) }
+{
+    match editor.redo(alloc) {
+        Ok(command) => Ok(command),
+        Err(EditFault::NothingToRedo) => Err(refused(line, ScriptKind::Redo)),
+        Err(_) => Err(ScriptFault::Memory),
+    }
+}
