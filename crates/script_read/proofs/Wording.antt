@@ -1,7 +1,8 @@
 -- The first word of a line.
-use Rattle.std.proofs.Common.{◌≡◌, ℕ, ◌<◌, List, [], ◌∷◌, length, refl, ap, ◌∙◌, lt-ltb}
+use Rattle.std.proofs.Common.{◌≡◌, ℕ, ◌<◌, List, [], ◌∷◌, length, zero, suc, Bool, true, false, refl, ap, ◌∙◌, arith, sym, lt-ltb, eqb→eq}
 use Rattle.std.proofs.lemmas.List.Splits.{join_with_byte-slice_split}
-use Rattle.std.specs.Prelude.{filter}
+use Rattle.std.specs.Prelude.{◌==◌, filter, take, drop}
+use Rattle.std.proofs.Math.Seq.{drop-length, take-nil}
 use Rattle.std.specs.List.{join_with_byte}
 use Rattle.plain_text.specs.Parts.{parts}
 use Rattle.script_read.specs.Words.{behind_word, is_some_word, text_behind, words_of}
@@ -41,3 +42,15 @@ text_skipped line behind word e none = ap (λ (ps : List (List ℕ)). join_with_
 pub text_last : (line : List ℕ) → parts 32 line ≡ line ∷ [] → 0 < length line → text_behind line ≡ []
 unfolding text_behind
 text_last line e some = ap (λ (ps : List (List ℕ)). join_with_byte 32 (behind_word ps)) e ∙ rw (lt-ltb 0 (length line) some) refl
+
+-- nothing stands behind a whole text
+pub nothing_behind : (k : ℕ) (text : List ℕ) → take k (drop (length text) text) ≡ []
+nothing_behind k text = ap (take k) (drop-length text) ∙ take-nil k
+
+-- whether a text is empty, by its length
+pub is_some : (n : ℕ) (empty : Bool) → empty ≡ (n == 0) → empty ≡ false → 0 < n
+is_some zero empty is e = absurd (cc)
+is_some (suc n) empty is e = omega arith
+
+pub is_none : (n : ℕ) (empty : Bool) → empty ≡ (n == 0) → empty ≡ true → n ≡ 0
+is_none n empty is e = eqb→eq n 0 (rw (sym is ∙ e) tt)

@@ -1,18 +1,18 @@
 -- What comes of the lines of a text script, and of the bytes of a stream: commands and faults, in reading order.
-use Rattle.std.specs.Prelude.{ℕ, ◌+◌, nat_lt, nat_le, Bool, false, List, [], ◌∷◌, ◌++◌, length, Option, Some, None, if◌then◌else◌}
+use Rattle.std.specs.Prelude.{ℕ, ◌+◌, nat_lt, List, [], ◌∷◌, ◌++◌, length, Option, Some, None, if◌then◌else◌}
 use Rattle.midi_stream.specs.Messages.{is_unfinished}
 use Rattle.velocity_map.specs.declared.curve.Curve.{Curve}
 use Rattle.velocity_map.specs.declared.curve.Curve.TheVariants.{Linear}
 use Rattle.velocity_map.specs.Curve.{curve_value}
 use Rattle.command_set.specs.Command.{CommandData, StartsNote, EndsNote, Bends, Controls, PicksProgram, SetsNumber, StoresVoice, TakesVoice, TakesCartridge}
-use Rattle.command_set.specs.Message.{Told, Tells, PassedOver, Overlong, Faulty, command_of}
-use Rattle.script_plan.specs.Plan.{PlannedData, planned_at}
+use Rattle.script_plan.specs.Plan.{planned_at}
 use Rattle.script_outcome.specs.declared.fault.Place.{Place}
 use Rattle.script_outcome.specs.declared.fault.Place.TheVariants as place
 use Rattle.script_outcome.specs.declared.fault.ScriptKind.{ScriptKind}
 use Rattle.script_outcome.specs.declared.fault.ScriptKind.TheVariants as kind
 use Rattle.script_read.specs.Lines.{Said, Blank, Maps, Orders, Feeds, Wrong}
-use Rattle.script_outcome.specs.Stream.{Heard, heard_with, begun_at}
+use Rattle.script_outcome.specs.Stream.{begun_at}
+use Rattle.script_outcome.specs.Outcomes.{Outcome, Gives, Fails, fed_outcomes, is_late}
 
 -- ---- text
 

@@ -1,9 +1,7 @@
 -- What comes of a script of any kind, and its plan.
-use Rattle.std.specs.Prelude.{ℕ, ◌==◌, nat_lt, Bool, false, List, [], ◌∷◌, length, codes, bytes_eq, Option, if◌then◌else◌}
+use Rattle.std.specs.Prelude.{ℕ, ◌==◌, Bool, false, List, [], ◌∷◌, codes, bytes_eq, Option, if◌then◌else◌}
 use Rattle.std.specs.List.{starts_with}
 use Rattle.std.specs.Prelude.{nat_eq}
-use Rattle.script_plan.specs.Plan.{PlannedData}
-use Rattle.script_outcome.specs.declared.fault.Place.{Place}
 use Rattle.script_outcome.specs.declared.fault.Place.TheVariants as place
 use Rattle.script_outcome.specs.declared.fault.ScriptKind.{ScriptKind}
 use Rattle.script_outcome.specs.declared.fault.ScriptKind.TheVariants as kind
@@ -11,7 +9,8 @@ use Rattle.script_read.specs.Words.{lines_of}
 use Rattle.script_read.specs.Lines.{sayings}
 use Rattle.script_read.specs.EditLines.{edit_sayings}
 use Rattle.script_read.specs.Edits.{edit_text_outcomes}
-use Rattle.script_outcome.specs.Outcomes.{Outcome, Gives, Fails}
+use Rattle.script_outcome.specs.Outcomes.{Outcome, Fails}
+use Rattle.script_outcome.specs.Plan.{Plan, plan_of}
 use Rattle.script_read.specs.Outcomes.{stream_outcomes, text_outcomes}
 
 -- a script that is refused at its first line

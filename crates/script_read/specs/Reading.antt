@@ -1,16 +1,13 @@
 -- What a reader of a script knows in the middle of it.
-use Rattle.std.specs.Prelude.{ℕ, ◌≡◌, ◌+◌, ◌≤◌, List, [], ◌++◌, length, map, Option, Result, MatchResult}
+use Rattle.std.specs.Prelude.{ℕ, ◌≡◌, ◌+◌, ◌≤◌, List, [], ◌++◌, length, Option}
 use Rattle.midi_stream.specs.Reading.{Reads}
 use Rattle.velocity_map.specs.declared.curve.Curve.TheVariants.{Linear}
-use Rattle.script_plan.specs.Plan.{PlannedData, last_due}
-use Rattle.script_outcome.specs.declared.fault.ScriptFault.{ScriptFault}
-use Rattle.script_outcome.specs.declared.fault.ScriptFault.TheVariants as faults
+use Rattle.script_plan.specs.Plan.{last_due}
 use Rattle.script_read.specs.declared.progress.Progress.{Progress}
 use Rattle.script_read.specs.Lines.{Said, sayings}
-use Rattle.script_outcome.specs.Outcomes.{Outcome, Gives}
 use Rattle.script_read.specs.Outcomes.{block_behind, curve_behind, fed_line, outcomes_behind, stream_of}
 use Rattle.script_read.specs.Words.{lines_of}
-use Rattle.script_outcome.specs.Plan.{Refused, TooMany, plan_of}
+use Rattle.script_outcome.specs.Reading.{all_given}
 
 -- the reader of a text stands behind these lines, all of which are good
 pub record IsBehind (p : Progress) (blocks : Option ℕ) (lines : List Said) : Type 0 where

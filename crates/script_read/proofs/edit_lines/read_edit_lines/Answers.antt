@@ -7,14 +7,14 @@ use Rattle.script_read.proofs.EditLining.{within_none, within_more, stopped_at_l
 use Rattle.script_read.proofs.edit_lines.read_edit_lines.Goals as goal
 
 pub loop-line-init : goal.loop-line-init
-loop-line-init g c = record {
+loop-line-init c = record {
   order = c.in-Ok.ensures.order c.args.bounds.room;
   number = let is : c.in-Ok.editing.number ≡ 2 = c.in-Ok.ensures.number in omega arith;
   within = within_none c.in-Ok.editing c.args.bounds.blocks c.args.text.now (c.in-Ok.ensures.behind c.args.bounds.blocks);
 }
 
 pub loop-line-preserved : goal.loop-line-preserved
-loop-line-preserved g c =
+loop-line-preserved c =
     let w = c.loop-line.invariant.within in
     record {
       order = c.in-Ok-take_line.ensures.order;
@@ -25,7 +25,7 @@ loop-line-preserved g c =
     }
 
 pub returns-in-Err-take_line : goal.returns-in-Err-take_line
-returns-in-Err-take_line g c =
+returns-in-Err-take_line c =
     let w = c.loop-line.invariant.within in
     stopped_at_line c.in-Err-take_line.fault c.args.bounds.room c.args.bounds.blocks w.lines c.loop-line.rest.now c.in-Some.line.now c.in-Some.behind.now c.args.text.now
     c.in-Some.ensures.cut w.split
@@ -33,7 +33,7 @@ returns-in-Err-take_line g c =
     (c.in-Err-take_line.ensures.stops w.lines w.behind))
 
 pub returns-in-Ok-take_line-2 : goal.returns-in-Ok-take_line-2
-returns-in-Ok-take_line-2 g c =
+returns-in-Ok-take_line-2 c =
     let w = c.loop-line.invariant.within in
     let now = c.take_line-2.new.editing in
     let b : IsEditing now c.args.bounds.blocks (w.lines ++ edit_said c.loop-line.rest.now ∷ []) = c.in-Ok-take_line-2.ensures.behind w.lines w.behind in
@@ -41,7 +41,7 @@ returns-in-Ok-take_line-2 g c =
     c.in-Ok-take_line-2.ensures.order.few
 
 pub returns-in-Err-take_line-2 : goal.returns-in-Err-take_line-2
-returns-in-Err-take_line-2 g c =
+returns-in-Err-take_line-2 c =
     let w = c.loop-line.invariant.within in
     stopped_at_last c.in-Err-take_line-2.fault c.args.bounds.room c.args.bounds.blocks w.lines c.loop-line.rest.now c.args.text.now c.in_default.ensures.whole w.split
     (c.in-Err-take_line-2.ensures.stops w.lines w.behind)

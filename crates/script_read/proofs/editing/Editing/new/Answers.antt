@@ -4,4 +4,4 @@ use Rattle.script_read.proofs.EditLining.{behind_none}
 use Rattle.script_read.proofs.editing.Editing.new.Goals as goal
 
 pub returns-in-Ok-clause-behind : goal.returns-in-Ok-clause-behind
-returns-in-Ok-clause-behind c = λ blocks. behind_none _ blocks (c.in-Ok.ensures ∙ ap (λ voice. begun voice 100) c.init.ensures.value) c.new.ensures refl refl
+returns-in-Ok-clause-behind c = λ blocks. behind_none _ blocks (c.in-Ok.ensures ∙ ap (λ voice. begun voice 100) c.init.ensures.value) c.new-in-Ok.ensures refl refl
