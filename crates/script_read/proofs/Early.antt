@@ -1,12 +1,9 @@
 -- Each command that comes of a script is due below the number of blocks.
-use Rattle.std.proofs.Common.{◌≡◌, ℕ, ◌<◌, List, [], ◌∷◌, ◌++◌, zero, suc, length, Bool, true, false, cond, refl, arith, leb-false}
-use Rattle.std.specs.Prelude.{All, Option, Some, None, nat_lt, nat_le, bytes_eq, codes, if◌then◌else◌, slice_index_or}
+use Rattle.std.proofs.Common.{◌≡◌, ℕ, ◌<◌, List, [], ◌∷◌, ◌++◌, Bool, true, false, cond, refl}
+use Rattle.std.specs.Prelude.{Some, None, nat_lt, nat_le, bytes_eq, codes, if◌then◌else◌}
 use Rattle.midi_stream.specs.Messages.{is_unfinished}
-use Rattle.velocity_map.specs.declared.curve.Curve.{Curve}
 use Rattle.velocity_map.specs.declared.curve.Curve.TheVariants.{Linear}
-use Rattle.command_set.specs.Message.{Told, Tells, PassedOver, Overlong, Faulty}
-use Rattle.command_set.specs.Message.{command_of}
-use Rattle.script_plan.specs.Plan.{PlannedData, planned_at}
+use Rattle.script_plan.specs.Plan.{planned_at}
 use Rattle.script_outcome.specs.declared.fault.Place.{Place}
 use Rattle.script_outcome.specs.declared.fault.Place.TheVariants as place
 use Rattle.script_outcome.specs.declared.fault.ScriptKind.{ScriptKind}
@@ -15,12 +12,11 @@ use Rattle.script_read.specs.Lines.{Said, Blank, Maps, Orders, Feeds, Wrong, say
 use Rattle.script_read.specs.EditLines.{EditSaid, Passed, Asks, Bad, edit_sayings}
 use Rattle.script_read.specs.Edits.{Answered, Becomes, Refuses, answer_outcomes, answered, edit_block, edit_outcomes, edit_place, edit_text_outcomes, edits_behind, history_behind, opened}
 use Rattle.script_read.specs.Words.{lines_of}
-use Rattle.script_outcome.specs.Stream.{Heard, begun_at, heard_with}
-use Rattle.script_outcome.specs.Outcomes.{Outcome, Gives, Fails, told_outcomes, heard_outcomes, fed_outcomes}
+use Rattle.script_outcome.specs.Stream.{begun_at}
+use Rattle.script_outcome.specs.Outcomes.{Outcome, Gives, Fails, fed_outcomes}
 use Rattle.script_read.specs.Outcomes.{block_behind, timed, line_behind, line_outcomes, outcomes_behind, text_end, text_outcomes, stream_end, stream_outcomes, stream_of, curve_behind, curved, fed_line}
 use Rattle.script_outcome.proofs.Early.{AllEarly, both_early, fed_early, below_all}
 use Rattle.script_read.specs.Plan.{at_first, lines_outcomes, outcomes, is_stream, is_midi_file}
-use Rattle.script_outcome.specs.Reading.{all_given}
 
 timed_early : (blocks : ℕ) (falls late : Bool) (at : Place) (os : List Outcome) → (late ≡ false → AllEarly blocks os)
     → AllEarly blocks (timed (cond falls (Some kind.Falls) (cond late (Some kind.Late) None)) at os)

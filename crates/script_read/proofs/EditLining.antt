@@ -3,7 +3,7 @@ use Rattle.std.proofs.Common.{◌≡◌, ℕ, ◌+◌, ◌≤◌, List, [], ◌�
 use Rattle.std.specs.Prelude.{Option, Some, None}
 use Rattle.plain_text.specs.Parts.{parts}
 use Rattle.command_set.specs.Command.{CommandData}
-use Rattle.script_plan.specs.Plan.{PlannedData, planned_at}
+use Rattle.script_plan.specs.Plan.{planned_at}
 use Rattle.editor.specs.History.{History}
 use Rattle.script_outcome.specs.declared.fault.Place.{Place}
 use Rattle.script_outcome.specs.declared.fault.Place.TheVariants as place
@@ -18,7 +18,7 @@ use Rattle.script_read.specs.Outcomes.{time_fault, timed}
 use Rattle.script_read.specs.EditLines.{Asked, EditSaid, Passed, Asks, Bad, edit_said, edit_sayings}
 use Rattle.script_read.specs.Edits.{Answered, Becomes, Refuses, answer_outcomes, answered, block_then, edit_block, edit_outcomes, edit_place, edit_text_outcomes, edits_behind, history_after, history_behind, history_then, opened}
 use Rattle.script_outcome.specs.Plan.{Refused, plan_of}
-use Rattle.script_outcome.specs.Reading.{Settles, Stops, all_given}
+use Rattle.script_outcome.specs.Reading.{Stops, all_given}
 use Rattle.script_read.specs.EditReading.{IsEditing, IsRefusal, IsWithinEdits}
 use Rattle.script_outcome.proofs.Plans.{fails, stops_more}
 use Rattle.script_read.proofs.Lining.{lines_first, lines_last, timed_none, timed_some}

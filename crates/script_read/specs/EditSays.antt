@@ -1,6 +1,5 @@
 -- What a line of edits that was read says.
-use Rattle.std.specs.Prelude.{ℕ, ◌≤◌, List, Option, None}
-use Rattle.editor.specs.Names.{first_high}
+use Rattle.std.specs.Prelude.{◌≤◌}
 use Rattle.script_read.specs.declared.edit_line.Ask.{Ask}
 use Rattle.script_read.specs.declared.edit_line.Ask.TheVariants as ask
 use Rattle.script_read.specs.declared.edit_line.EditLine.{EditLine}

@@ -1,5 +1,5 @@
 use Rattle.std.proofs.Common.{◌≡◌, ◌++◌, ◌∷◌, [], List, ℕ, subst, arith}
-use Rattle.script_read.specs.EditLines.{EditSaid, edit_said}
+use Rattle.script_read.specs.EditLines.{edit_said}
 use Rattle.script_read.specs.Edits.{edits_behind}
 use Rattle.script_read.specs.EditReading.{IsEditing}
 use Rattle.script_outcome.specs.Reading.{Stops}

@@ -1,4 +1,4 @@
-use Rattle.std.proofs.Common.{length, sym, ◌∙◌}
+use Rattle.std.proofs.Common.{sym, ◌∙◌}
 use Rattle.script_read.proofs.Wording.{is_none, is_some, nothing_behind, text_first, text_last, text_skipped, word_skipped}
 use Rattle.script_read.proofs.words.next_word.Goals as goal
 
