@@ -206,7 +206,7 @@ fn texts_are_refused(rt: HostRuntime) -> Result<(), Fail> {
 fn edits_are_read(rt: HostRuntime) -> Result<(), Fail> {
     let alloc = rt.alloc();
     let maps = make_maps!(alloc);
-    let rows: [(&[u8], &[u8]); 8] = [
+    let rows: [(&[u8], &[u8]); 9] = [
         (b"edit 1", b""),
         (b"edit 1\n\n  \r\n# 0 undo\n", b""),
         (
@@ -230,6 +230,10 @@ fn edits_are_read(rt: HostRuntime) -> Result<(), Fail> {
             b"0 param 134 4\n0 param 134 4\n0 param 134 4\n0 param 134 0\n",
         ),
         (b"edit 1\n99 set 154 127\n", b"99 param 154 127\n"),
+        (
+            b"edit 1\n0 set 134 5\n0 set 134 6\n0 undo\n0 redo\n0 undo\n0 undo\n",
+            b"0 param 134 5\n0 param 134 6\n0 param 134 5\n0 param 134 6\n0 param 134 5\n0 param 134 0\n",
+        ),
     ];
     judge(&rt, alloc, &maps, &rows)?;
     Ok(())
@@ -239,12 +243,20 @@ fn edits_are_read(rt: HostRuntime) -> Result<(), Fail> {
 fn edits_are_refused(rt: HostRuntime) -> Result<(), Fail> {
     let alloc = rt.alloc();
     let maps = make_maps!(alloc);
-    let rows: [(&[u8], &[u8]); 28] = [
+    let rows: [(&[u8], &[u8]); 35] = [
         (b"edit 1\n0 undo\n", b"line 2: undo"),
         (b"edit 1\n0 redo\n", b"line 2: redo"),
         (
             b"edit 1\n0 set 134 4\n0 undo\n0 set 134 5\n0 redo\n",
             b"line 5: redo",
+        ),
+        (
+            b"edit 1\n0 set 134 5\n0 set 134 6\n0 undo\n0 undo\n0 undo\n",
+            b"line 6: undo",
+        ),
+        (
+            b"edit 1\n0 set 134 5\n0 undo\n0 redo\n0 set 134 32\n",
+            b"line 5: value",
         ),
         (b"edit 1\n0 set 134 32\n", b"line 2: value"),
         (b"edit 1\n0 set 134 256\n", b"line 2: value"),
@@ -267,8 +279,13 @@ fn edits_are_refused(rt: HostRuntime) -> Result<(), Fail> {
         (b"edit 1\n0 name ELEVENBYTES\n", b"line 2: line"),
         (b"edit 1\n0 name a\x7f\n", b"line 2: line"),
         (b"edit 1\n0 name a\tb\n", b"line 2: line"),
+        (b"edit 1\n0 name a\x1f\n", b"line 2: line"),
+        (b"edit 1\n0 name a\x80\n", b"line 2: line"),
+        (b"edit 1\n0 name A\r", b"line 2: line"),
+        (b"edit 1\n\n\n0 name 0123456789 \n", b"line 4: line"),
         (b"edit 1\n5 set 134 4\n4 undo\n", b"line 3: falls"),
         (b"edit 1\n5 set 134 4\n4 set 134 32\n", b"line 3: falls"),
+        (b"edit 1\n5 set 134 4\n4 set 155 1\n", b"line 3: line"),
         (b"edit 1\n100 undo\n", b"line 2: late"),
         (b"edit 1\n100 set 134 32\n", b"line 2: late"),
     ];
@@ -326,10 +343,14 @@ fn edits_are_bounded(rt: HostRuntime) -> Result<(), Fail> {
     voice.extend_from_slice(b" \n0 undo\n")?;
     let read = told(alloc, &maps, &voice, None, 2)?;
     assert!(rt; read.starts_with(b"0 voice 0a00") && read.ends_with(b"494e495420564f494345\n"));
-    let mut voice = Vec::from_slice(alloc, b"edit 1\n0  voice  0A")?;
-    voice.resize(327, b'0')?;
-    let refused = told(alloc, &maps, &voice, None, 2)?;
-    assert_eq!(rt; refused.as_slice(), b"line 2: line".as_slice());
+    // a digit in upper case; a number above its greatest value
+    let wrong: [&[u8]; 2] = [b"edit 1\n0  voice  0A", b"edit 1\n0  voice  64"];
+    for begin in wrong {
+        let mut voice = Vec::from_slice(alloc, begin)?;
+        voice.resize(327, b'0')?;
+        let refused = told(alloc, &maps, &voice, None, 2)?;
+        assert_eq!(rt; refused.as_slice(), b"line 2: line".as_slice());
+    }
     Ok(())
 }
 
