@@ -1,5 +1,6 @@
 -- What a line of edits that was read says.
-use Rattle.std.specs.Prelude.{◌≤◌}
+use Rattle.std.specs.Prelude.{◌≡◌, ◌≤◌, None}
+use Rattle.editor.specs.Names.{first_high}
 use Rattle.script_read.specs.declared.edit_line.Ask.{Ask}
 use Rattle.script_read.specs.declared.edit_line.Ask.TheVariants as ask
 use Rattle.script_read.specs.declared.edit_line.EditLine.{EditLine}
@@ -14,12 +15,12 @@ asks (ask.Rename name) = Renames name
 asks (ask.Load boxed) = Loads boxed.value
 asks (ask.Store slot) = Puts slot
 
--- its numbers are in range
+-- its numbers are in range, and the bytes of a name are up to 127
 abbrev pub IsSoundAsk : Ask → Type 0
 IsSoundAsk (ask.Set number value) = number ≤ 154
 IsSoundAsk ask.Undo = Unit {0}
 IsSoundAsk ask.Redo = Unit {0}
-IsSoundAsk (ask.Rename name) = Unit {0}
+IsSoundAsk (ask.Rename name) = first_high name ≡ None
 IsSoundAsk (ask.Load boxed) = Unit {0}
 IsSoundAsk (ask.Store slot) = slot ≤ 31
 

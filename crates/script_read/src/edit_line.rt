@@ -1,8 +1,9 @@
 //! One line of an `edit 1` script.
 
-ghost use Rattle.std.specs.Prelude.{◌≡◌, ◌≤◌, ◌^◌, ◌-◌, ◌&&◌, ◌++◌, [], ◌∷◌, option_and_then, option_map, nat_lt, nat_le, length, replicate, IfOk, IfSome, IsTrue};
+ghost use Rattle.std.specs.Prelude.{None, ◌≡◌, ◌≤◌, ◌^◌, ◌-◌, ◌&&◌, ◌++◌, [], ◌∷◌, option_and_then, option_map, nat_lt, nat_le, length, replicate, IfOk, IfSome, IsTrue};
 ghost use Rattle.std.specs.List.{list_all};
 ghost use Rattle.command_set.specs.Command.{content};
+ghost use Rattle.editor.specs.Names.{first_high};
 ghost use Rattle.script_read.specs.Words.{number_to, text_behind, words_of};
 ghost use Rattle.script_read.specs.Grammar.{voice_said};
 ghost use Rattle.script_read.specs.EditLines.{Loads, Puts, Renames, alone_asked, asked, asked_at, edit_said, is_name_byte, name_said, one_asked, set_said, two_asked, voice_taken, words_asked};
@@ -209,7 +210,8 @@ fn read_rename(text: &[u8]) -> Option<Ask>
 /// A name of 1 to 10 bytes, filled with spaces.
 #[tactic(auto, unfolding(crate::specs::EditLines::name_said))]
 fn read_name(text: &[u8]) -> Option<[u8; 10]>
-    ensures { result ≡ name_said text.now }
+    ensures said { result ≡ name_said text.now }
+    ensures sound { IfSome result (λ name. first_high name ≡ None) }
 {
     if is_name(text) {
         Some(filled(text))

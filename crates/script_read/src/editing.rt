@@ -1,8 +1,9 @@
 //! A script of edits in the middle of its lines.
 
-ghost use Rattle.std.specs.Prelude.{◌≡◌, ◌≤◌, IfErr, IfOk};
+ghost use Rattle.std.specs.Prelude.{◌≡◌, ◌≤◌, None, IfErr, IfOk};
 ghost use Rattle.command_set.specs.Command.{IsInRange, content};
-ghost use Rattle.script_read.specs.EditLines.{Redoes, Sets, Undoes};
+ghost use Rattle.editor.specs.Names.{first_high};
+ghost use Rattle.script_read.specs.EditLines.{Loads, Redoes, Renames, Sets, Undoes};
 ghost use Rattle.script_read.specs.EditSays.{IsSoundAsk, asks};
 ghost use Rattle.script_read.specs.Edits.{Becomes, answered};
 ghost use Rattle.script_read.specs.EditReading.{IsRefusal};
@@ -147,15 +148,8 @@ fn answer(alloc: Global, editor: &mut Editor, ask: Ask, line: u32) -> Result<Com
         Ask::Set { number, value } => set(editor, number, value, line),
         Ask::Undo => undo(alloc, editor, line),
         Ask::Redo => redo(alloc, editor, line),
-        // the bytes of a name are in range: nothing but memory can be wanting
-        Ask::Rename(name) => match editor.rename(alloc, &name) {
-            Ok(command) => Ok(command),
-            Err(_) => Err(ScriptFault::Memory),
-        },
-        Ask::Load(voice) => match editor.load(alloc, &voice) {
-            Ok(command) => Ok(command),
-            Err(_) => Err(ScriptFault::Memory),
-        },
+        Ask::Rename(name) => rename(alloc, editor, &name),
+        Ask::Load(voice) => load(alloc, editor, &voice),
         Ask::Store { slot } => Ok(Command::Store { slot }),
     }
 }
@@ -186,7 +180,8 @@ fn undo(alloc: Global, editor: &mut Editor, line: u32) -> Result<Command, Script
     match editor.undo(alloc) {
         Ok(command) => Ok(command),
         Err(EditFault::NothingToUndo) => Err(refused(line, ScriptKind::Undo)),
-        Err(_) => Err(ScriptFault::Memory),
+        Err(EditFault::Memory) => Err(ScriptFault::Memory),
+        Err(_) => unreachable!(),
     }
 }
 
@@ -199,6 +194,34 @@ fn redo(alloc: Global, editor: &mut Editor, line: u32) -> Result<Command, Script
     match editor.redo(alloc) {
         Ok(command) => Ok(command),
         Err(EditFault::NothingToRedo) => Err(refused(line, ScriptKind::Redo)),
+        Err(EditFault::Memory) => Err(ScriptFault::Memory),
+        Err(_) => unreachable!(),
+    }
+}
+
+/// Gives the voice a name of bytes up to 127.
+#[tactic(auto, unfolding(crate::specs::Edits::answered))]
+fn rename(alloc: Global, editor: &mut Editor, name: &[u8; 10]) -> Result<Command, ScriptFault>
+    requires { first_high name.now ≡ None }
+    ensures answered { IfOk result (λ command. answered editor.old (Renames name.now) ≡ Becomes editor.new (content command)) }
+    ensures range { IfOk result (λ command. IsInRange (content command)) }
+    ensures refused { IfErr result (λ why. why ≡ ScriptFault.Memory) }
+{
+    match editor.rename(alloc, name) {
+        Ok(command) => Ok(command),
+        Err(EditFault::NameByte { .. }) => unreachable!(),
+        Err(_) => Err(ScriptFault::Memory),
+    }
+}
+
+#[tactic(auto, unfolding(crate::specs::Edits::answered))]
+fn load(alloc: Global, editor: &mut Editor, voice: &Voice) -> Result<Command, ScriptFault>
+    ensures answered { IfOk result (λ command. answered editor.old (Loads voice.now) ≡ Becomes editor.new (content command)) }
+    ensures range { IfOk result (λ command. IsInRange (content command)) }
+    ensures refused { IfErr result (λ why. why ≡ ScriptFault.Memory) }
+{
+    match editor.load(alloc, voice) {
+        Ok(command) => Ok(command),
         Err(_) => Err(ScriptFault::Memory),
     }
 }
