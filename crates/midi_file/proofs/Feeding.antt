@@ -1,6 +1,6 @@
 -- What happens by the bytes of a track's events.
-use Rattle.std.proofs.Common.{◌≡◌, ℕ, ◌+◌, ◌<◌, ◌≤◌, List, [], ◌∷◌, ◌++◌, length, take, drop, get_or, map, refl, ap, sym, ◌∙◌, subst, arith, append_assoc, append-nil}
-use Rattle.std.specs.Prelude.{Option, Some, None, Result, Ok, Err, IfSome}
+use Rattle.std.proofs.Common.{◌≡◌, ℕ, ◌+◌, ◌<◌, ◌≤◌, List, [], ◌∷◌, ◌++◌, length, take, drop, get_or, refl, ap, sym, ◌∙◌, subst, append_assoc, append-nil}
+use Rattle.std.specs.Prelude.{Some, None, IfSome}
 use Rattle.std.proofs.lemmas.List.{map-append, take-append-drop}
 use Rattle.sysex_frame.specs.declared.frame.FrameFault.{FrameFault}
 use Rattle.midi_stream.specs.declared.message.MidiMessage.{MidiMessage}
@@ -14,9 +14,9 @@ use Rattle.script_outcome.specs.declared.fault.ScriptKind.{ScriptKind}
 use Rattle.script_outcome.specs.declared.fault.ScriptKind.TheVariants as kind
 use Rattle.script_outcome.specs.declared.fault.ScriptFault.{ScriptFault}
 use Rattle.script_outcome.specs.declared.fault.ScriptFault.TheVariants as faults
-use Rattle.script_outcome.specs.Stream.{Heard, heard_with}
-use Rattle.script_outcome.specs.Outcomes.{Outcome, Fails}
-use Rattle.midi_file.specs.Track.{TimedData, Happening, Comes, Breaks, timed_at, told_happens, heard_happens, fed_happens}
+use Rattle.script_outcome.specs.Stream.{heard_with}
+use Rattle.script_outcome.specs.Outcomes.{Fails}
+use Rattle.midi_file.specs.Track.{TimedData, Happening, Comes, Breaks, told_happens, heard_happens, fed_happens}
 use Rattle.midi_file.specs.File.{first_fault}
 use Rattle.midi_file.specs.Says.{Faults, all_come}
 use Rattle.script_outcome.proofs.Hearing.{heard_is, told_same}

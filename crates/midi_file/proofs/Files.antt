@@ -1,13 +1,13 @@
 -- The chunks of a file, one after the other.
-use Rattle.std.proofs.Common.{◌≡◌, ℕ, zero, suc, ◌+◌, ◌-◌, ◌<◌, ◌≤◌, List, [], ◌∷◌, ◌++◌, length, Bool, true, false, cond, refl, ap, sym, ◌∙◌, subst, arith, append_assoc, append-nil}
+use Rattle.std.proofs.Common.{◌≡◌, ℕ, zero, suc, ◌+◌, ◌-◌, ◌<◌, List, [], ◌∷◌, ◌++◌, length, true, false, cond, refl, ap, sym, ◌∙◌, subst, arith, append_assoc, append-nil}
 use Rattle.std.proofs.lemmas.Bool.Decides.{nat_tests}
-use Rattle.std.specs.Prelude.{Option, Some, None, ◌==◌, flat_map}
+use Rattle.std.specs.Prelude.{Some, None, ◌==◌, flat_map}
 use Rattle.script_outcome.specs.declared.fault.Place.TheVariants as place
 use Rattle.script_outcome.specs.declared.fault.ScriptKind.{ScriptKind}
 use Rattle.script_outcome.specs.declared.fault.ScriptKind.TheVariants as kind
 use Rattle.script_outcome.specs.declared.fault.ScriptFault.{ScriptFault}
 use Rattle.script_outcome.specs.declared.fault.ScriptFault.TheVariants as faults
-use Rattle.midi_file.specs.Track.{TimedData, Happening, Comes, Breaks, track_happens}
+use Rattle.midi_file.specs.Track.{TimedData, Happening, Breaks, track_happens}
 use Rattle.midi_file.specs.Chunks.{Chunk, Track, CutAt, behind_chunk, breaks, chunk_bytes, chunk_cut, chunk_happens, file_happens, header_fault, is_track, track_count, tracks_happen, tracks_in, unless_cut}
 use Rattle.midi_file.specs.Says.{Faults, all_come}
 use Rattle.midi_file.proofs.Feeding.{fault_here, faults_more}

@@ -1,16 +1,16 @@
 -- The commands of a file at their blocks, one after the other.
-use Rattle.std.proofs.Common.{◌≡◌, ℕ, ◌+◌, ◌-◌, ◌*◌, ◌/◌, ◌<◌, ◌≤◌, List, [], ◌∷◌, ◌++◌, length, Bool, true, false, cond, refl, ap, sym, ◌∙◌, subst, arith, append_assoc, append-nil, add_assoc}
-use Rattle.std.specs.Prelude.{Option, Some, None, flat_map}
-use Rattle.script_plan.specs.Plan.{PlannedData, last_due}
+use Rattle.std.proofs.Common.{◌≡◌, ℕ, ◌+◌, ◌-◌, ◌*◌, ◌<◌, ◌≤◌, List, [], ◌∷◌, ◌++◌, length, Bool, true, false, cond, refl, ap, sym, ◌∙◌, subst, arith, append_assoc, append-nil, add_assoc}
+use Rattle.std.specs.Prelude.{Option}
+use Rattle.script_plan.specs.Plan.{PlannedData}
 use Rattle.script_outcome.specs.declared.fault.Place.TheVariants as place
 use Rattle.script_outcome.specs.declared.fault.ScriptKind.TheVariants as kind
 use Rattle.script_outcome.specs.declared.fault.ScriptFault.{ScriptFault}
 use Rattle.script_outcome.specs.declared.fault.ScriptFault.TheVariants as faults
-use Rattle.script_outcome.specs.Outcomes.{Outcome, Gives, Fails}
-use Rattle.script_outcome.specs.Plan.{Refused, plan_of}
-use Rattle.script_outcome.specs.Reading.{Settles, Stops, all_given}
+use Rattle.script_outcome.specs.Outcomes.{Outcome, Fails}
+use Rattle.script_outcome.specs.Plan.{plan_of}
+use Rattle.script_outcome.specs.Reading.{Stops, all_given}
 use Rattle.command_set.specs.Command.{CommandData}
-use Rattle.midi_file.specs.Track.{ActData, Sets, Plays, TimedData, timed_at, Happening, Comes, Breaks}
+use Rattle.midi_file.specs.Track.{ActData, Sets, Plays, TimedData, timed_at}
 use Rattle.midi_file.specs.Chunks.{division_of, file_happens}
 use Rattle.midi_file.specs.Time.{Change, block_of, changes_in, change_at, first_tempo, time_between, time_of}
 use Rattle.midi_file.specs.File.{IsInTime, act_outcomes, acts_in, first_fault, in_order, midi_outcomes, ordered_outcomes, timed_outcomes, timed_plan, unless_refused}

@@ -1,10 +1,9 @@
 -- One more byte of a variable-length quantity.
-use Rattle.std.proofs.Common.{◌≡◌, ℕ, zero, suc, ◌+◌, ◌-◌, ◌*◌, ◌^◌, ◌%◌, ◌<◌, ◌≤◌, List, [], ◌∷◌, Bool, true, false, cond, refl, ap, sym, ◌∙◌, subst, arith, pow-suc, mul-le-mul_left, mul-le-mul_right, mul_assoc, mul_comm, lt-ltb}
-use Rattle.std.specs.Prelude.{nat_lt}
+use Rattle.std.proofs.Common.{◌≡◌, ℕ, zero, suc, ◌+◌, ◌-◌, ◌*◌, ◌^◌, ◌%◌, ◌<◌, ◌≤◌, List, [], ◌∷◌, refl, ap, sym, ◌∙◌, subst, arith, pow-suc, mul-le-mul_left, mul-le-mul_right, mul_assoc, mul_comm, lt-ltb}
 use Rattle.std.proofs.lemmas.Bool.{le-ltb}
 use Rattle.std.proofs.Math.Nat.{one-le-pow}
 use Rattle.script_outcome.specs.declared.fault.ScriptKind.TheVariants as kind
-use Rattle.midi_file.specs.Bytes.{Parsed, Got, Lacks, quantity_behind}
+use Rattle.midi_file.specs.Bytes.{Got, Lacks, quantity_behind}
 
 pub no_more : (more so_far : ℕ) (bytes : List ℕ) → more ≡ 0 → quantity_behind more so_far bytes ≡ Lacks kind.Event
 unfolding quantity_behind

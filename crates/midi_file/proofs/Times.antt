@@ -1,5 +1,5 @@
 -- The time of a tick, stretch by stretch.
-use Rattle.std.proofs.Common.{◌≡◌, ℕ, ◌+◌, ◌-◌, ◌*◌, ◌/◌, ◌<◌, ◌≤◌, List, [], ◌∷◌, ◌++◌, Bool, true, false, cond, refl, ap, sym, subst, ◌∙◌, arith, add-mul, zero-mul, zero-add, add_assoc, leb-true, leb-false}
+use Rattle.std.proofs.Common.{◌≡◌, ℕ, ◌+◌, ◌-◌, ◌*◌, ◌<◌, ◌≤◌, List, [], ◌∷◌, ◌++◌, Bool, true, false, cond, refl, ap, sym, subst, ◌∙◌, arith, add-mul, zero-mul, zero-add, add_assoc, leb-true, leb-false}
 use Rattle.std.specs.Prelude.{nat_le}
 use Rattle.midi_file.specs.Track.{ActData, Sets, Plays, TimedData}
 use Rattle.midi_file.specs.Time.{Change, change_at, changes_in, time_between}

@@ -8,8 +8,8 @@ use Rattle.script_outcome.specs.declared.fault.Place.TheVariants as place
 use Rattle.script_outcome.specs.declared.fault.ScriptKind.{ScriptKind}
 use Rattle.script_outcome.specs.declared.fault.ScriptFault.{ScriptFault}
 use Rattle.script_outcome.specs.declared.fault.ScriptFault.TheVariants as faults
-use Rattle.midi_file.specs.Event.{DeedData, EventData, EventRead, Event, Broken, event_at}
-use Rattle.midi_file.specs.Track.{Found, TimedData, Happening, Comes, Breaks, deed_happens, ends_track, events_happen, events_in, fed_by, found_at, track_happens}
+use Rattle.midi_file.specs.Event.{EventData, EventRead, Event, Broken, event_at}
+use Rattle.midi_file.specs.Track.{Found, TimedData, Happening, Breaks, deed_happens, ends_track, events_happen, events_in, fed_by, found_at, track_happens}
 use Rattle.midi_file.specs.Says.{Faults, all_come}
 use Rattle.midi_file.proofs.Feeding.{fault_here, faults_more}
 

@@ -1,5 +1,5 @@
 -- What the values of the code say of a MIDI file.
-use Rattle.std.specs.Prelude.{ℕ, ◌≡◌, List, [], ◌∷◌, ◌++◌, map}
+use Rattle.std.specs.Prelude.{◌≡◌, List, [], ◌∷◌, ◌++◌, map}
 use Rattle.midi_stream.specs.Ranges.{InRange}
 use Rattle.command_set.specs.Command.{IsInRange, content}
 use Rattle.script_outcome.specs.declared.fault.ScriptFault.{ScriptFault}
@@ -9,7 +9,7 @@ use Rattle.midi_file.specs.declared.event.Deed.TheVariants as deed
 use Rattle.midi_file.specs.declared.event.MidiEvent.{MidiEvent}
 use Rattle.midi_file.specs.declared.timed.Act.{Act}
 use Rattle.midi_file.specs.declared.timed.Act.TheVariants as act
-use Rattle.script_outcome.specs.Outcomes.{Outcome, Fails}
+use Rattle.script_outcome.specs.Outcomes.{Fails}
 use Rattle.midi_file.specs.Event.{DeedData, Speaks, Feeds, SetsTempo, EndsTrack, Nothing, EventData, event_of}
 use Rattle.midi_file.specs.Track.{ActData, Sets, Plays, TimedData, Happening, Comes}
 use Rattle.midi_file.specs.File.{first_fault}

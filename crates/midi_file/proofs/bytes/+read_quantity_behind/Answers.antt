@@ -1,7 +1,7 @@
-use Rattle.std.proofs.Common.{◌≡◌, ◌+◌, ◌*◌, ◌-◌, ◌^◌, ◌<◌, ◌≤◌, ◌%◌, ℕ, List, get_or, Fits, w8, arith, ◌∙◌, sym, ap, subst}
+use Rattle.std.proofs.Common.{◌≡◌, ◌+◌, ◌*◌, ◌-◌, ◌<◌, ℕ, List, get_or, Fits, w8, arith, ◌∙◌, sym, ap, subst}
 use Rattle.std.proofs.Math.Facts.{Fits-lt-pow}
 use Rattle.script_outcome.proofs.Plans.{if_ok_more, if_err_more}
-use Rattle.midi_file.specs.Bytes.{Got, Lacks, quantity_behind}
+use Rattle.midi_file.specs.Bytes.{quantity_behind}
 use Rattle.midi_file.proofs.Quantities.{has_room, room_left, more_bytes}
 use Rattle.midi_file.proofs.bytes.+read_quantity_behind.Goals as goal
 

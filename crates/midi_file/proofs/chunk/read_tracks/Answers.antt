@@ -1,7 +1,5 @@
-use Rattle.std.proofs.Common.{refl, ℕ, List, ◌≡◌, ◌≤◌, ◌+◌, ◌-◌, ◌<◌, ◌*◌, [], ◌++◌, length, true, false, arith, sym, ap, ◌∙◌, subst}
-use Rattle.midi_file.specs.Chunks.{behind_chunk, tracks_happen}
-use Rattle.midi_file.specs.Says.{all_come}
-use Rattle.midi_file.proofs.Files.{IsWithinFile, cut_within, fault_in_track, behind_track, behind_other, all_tracks}
+use Rattle.std.proofs.Common.{refl, arith, sym, ◌∙◌}
+use Rattle.midi_file.proofs.Files.{cut_within, fault_in_track, behind_track, behind_other, all_tracks}
 use Rattle.midi_file.proofs.chunk.read_tracks.Goals as goal
 use Rattle.midi_file.proofs.chunk.read_tracks.Goals.{then-chunk+in-Ok-read_track, else-chunk}
 

@@ -1,7 +1,6 @@
-use Rattle.std.proofs.Common.{ℕ, List, ◌≡◌, ◌≤◌, ◌+◌, ◌-◌, ◌*◌, length, arith, sym, ap, ◌∙◌}
+use Rattle.std.proofs.Common.{◌≡◌, ◌+◌, ◌-◌, ◌*◌, arith, ◌∙◌}
 use Rattle.command_set.specs.Command.{content}
-use Rattle.midi_file.specs.Time.{block_of}
-use Rattle.midi_file.proofs.Plans.{IsPlanned, block_rises, planned_tempo_at, planned_command_at, stopped_command_at, all_planned}
+use Rattle.midi_file.proofs.Plans.{block_rises, planned_tempo_at, planned_command_at, stopped_command_at, all_planned}
 use Rattle.midi_file.proofs.plan.plan_acts.Goals as goal
 
 pub loop-timed-preserved-in-Tempo : goal.loop-timed-preserved-in-Tempo

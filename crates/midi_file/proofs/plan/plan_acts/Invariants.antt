@@ -1,4 +1,4 @@
-use Rattle.std.proofs.Common.{◌≡◌, ◌≤◌, ◌++◌, length}
+use Rattle.std.proofs.Common.{◌≤◌, length}
 use Rattle.script_plan.specs.Plan.{last_due}
 use Rattle.midi_file.specs.Time.{block_of, changes_in}
 use Rattle.midi_file.specs.File.{timed_plan}

@@ -1,6 +1,6 @@
-use Rattle.std.proofs.Common.{ℕ, List, ◌≡◌, ◌≤◌, ◌+◌, ◌-◌, ◌<◌, ◌*◌, [], length, arith, sym, ◌∙◌, subst, ap}
+use Rattle.std.proofs.Common.{arith, sym, ◌∙◌}
 use Rattle.midi_file.specs.Says.{event_data}
-use Rattle.midi_file.proofs.Tracks.{some_left, none_left, within_none, broken_within, fault_within, within_more, ended_within, all_within}
+use Rattle.midi_file.proofs.Tracks.{some_left, none_left, broken_within, fault_within, within_more, ended_within, all_within}
 use Rattle.midi_file.proofs.track.read_track.Goals as goal
 
 pub returns-in-Err-read_event-clause-faults : goal.returns-in-Err-read_event-clause-faults
