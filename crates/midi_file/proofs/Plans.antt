@@ -174,9 +174,11 @@ nothing_left blocks division changes = refl
 -- no act is left
 pub all_planned : (clock : Clock) (blocks : Option ℕ) (division room : ℕ) (changes : List Change) (rest : List TimedData) (given : List PlannedData) (all : List Outcome)
     → IsPlanned clock blocks division changes rest given all → length rest ≡ 0 → length given ≤ room → (all ≡ all_given given) × (length given ≤ room)
-all_planned clock blocks division room changes rest given all p none few =
-    (sym (sym (append-nil (all_given given)) ∙ ap (λ (os : List Outcome). all_given given ++ os) (sym (nothing_left blocks division changes))
-    ∙ ap (λ (es : List TimedData). all_given given ++ ordered_outcomes blocks division changes es) (sym (no_acts rest none)) ∙ p.left), few)
+all_planned clock blocks division room changes rest given all p none few = (
+  sym (sym (append-nil (all_given given)) ∙ ap (λ (os : List Outcome). all_given given ++ os) (sym (nothing_left blocks division changes))
+      ∙ ap (λ (es : List TimedData). all_given given ++ ordered_outcomes blocks division changes es) (sym (no_acts rest none)) ∙ p.left),
+  few,
+)
 
 -- ---- whole files
 

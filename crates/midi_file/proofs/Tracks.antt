@@ -67,11 +67,13 @@ all_by_event : (reader : MidiReader) (end tick running : ℕ) (rest : List ℕ) 
     → (m : ℕ) × (w.more ≡ m + 1) × ((all_come happened ++ deed_happens (tick + e.delta) (end - length rest) w.stream e.deed)
     ++ events_happen (tick + e.delta) (w.stream ++ fed_by e.deed) (cond (ends_track e.deed) [] (events_in m end e.running e.rest)) ≡ all)
 all_by_event reader end tick running rest happened all e w some is =
-    let first = events_first w.more end running rest (Event e) some w.enough is in
-    (first.0, first.1,
-    append_assoc (all_come happened) _ _
-    ∙ ap (λ (hs : List Happening). all_come happened ++ hs) (sym (events_then tick (end - length rest) w.stream (events_in first.0 end) e))
-    ∙ ap (λ (fs : List Found). all_come happened ++ events_happen tick w.stream fs) (sym first.2) ∙ w.left)
+    let first = events_first w.more end running rest (Event e) some w.enough is in (
+      first.0,
+      first.1,
+      append_assoc (all_come happened) _ _
+          ∙ ap (λ (hs : List Happening). all_come happened ++ hs) (sym (events_then tick (end - length rest) w.stream (events_in first.0 end) e))
+          ∙ ap (λ (fs : List Found). all_come happened ++ events_happen tick w.stream fs) (sym first.2) ∙ w.left,
+    )
 
 -- a fault of an event
 pub fault_within : (reader : MidiReader) (end tick tick' running : ℕ) (rest : List ℕ) (happened : List TimedData) (all : List Happening) (e : EventData) (why : ScriptFault)

@@ -29,11 +29,7 @@ pub(crate) fn read_quantity(bytes: &[u8]) -> Result<(u32, &[u8]), ScriptKind>
 
 /// The rest of a quantity, at most so many bytes, behind those that wrote the number so far.
 #[tactic(auto, unfolding(crate::specs::Bytes::quantity_behind))]
-fn read_quantity_behind(
-    more: u8,
-    so_far: u32,
-    bytes: &[u8],
-) -> Result<(u32, &[u8]), ScriptKind>
+fn read_quantity_behind(more: u8, so_far: u32, bytes: &[u8]) -> Result<(u32, &[u8]), ScriptKind>
     requires { (so_far + 1) * 128 ^ more ≤ 268435456 }
     ensures ok { IfOk result (λ r. quantity_behind more so_far bytes.now ≡ Got r.0 r.1.now) }
     ensures err { IfErr result (λ why. quantity_behind more so_far bytes.now ≡ Lacks why) }

@@ -127,12 +127,7 @@ fn read_channel(delta: u32, status: u8, bytes: &[u8]) -> Result<MidiEvent<'_>, S
 }
 
 /// A channel event of two data bytes, by its second one.
-fn read_second(
-    delta: u32,
-    status: u8,
-    first: u8,
-    bytes: &[u8],
-) -> Result<MidiEvent<'_>, ScriptKind>
+fn read_second(delta: u32, status: u8, first: u8, bytes: &[u8]) -> Result<MidiEvent<'_>, ScriptKind>
     requires { first < 128 }
     ensures ok { IfOk result (λ e. second_event delta status first bytes.now ≡ Event (event_data e)) }
     ensures err { IfErr result (λ why. second_event delta status first bytes.now ≡ Broken why) }

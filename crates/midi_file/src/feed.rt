@@ -141,9 +141,7 @@ fn take_message(
         Ok(Some(command)) => add(happened, at, Act::Command(command)),
         Ok(None) => Ok(()),
         Err(CommandFault::TooLong { .. }) => Err(refused_at(at.place, ScriptKind::Long)),
-        Err(CommandFault::Frame(fault)) => {
-            Err(refused_at(at.place, ScriptKind::Message(fault)))
-        }
+        Err(CommandFault::Frame(fault)) => { Err(refused_at(at.place, ScriptKind::Message(fault))) }
         Err(CommandFault::Memory) => Err(ScriptFault::Memory),
     }
 }

@@ -13,3 +13,6 @@ mod timed;
 mod track;
 
 pub use file::read_midi_file;
+
+#[cfg(test)]
+mod tests;

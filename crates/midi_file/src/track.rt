@@ -72,10 +72,7 @@ fn ends_track(deed: Deed<'_>) -> bool
 {
     match deed {
         Deed::End => true,
-        Deed::Message(_)
-        | Deed::Exclusive(_)
-        | Deed::Continued(_)
-        | Deed::Tempo(_)
-        | Deed::Other => false,
+        Deed::Message(_) | Deed::Exclusive(_) | Deed::Continued(_) | Deed::Tempo(_) | Deed::Other =>
+            false,
     }
 }
