@@ -1,0 +1,8 @@
+pub mod Quantities
+pub mod Order
+pub mod Times
+pub mod Feeding
+pub mod Tracks
+pub mod Files
+pub mod Plans
+pub mod Early

@@ -1,0 +1,159 @@
+//! What the events of a track tell.
+
+ghost use Rattle.std.specs.Prelude.{ℕ, List, ◌≡◌, ◌≤◌, [], ◌∷◌, ◌++◌, length, IfErr, OnOk};
+ghost use Rattle.midi_stream.specs.Ranges.{InRange};
+ghost use Rattle.midi_stream.specs.Reading.{Reads};
+ghost use Rattle.velocity_map.specs.declared.curve.Curve.TheVariants.{Linear};
+ghost use Rattle.velocity_map.specs.Map.{curve_of};
+ghost use Rattle.command_set.specs.Message.{command_of};
+ghost use Rattle.script_outcome.specs.Stream.{heard_with};
+ghost use Rattle.midi_file.specs.Track.{Comes, deed_happens, fed_by, fed_happens, heard_happens, timed_at, told_happens};
+ghost use Rattle.midi_file.specs.Says.{Faults, IsSoundAct, IsSoundDeed, act_data, all_come, deed_data};
+
+use crate::bytes::refused_at;
+use crate::event::Deed;
+use crate::timed::{Act, Timed};
+use command_set::{CommandFault, from_message};
+use midi_stream::{MidiMessage, MidiReader};
+use script_outcome::{ScriptFault, ScriptKind};
+use std::alloc::Global;
+use velocity_map::VelocityMap;
+
+/// Where an event stands: its tick, and the place of its first byte.
+#[derive(Clone, Copy, Debug)]
+pub(crate) struct Moment {
+    pub(crate) tick: u64,
+    pub(crate) place: u32,
+}
+
+/// Adds what an event does. Bytes of system exclusive events go to the track's own reader.
+pub(crate) fn take_deed(
+    alloc: Global,
+    reader: &mut MidiReader,
+    deed: Deed<'_>,
+    at: Moment,
+    map: &VelocityMap,
+    happened: &mut Vec<Timed>,
+) -> Result<(), ScriptFault>
+    requires linear { curve_of map.now ≡ Linear }
+    requires sound { IsSoundDeed deed }
+    ensures reads { OnOk result ((stream : List ℕ) → Reads reader.old stream → Reads reader.new (stream ++ fed_by (deed_data deed.entry))) }
+    ensures come { OnOk result ((stream : List ℕ) → Reads reader.old stream
+        → all_come happened.new.items ≡ all_come happened.old.items ++ deed_happens at.tick at.place stream (deed_data deed.entry)) }
+    ensures faults { IfErr result (λ why. (stream : List ℕ) → Reads reader.old stream
+        → Faults why (all_come happened.old.items ++ deed_happens at.tick at.place stream (deed_data deed.entry))) }
+{
+    match deed {
+        Deed::Message(message) => take_message(alloc, message, &[], at, map, happened),
+        Deed::Exclusive(bytes) => feed_exclusive(alloc, reader, bytes, at, map, happened),
+        Deed::Continued(bytes) => feed_all(alloc, reader, bytes, at, map, happened),
+        Deed::Tempo(tempo) => add(happened, at, Act::Tempo(tempo)),
+        Deed::End | Deed::Other => Ok(()),
+    }
+}
+
+/// Feeds the byte that begins a message, and those behind it.
+#[tactic(auto, unfolding(crate::specs::Track::fed_happens))]
+fn feed_exclusive(
+    alloc: Global,
+    reader: &mut MidiReader,
+    bytes: &[u8],
+    at: Moment,
+    map: &VelocityMap,
+    happened: &mut Vec<Timed>,
+) -> Result<(), ScriptFault>
+    requires linear { curve_of map.now ≡ Linear }
+    ensures reads { OnOk result ((stream : List ℕ) → Reads reader.old stream → Reads reader.new (stream ++ 240 ∷ bytes.now)) }
+    ensures come { OnOk result ((stream : List ℕ) → Reads reader.old stream
+        → all_come happened.new.items ≡ all_come happened.old.items ++ fed_happens at.tick at.place stream (240 ∷ bytes.now)) }
+    ensures faults { IfErr result (λ why. (stream : List ℕ) → Reads reader.old stream
+        → Faults why (all_come happened.old.items ++ fed_happens at.tick at.place stream (240 ∷ bytes.now))) }
+{
+    match feed_byte(alloc, reader, 0xF0, at, map, happened) {
+        Ok(()) => feed_all(alloc, reader, bytes, at, map, happened),
+        Err(fault) => Err(fault),
+    }
+}
+
+/// Feeds bytes to a track's reader.
+fn feed_all(
+    alloc: Global,
+    reader: &mut MidiReader,
+    bytes: &[u8],
+    at: Moment,
+    map: &VelocityMap,
+    happened: &mut Vec<Timed>,
+) -> Result<(), ScriptFault>
+    requires linear { curve_of map.now ≡ Linear }
+    ensures reads { OnOk result ((stream : List ℕ) → Reads reader.old stream → Reads reader.new (stream ++ bytes.now)) }
+    ensures come { OnOk result ((stream : List ℕ) → Reads reader.old stream
+        → all_come happened.new.items ≡ all_come happened.old.items ++ fed_happens at.tick at.place stream bytes.now) }
+    ensures faults { IfErr result (λ why. (stream : List ℕ) → Reads reader.old stream
+        → Faults why (all_come happened.old.items ++ fed_happens at.tick at.place stream bytes.now)) }
+{
+    for byte in bytes {
+        match feed_byte(alloc, reader, *byte, at, map, happened) {
+            Ok(()) => {}
+            Err(fault) => return Err(fault),
+        }
+    }
+    Ok(())
+}
+
+/// Feeds a byte to a track's reader, and adds what the message tells that ends with it.
+fn feed_byte(
+    alloc: Global,
+    reader: &mut MidiReader,
+    byte: u8,
+    at: Moment,
+    map: &VelocityMap,
+    happened: &mut Vec<Timed>,
+) -> Result<(), ScriptFault>
+    requires linear { curve_of map.now ≡ Linear }
+    ensures reads { (stream : List ℕ) → Reads reader.old stream → Reads reader.new (stream ++ byte ∷ []) }
+    ensures come { OnOk result ((stream : List ℕ) → Reads reader.old stream
+        → all_come happened.new.items ≡ all_come happened.old.items ++ heard_happens at.tick at.place (heard_with stream byte)) }
+    ensures faults { IfErr result (λ why. (stream : List ℕ) → Reads reader.old stream
+        → Faults why (all_come happened.old.items ++ heard_happens at.tick at.place (heard_with stream byte))) }
+{
+    match reader.feed(byte) {
+        None => Ok(()),
+        Some(message) => take_message(alloc, message, reader.sysex(), at, map, happened),
+    }
+}
+
+/// Adds what a message tells.
+fn take_message(
+    alloc: Global,
+    message: MidiMessage,
+    sysex: &[u8],
+    at: Moment,
+    map: &VelocityMap,
+    happened: &mut Vec<Timed>,
+) -> Result<(), ScriptFault>
+    requires range { InRange message }
+    requires bytes { length sysex.now ≤ 5000 }
+    requires linear { curve_of map.now ≡ Linear }
+    ensures come { OnOk result (all_come happened.new.items ≡ all_come happened.old.items ++ told_happens at.tick at.place (command_of message sysex.now Linear)) }
+    ensures faults { IfErr result (λ why. Faults why (all_come happened.old.items ++ told_happens at.tick at.place (command_of message sysex.now Linear))) }
+{
+    match from_message(alloc, message, sysex, map) {
+        Ok(Some(command)) => add(happened, at, Act::Command(command)),
+        Ok(None) => Ok(()),
+        Err(CommandFault::TooLong { .. }) => Err(refused_at(at.place, ScriptKind::Long)),
+        Err(CommandFault::Frame(fault)) => { Err(refused_at(at.place, ScriptKind::Message(fault))) }
+        Err(CommandFault::Memory) => Err(ScriptFault::Memory),
+    }
+}
+
+/// Adds what happens at an event.
+fn add(happened: &mut Vec<Timed>, at: Moment, act: Act) -> Result<(), ScriptFault>
+    requires { IsSoundAct (act_data act) }
+    ensures come { OnOk result (all_come happened.new.items ≡ all_come happened.old.items ++ Comes (timed_at at.tick at.place (act_data act)) ∷ []) }
+    ensures memory { IfErr result (λ why. why ≡ ScriptFault.Memory) }
+{
+    match happened.push(Timed::new(at.tick, at.place, act)) {
+        Ok(()) => Ok(()),
+        Err(_) => Err(ScriptFault::Memory),
+    }
+}

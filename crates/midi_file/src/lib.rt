@@ -1,0 +1,18 @@
+//! Standard MIDI Files of formats 0 and 1, read into scripts.
+#![tactic(auto)]
+
+mod bytes;
+mod chunk;
+mod event;
+mod feed;
+mod file;
+mod message;
+mod plan;
+mod time;
+mod timed;
+mod track;
+
+pub use file::read_midi_file;
+
+#[cfg(test)]
+mod tests;

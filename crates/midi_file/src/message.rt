@@ -1,0 +1,87 @@
+//! Channel messages of a track, by their status and data bytes.
+
+ghost use Rattle.std.specs.Prelude.{◌≡◌, ◌<◌, ◌==◌, if◌then◌else◌};
+ghost use Rattle.midi_stream.specs.Messages.{message_of_one, message_of_two, takes_one};
+ghost use Rattle.midi_stream.specs.Ranges.{InRange};
+
+use midi_stream::MidiMessage;
+
+/// Whether a channel status takes one data byte, and not two.
+pub(crate) fn takes_one(status: u8) -> bool
+    ensures { result ≡ takes_one status }
+{
+    (0xC0..0xE0).contains(&status)
+}
+
+/// The message of a channel status with one data byte.
+#[tactic(auto, unfolding(midi_stream::specs::Messages::message_of_one))]
+pub(crate) fn message_of_one(status: u8, value: u8) -> MidiMessage
+    requires { value < 128 }
+    ensures value { result ≡ message_of_one status value }
+    ensures range { InRange result }
+{
+    let channel = status % 16;
+    if status < 0xD0 {
+        MidiMessage::Program {
+            channel,
+            number: value,
+        }
+    } else {
+        MidiMessage::ChannelPressure { channel, value }
+    }
+}
+
+/// A note that begins, or ends where its velocity is 0.
+fn note(channel: u8, key: u8, velocity: u8) -> MidiMessage
+    requires channel { channel < 16 }
+    requires key { key < 128 }
+    requires velocity { velocity < 128 }
+    ensures value { result ≡ (if velocity == 0 then MidiMessage.NoteOff channel key else MidiMessage.NoteOn channel key velocity) }
+    ensures range { InRange result }
+{
+    if velocity == 0 {
+        MidiMessage::NoteOff { channel, key }
+    } else {
+        MidiMessage::NoteOn {
+            channel,
+            key,
+            velocity,
+        }
+    }
+}
+
+/// The message of a channel status with two data bytes.
+#[tactic(auto, unfolding(midi_stream::specs::Messages::message_of_two))]
+pub(crate) fn message_of_two(status: u8, first: u8, second: u8) -> MidiMessage
+    requires first { first < 128 }
+    requires second { second < 128 }
+    ensures value { result ≡ message_of_two status first second }
+    ensures range { InRange result }
+{
+    let channel = status % 16;
+    if status < 0x90 {
+        MidiMessage::NoteOff {
+            channel,
+            key: first,
+        }
+    } else if status < 0xA0 {
+        note(channel, first, second)
+    } else if status < 0xB0 {
+        MidiMessage::KeyPressure {
+            channel,
+            key: first,
+            value: second,
+        }
+    } else if status < 0xC0 {
+        MidiMessage::Control {
+            channel,
+            number: first,
+            value: second,
+        }
+    } else {
+        MidiMessage::Bend {
+            channel,
+            value: u16::from(first) + 128 * u16::from(second),
+        }
+    }
+}
