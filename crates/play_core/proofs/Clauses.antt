@@ -15,7 +15,7 @@ use Rattle.script_outcome.specs.declared.fault.ScriptKind.{ScriptKind}
 use Rattle.script_outcome.specs.Plan.{Plan, Commands, Refused, TooMany}
 use Rattle.script_read.specs.Plan.{plan}
 use Rattle.take_files.specs.Files.{wav}
-use Rattle.take_files.specs.Orders.{OrderData, IsOrder}
+use Rattle.take_files.specs.Orders.{OrderData, IsOrder, IsOrdered}
 use Rattle.take_files.proofs.Laws.{orders_unique}
 use Rattle.turns.specs.Turns.{blocks_of, others_than}
 use Rattle.turns.specs.Timed.{ArePlayed, IsTimed}
@@ -135,7 +135,7 @@ some_is_left : (left status : ℕ) → status ≡ (if left == 0 then 0 else 5) �
 some_is_left zero status is some = absurd (grind (arith, eqb_tells 0 0))
 some_is_left (suc n) status is some = omega arith
 
-own_blocks : (asked : Option ℕ) (plans : List (List PlannedData)) → IfSome asked (λ n. blocks_of_run asked plans ≡ n)
+pub own_blocks : (asked : Option ℕ) (plans : List (List PlannedData)) → IfSome asked (λ n. blocks_of_run asked plans ≡ n)
 own_blocks None plans = tt
 own_blocks (Some n) plans = refl
 
@@ -151,6 +151,11 @@ few_places a plans journal timed left =
     let bound : places_of_run a.places plans ≤ length (blocks_of k journal) + others_than plans k =
     timed.full k (length (blocks_of k journal)) lacks.1 (rw (length_blocks k journal) lacks.2) (inl (omega arith)) in
     omega (arith, bound, length_blocks k journal, lacks.2, length_part plans k lacks.1)
+
+-- with one place for each command the line has room for all
+named_places : (asked : Option ℕ) (plans : List (List PlannedData)) → places_of_run asked plans < count_all plans → IsSomeAnd asked (λ p. p < count_all plans)
+named_places None plans few = absurd (omega (arith, few))
+named_places (Some p) plans few = few
 
 -- ---- refusals
 
@@ -439,20 +444,15 @@ module _ (words : List (List ℕ)) (a : Asked) (before now : Moment) (status : �
   pub clause_write : status ≡ 3 → Rose before.writing now.writing ⊎ Rose before.faults now.faults
   clause_write three = let s = stopped_of a before now status run three in ⊎_elim (λ w. inl w.0) (λ p. inr p.1) s.line
 
-  pub clause_begun : status ≡ 3 → Told words before.files (λ b told. (journal : List LoggedData) × ArePlayed journal (plans_in (verdict b told))
-      × AreBegun before.files now.files b.out (sound_of b (plans_in (verdict b told)) journal) b.order (order_of b (plans_in (verdict b told)) journal))
-  clause_begun three = told_of words before.files a (λ b told. (journal : List LoggedData) × ArePlayed journal (plans_in (verdict b told))
-      × AreBegun before.files now.files b.out (sound_of b (plans_in (verdict b told)) journal) b.order (order_of b (plans_in (verdict b told)) journal)) asks
-      (λ told is. let s = stopped_of a before now status run three in
-      subst (λ (v : Verdict). (journal : List LoggedData) × ArePlayed journal (plans_in v)
-      × AreBegun before.files now.files a.out (sound_of a (plans_in v) journal) a.order (order_of a (plans_in v) journal))
-      (sym (plans_told a before.files told s.plans s.planned is)) (s.journal, s.begun, s.files))
-
-  pub clause_stopped : status ≡ 3 → Asks words (λ b. (plans : List (List PlannedData)) × (journal : List LoggedData) × HavePlans b before.files plans × SaysOfStop b plans journal before now)
+  pub clause_stopped : status ≡ 3 → Asks words (λ b. (plans : List (List PlannedData)) × (journal : List LoggedData) × HavePlans b before.files plans
+      × IsOrdered journal (blocks_of_run b.blocks plans) (length plans) × ArePlayed journal plans
+      × AreBegun before.files now.files b.out (sound_of b plans journal) b.order (order_of b plans journal) × SaysOfStop b plans journal before now)
   clause_stopped three =
       let s = stopped_of a before now status run three in
-      asked_for words a (λ b. (plans : List (List PlannedData)) × (journal : List LoggedData) × HavePlans b before.files plans × SaysOfStop b plans journal before now) asks
-      (s.plans, s.journal, s.planned, s.line)
+      asked_for words a (λ b. (plans : List (List PlannedData)) × (journal : List LoggedData) × HavePlans b before.files plans
+      × IsOrdered journal (blocks_of_run b.blocks plans) (length plans) × ArePlayed journal plans
+      × AreBegun before.files now.files b.out (sound_of b plans journal) b.order (order_of b plans journal) × SaysOfStop b plans journal before now) asks
+      (s.plans, s.journal, s.planned, s.ordered, s.begun, s.files, s.line)
 
   pub clause_fault : status ≡ 4 → (k : ℕ) × (place : Place) × (what : ScriptKind) × Told words before.files (λ b told. verdict b told ≡ Faulty k place what)
       × Says (fault_line k place what) before.written now.written before.faults now.faults
@@ -464,11 +464,11 @@ module _ (words : List (List ℕ)) (a : Asked) (before now : Moment) (status : �
   pub clause_judged : Told words before.files (λ b told. ¬ (Rose before.reading now.reading) → Answers (verdict b told) status)
   clause_judged = told_of words before.files a (λ b told. ¬ (Rose before.reading now.reading) → Answers (verdict b told) status) asks (λ told is none. judged_of a before now status told is none run)
 
-  pub clause_places : status ≡ 5 → Told words before.files (λ b told. places_of_run b.places (plans_in (verdict b told)) < count_all (plans_in (verdict b told)))
-  clause_places five = told_of words before.files a (λ b told. places_of_run b.places (plans_in (verdict b told)) < count_all (plans_in (verdict b told))) asks
-      (λ told is. let d = done_of a before now status run (inr five) in
-      subst (λ (v : Verdict). places_of_run a.places (plans_in v) < count_all (plans_in v)) (sym (plans_told a before.files told d.plans d.planned is))
-      (few_places a d.plans d.journal d.timed (some_is_left (left_of d.plans d.journal) status d.status_is five)))
+  pub clause_places : status ≡ 5 → Asks words (λ b. (plans : List (List PlannedData)) × HavePlans b before.files plans × IsSomeAnd b.places (λ p. p < count_all plans))
+  clause_places five =
+      let d = done_of a before now status run (inr five) in
+      asked_for words a (λ b. (plans : List (List PlannedData)) × HavePlans b before.files plans × IsSomeAnd b.places (λ p. p < count_all plans)) asks
+      (d.plans, d.planned, named_places a.places d.plans (few_places a d.plans d.journal d.timed (some_is_left (left_of d.plans d.journal) status d.status_is five)))
 
   pub clause_reads : status ≢ 2 → now.reading ≡ before.reading
   clause_reads other = reads_of a before now status run other

@@ -6,3 +6,4 @@ pub mod Clauses
 pub mod Runs
 pub mod Stages
 pub mod Following
+pub mod Sure

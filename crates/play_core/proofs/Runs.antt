@@ -71,15 +71,16 @@ module _ (a : Asked) (before now : Moment) (status : ℕ) (plans : List (List Pl
   scripts = length plans
 
   -- the first bytes of a file were not written
-  pub stopped_at_start : (target : Target) → status ≡ 3 → IsStopped target before.files now.files a.out (wav_header blocks) a.order (order_header blocks scripts)
+  pub stopped_at_start : (target : Target) → status ≡ 3 → IsOrdered [] blocks scripts → IsStopped target before.files now.files a.out (wav_header blocks) a.order (order_header blocks scripts)
       → now.reading ≡ before.reading → Rose before.writing now.writing
       → (Says (cannot_write a.out) before.written now.written before.faults now.faults ⊎ Says (cannot_write a.order) before.written now.written before.faults now.faults)
       → IsPlayedRun a before now status
-  stopped_at_start target is stopped reading rose line = inl (record {
+  stopped_at_start target is ordered stopped reading rose line = inl (record {
     plans = plans;
     journal = [];
     status_is = is;
     planned = planned;
+    ordered = ordered;
     begun = none_played plans;
     reading = reading;
     files = rw (wav_is [] blocks, order_is [] blocks scripts)
@@ -90,11 +91,11 @@ module _ (a : Asked) (before now : Moment) (status : ℕ) (plans : List (List Pl
 
   module _ (middle : Option Files) (journal : List LoggedData) (made : middle ≡ option_map (with_two a.out (wav_header blocks) a.order (order_header blocks scripts)) before.files) where
     -- a write failed in a turn
-    pub stopped_in_turns : status ≡ 3 → ArePlayed journal plans → BothBegun a.out (wav_blocks journal blocks) a.order (order_lines journal) middle now.files
+    pub stopped_in_turns : status ≡ 3 → IsOrdered journal blocks scripts → ArePlayed journal plans → BothBegun a.out (wav_blocks journal blocks) a.order (order_lines journal) middle now.files
         → now.reading ≡ before.reading → Rose before.writing now.writing
         → (Says (cannot_write a.out) before.written now.written before.faults now.faults ⊎ Says (cannot_write a.order) before.written now.written before.faults now.faults)
         → IsPlayedRun a before now status
-    stopped_in_turns is begun both reading rose line =
+    stopped_in_turns is ordered begun both reading rose line =
         let m = both.0 in
         let n = both.1 in
         inl (record {
@@ -102,6 +103,7 @@ module _ (a : Asked) (before now : Moment) (status : ℕ) (plans : List (List Pl
           journal = journal;
           status_is = is;
           planned = planned;
+          ordered = ordered;
           begun = begun;
           reading = reading;
           files = rw (wav_is journal blocks, order_is journal blocks scripts)
@@ -147,13 +149,24 @@ module _ (a : Asked) (before now : Moment) (status : ℕ) (plans : List (List Pl
       journal = journal;
       status_is = failed.0;
       planned = planned;
+      ordered = ordered;
       begun = timed.played;
       reading = reading;
       files = begun_whole a.out a.order differ before.files now.files (wav journal blocks) (order journal blocks scripts) (both_whole whole);
       line = inr (writing, failed.1, both_whole whole, failed.2);
     })
 
--- the order of a run
+-- the order of a run, whose journal is still empty, or ends with an entry of so many
+pub none_ordered : (blocks scripts : ℕ) → 1 ≤ blocks → blocks ≤ 1048576 → 1 ≤ scripts → scripts ≤ 256 → IsOrdered [] blocks scripts
+none_ordered blocks scripts some few one many = record {
+  some_blocks = some;
+  few_blocks = few;
+  some_scripts = one;
+  few_scripts = many;
+  few = omega arith;
+  each = λ i d below. absurd (omega (arith, below));
+}
+
 pub run_ordered : (journal : List LoggedData) (blocks scripts all : ℕ) → (1 ≤ blocks) → blocks ≤ 1048576 → 1 ≤ scripts → scripts ≤ 256 → length journal ≤ all → all ≤ 1000000
     → ((i : ℕ) (d : LoggedData) → i < length journal → Follows (take i journal) blocks scripts (slice_index_or journal i d)) → IsOrdered journal blocks scripts
 run_ordered journal blocks scripts all some few one many within limit each = record {

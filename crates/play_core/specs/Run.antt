@@ -68,12 +68,13 @@ SaysOfStop a plans journal before now =
     ⊎ ((now.writing ≡ before.writing) × Rose before.faults now.faults × (now.files ≡ option_map (played a plans journal) before.files)
     × ((now.written ≡ before.written) ⊎ SaidSome (report_of a plans journal) before.written now.written))
 
--- a write or the put of the report failed: each of the two files is as before or begun
+-- a write or the put of the report failed: each of the two files is as before or begun, by one journal
 pub record IsStoppedRun (a : Asked) (before now : Moment) (status : ℕ) : Type 0 where
   pub plans : List (List PlannedData)
   pub journal : List LoggedData
   pub status_is : status ≡ 3
   pub planned : HavePlans a before.files plans
+  pub ordered : IsOrdered journal (blocks_of_run a.blocks plans) (length plans)
   pub begun : ArePlayed journal plans
   pub reading : now.reading ≡ before.reading
   pub files : AreBegun before.files now.files a.out (sound_of a plans journal) a.order (order_of a plans journal)

@@ -1,18 +1,18 @@
 //! The top call of the program `play`.
-ghost use Rattle.std.specs.Prelude.{◌≡◌, ◌≢◌, ◌⊎◌, ◌↔◌, ◌<◌, ◌≤◌, ◌==◌, ℕ, List, [], ◌∷◌, IfSome, None, Some, length, map, option_map, slice_index_or, string_bytes, if◌then◌else◌};
+ghost use Rattle.std.specs.Prelude.{◌≡◌, ◌≢◌, ◌⊎◌, ◌↔◌, ◌<◌, ◌≤◌, ◌==◌, ℕ, List, [], ◌∷◌, IfSome, IsSomeAnd, None, Some, length, map, option_map, slice_index_or, string_bytes, if◌then◌else◌};
 ghost use Rattle.outside.specs.Files.{file_of, said};
 ghost use Rattle.outside.specs.Faults.{Rose};
 ghost use Rattle.fault_lines.specs.Lines.{Says, cannot_read, out_of_memory};
 ghost use Rattle.fault_lines.specs.Statuses.{IsOneOf};
 ghost use Rattle.command_set.specs.Entries.{LoggedData};
 ghost use Rattle.take_files.specs.Files.{wav};
-ghost use Rattle.take_files.specs.Orders.{OrderData};
+ghost use Rattle.take_files.specs.Orders.{IsOrdered, OrderData};
 ghost use Rattle.turns.specs.Timed.{ArePlayed, IsTimed};
 ghost use Rattle.script_outcome.specs.declared.fault.Place.{Place};
 ghost use Rattle.script_outcome.specs.declared.fault.ScriptKind.{ScriptKind};
 ghost use Rattle.script_plan.specs.Plan.{PlannedData};
 ghost use Rattle.play_core.specs.Words.{asked_by};
-ghost use Rattle.play_core.specs.Verdict.{Verdict, Faulty, IsPlayed, blocks_of_run, count_all, places_of_run, plans_in, verdict};
+ghost use Rattle.play_core.specs.Verdict.{Verdict, Faulty, IsPlayed, blocks_of_run, count_all, places_of_run, verdict};
 ghost use Rattle.play_core.specs.Refused.{IsUnread};
 ghost use Rattle.play_core.specs.Lines.{fault_line, report, usage};
 ghost use Rattle.play_core.specs.Files.{AreBegun};
@@ -70,11 +70,14 @@ pub fn play_main<R: Threads + Wait + Sync, S: Shelf, O: Out, G: Gate>(
     // 2 only where a read of a script failed and was counted, or the told files lack it, and all scripts before it are good; the line names it.
     ensures unread { result ≡ 2 → Asks (map string_bytes words.now) (λ a. (k : ℕ) × IsUnread k a.blocks (S.files shelf.old) a.scripts (S.reading shelf.old) (S.reading shelf.new)
         × Says (cannot_read (slice_index_or a.scripts k [])) (O.written out.old) (O.written out.new) (O.faults out.old) (O.faults out.new)) }
-    // 3 only where a write or a put failed and was counted. Each of both files is as before or begun, and all others are as before.
+    // 3 only where a write or a put failed and was counted.
     ensures write { result ≡ 3 → Rose (S.writing shelf.old) (S.writing shelf.new) ⊎ Rose (O.faults out.old) (O.faults out.new) }
-    ensures begun { result ≡ 3 → Told (map string_bytes words.now) (S.files shelf.old) (λ a told. (journal : List LoggedData) × ArePlayed journal (plans_in (verdict a told))
-        × AreBegun (S.files shelf.old) (S.files shelf.new) a.out (sound_of a (plans_in (verdict a told)) journal) a.order (order_of a (plans_in (verdict a told)) journal)) }
-    ensures stopped { result ≡ 3 → Asks (map string_bytes words.now) (λ a. (plans : List (List PlannedData)) × (journal : List LoggedData) × HavePlans a (S.files shelf.old) plans × SaysOfStop a plans journal
+    // Then there is one journal, such as an order lists, of the first commands of each script's plan. Each of both files is as before or a front of what this journal gives, and all others are as
+    // before. The line names one of the two; or no write failed, both are whole, and no more than a front of the journal's report was put.
+    ensures stopped { result ≡ 3 → Asks (map string_bytes words.now) (λ a. (plans : List (List PlannedData)) × (journal : List LoggedData) × HavePlans a (S.files shelf.old) plans
+        × IsOrdered journal (blocks_of_run a.blocks plans) (length plans) × ArePlayed journal plans
+        × AreBegun (S.files shelf.old) (S.files shelf.new) a.out (sound_of a plans journal) a.order (order_of a plans journal)
+        × SaysOfStop a plans journal
         (moment (S.files shelf.old) (S.reading shelf.old) (S.writing shelf.old) (O.written out.old) (O.faults out.old))
         (moment (S.files shelf.new) (S.reading shelf.new) (S.writing shelf.new) (O.written out.new) (O.faults out.new))) }
     // 4 and 6 only where the told files say so, by the line that was put.
@@ -84,8 +87,8 @@ pub fn play_main<R: Threads + Wait + Sync, S: Shelf, O: Out, G: Gate>(
         × Says (limit_line why) (O.written out.old) (O.written out.new) (O.faults out.old) (O.faults out.new) }
     // What the told files say decides, where no read fails.
     ensures judged { Told (map string_bytes words.now) (S.files shelf.old) (λ a told. ¬ (Rose (S.reading shelf.old) (S.reading shelf.new)) → Answers (verdict a told) result) }
-    // 5 only where the line has fewer places than there are commands.
-    ensures places { result ≡ 5 → Told (map string_bytes words.now) (S.files shelf.old) (λ a told. places_of_run a.places (plans_in (verdict a told)) < count_all (plans_in (verdict a told))) }
+    // 5 only where a number of places was asked for that is below the number of commands.
+    ensures places { result ≡ 5 → Asks (map string_bytes words.now) (λ a. (plans : List (List PlannedData)) × HavePlans a (S.files shelf.old) plans × IsSomeAnd a.places (λ p. p < count_all plans)) }
 
     // No counted fault is passed over, and after all other statuses no file has changed.
     ensures reads { result ≢ 2 → S.reading shelf.new ≡ S.reading shelf.old }

@@ -10,7 +10,7 @@ use Rattle.play_core.specs.Words.{asked}
 use Rattle.play_core.specs.Verdict.{blocks_of_run, places_of_run, count_all}
 use Rattle.play_core.specs.Files.{with_two}
 use Rattle.play_core.specs.Run.{moment}
-use Rattle.play_core.proofs.Runs.{stopped_at_start, stopped_in_turns, played_whole, run_ordered}
+use Rattle.play_core.proofs.Runs.{none_ordered, stopped_at_start, stopped_in_turns, played_whole, run_ordered}
 use Rattle.play_core.proofs.Counts.{not_more}
 use Rattle.play_core.proofs.Following.{all_follow}
 use Rattle.play_core.proofs.Stages.{all_due}
@@ -32,6 +32,10 @@ returns-in-Err g c =
     (moment (g.S.Shelf.files c.args.shelf.now) (g.S.Shelf.reading c.args.shelf.now) (g.S.Shelf.writing c.args.shelf.now) (g.O.Out.written c.args.out.now) (g.O.Out.faults c.args.out.now))
     (moment (g.S.Shelf.files c.begin_files.new.shelf) (g.S.Shelf.reading c.begin_files.new.shelf) (g.S.Shelf.writing c.begin_files.new.shelf) (g.O.Out.written c.say_stopped.new.out) (g.O.Out.faults c.say_stopped.new.out))
     c.say_stopped.result (plans_of c.args.stage.players.items) c.requires.differ c.requires.plans c.in-Err.target c.say_stopped.ensures.status
+    (rw (← c.requires.stage.blocks_are)
+    (none_ordered c.args.stage.blocks (length (plans_of c.args.stage.players.items)) c.requires.stage.some c.requires.stage.few
+    (omega (arith, c.requires.plans.0, length-map c.args.request.scripts.now string_bytes, c.requires.scripts.0))
+    (omega (arith, c.requires.plans.0, length-map c.args.request.scripts.now string_bytes, c.requires.scripts.1))))
     (rw (← c.requires.stage.blocks_are, c.requires.plans.0, length-map c.args.request.scripts.now string_bytes) c.in-Err.ensures.stopped)
     c.in-Err.ensures.cause.other
     (⊎_elim (λ (r : Rose (g.S.Shelf.writing c.args.shelf.now) (g.S.Shelf.writing c.begin_files.new.shelf)). r) (λ b. absurd b) c.in-Err.ensures.cause.failed)
@@ -65,12 +69,23 @@ returns-in-Ok-result g c =
 
 pub returns : goal.returns
 returns g c =
+    let few : length (journal_data c.play_scripts-journal.result.0.items) ≤ count_all (plans_of c.args.stage.players.items) =
+    not_more (plans_of c.args.stage.players.items) (journal_data c.play_scripts-journal.result.0.items) c.play_scripts-journal.ensures.played in
+    let scripts : length (plans_of c.args.stage.players.items) ≤ 256 = omega (arith, c.requires.plans.0, length-map c.args.request.scripts.now string_bytes, c.requires.scripts.1) in
     stopped_in_turns (asked c.args.request)
     (moment (g.S.Shelf.files c.args.shelf.now) (g.S.Shelf.reading c.args.shelf.now) (g.S.Shelf.writing c.args.shelf.now) (g.O.Out.written c.args.out.now) (g.O.Out.faults c.args.out.now))
     (moment (g.S.Shelf.files c.play_scripts-journal.new.shelf) (g.S.Shelf.reading c.play_scripts-journal.new.shelf) (g.S.Shelf.writing c.play_scripts-journal.new.shelf) (g.O.Out.written c.say_stopped-in-Err-result.new.out) (g.O.Out.faults c.say_stopped-in-Err-result.new.out))
     c.say_stopped-in-Err-result.result (plans_of c.args.stage.players.items) c.requires.differ c.requires.plans (g.S.Shelf.files c.begin_files.new.shelf) (journal_data c.play_scripts-journal.result.0.items)
     (rw (← c.requires.stage.blocks_are, c.requires.plans.0, length-map c.args.request.scripts.now string_bytes) c.in-Ok.ensures.whole)
-    c.say_stopped-in-Err-result.ensures.status c.play_scripts-journal.ensures.played
+    c.say_stopped-in-Err-result.ensures.status
+    (rw (← c.requires.stage.blocks_are)
+    (run_ordered (journal_data c.play_scripts-journal.result.0.items) c.args.stage.blocks (length (plans_of c.args.stage.players.items)) (count_all (plans_of c.args.stage.players.items))
+    c.requires.stage.some c.requires.stage.few
+    (omega (arith, c.requires.plans.0, length-map c.args.request.scripts.now string_bytes, c.requires.scripts.0))
+    scripts few c.requires.few
+    (all_follow (journal_data c.play_scripts-journal.result.0.items) (plans_of c.args.stage.players.items) c.args.stage.blocks c.play_scripts-journal.ensures.played c.play_scripts-journal.ensures.order
+    c.play_scripts-journal.ensures.ranges c.requires.stage.some c.requires.stage.few scripts (omega (arith, few, c.requires.few)))))
+    c.play_scripts-journal.ensures.played
     (rw (← c.requires.stage.blocks_are) (search rules))
     (c.play_scripts-journal.ensures.cause.other ∙ c.in-Ok.ensures.cause.other)
     (rw (← c.in-Ok.ensures.cause.kept) (search rules))

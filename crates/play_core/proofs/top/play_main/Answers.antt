@@ -1,7 +1,7 @@
 use Rattle.std.proofs.Common.{map, string_bytes, sym}
 use Rattle.play_core.specs.Words.{asked}
 use Rattle.play_core.specs.Run.{moment}
-use Rattle.play_core.proofs.Clauses.{clause_order, clause_blocks, clause_sound, clause_all, clause_played, clause_left, clause_timed, clause_others, clause_report, clause_unread, clause_fault, clause_limit, clause_judged, clause_places, clause_complete}
+use Rattle.play_core.proofs.Clauses.{clause_order, clause_blocks, clause_sound, clause_all, clause_played, clause_left, clause_timed, clause_others, clause_report, clause_unread, clause_fault, clause_limit, clause_judged, clause_places, clause_complete, clause_stopped}
 use Rattle.play_core.proofs.top.play_main.Goals as goal
 
 pub returns-in-Some-clause-order : goal.returns-in-Some-clause-order
@@ -91,6 +91,13 @@ returns-in-Some-clause-limit g c =
 pub returns-in-Some-clause-judged : goal.returns-in-Some-clause-judged
 returns-in-Some-clause-judged g c =
     clause_judged (map string_bytes c.args.words.now) (asked c.in-Some.request)
+    (moment (g.S.Shelf.files c.args.shelf.now) (g.S.Shelf.reading c.args.shelf.now) (g.S.Shelf.writing c.args.shelf.now) (g.O.Out.written c.args.out.now) (g.O.Out.faults c.args.out.now))
+    (moment (g.S.Shelf.files c.play.new.shelf) (g.S.Shelf.reading c.play.new.shelf) (g.S.Shelf.writing c.play.new.shelf) (g.O.Out.written c.play.new.out) (g.O.Out.faults c.play.new.out))
+    c.play.result (sym c.in-Some.ensures.asked) c.in-Some.ensures.differ c.play.ensures
+
+pub returns-in-Some-clause-stopped : goal.returns-in-Some-clause-stopped
+returns-in-Some-clause-stopped g c =
+    clause_stopped (map string_bytes c.args.words.now) (asked c.in-Some.request)
     (moment (g.S.Shelf.files c.args.shelf.now) (g.S.Shelf.reading c.args.shelf.now) (g.S.Shelf.writing c.args.shelf.now) (g.O.Out.written c.args.out.now) (g.O.Out.faults c.args.out.now))
     (moment (g.S.Shelf.files c.play.new.shelf) (g.S.Shelf.reading c.play.new.shelf) (g.S.Shelf.writing c.play.new.shelf) (g.O.Out.written c.play.new.out) (g.O.Out.faults c.play.new.out))
     c.play.result (sym c.in-Some.ensures.asked) c.in-Some.ensures.differ c.play.ensures
