@@ -13,10 +13,11 @@ use std::rt::Files;
 
 /// The files of the system. It tells no content.
 ///
-/// The two files that were appended to last stay open, each with up to 8192 bytes that are held back: they are written out when there
-/// is no room for more, when no bytes are appended to the file, when it is read, and when its place is needed for a third file. A
-/// failing write is counted by the call that makes it; its bytes are still held back then, so what a file has is always
-/// what was appended first. Files are told apart by their names' bytes. What is still held back when the shelf goes is lost.
+/// The two files that were appended to last stay open. A shelf by `new` writes each piece at once. One by `holding_back` keeps
+/// up to 8192 bytes of each of the two back: they are written out when there is no room for more, when no bytes are
+/// appended to the file (as `write_out` does), when it is read, and when its place is needed for a third file. A failing write is
+/// counted by the call that makes it; its bytes are still held back then, so what a file has is always what was
+/// appended first. What is still held back when the shelf goes is lost. Files are told apart by their names' bytes.
 #[derive(Drop)]
 pub struct DiskShelf<'a, R: Files> {
     rt: &'a R,
@@ -26,7 +27,7 @@ pub struct DiskShelf<'a, R: Files> {
 }
 
 impl<'a, R: Files> DiskShelf<'a, R> {
-    /// The files of this system, with no fault counted yet.
+    /// The files of this system, with no fault counted yet. Each piece is written at once.
     pub fn new(rt: &'a R) -> DiskShelf<'a, R>
         ensures reading { disk_reading result ≡ 0 }
         ensures writing { disk_writing result ≡ 0 }
@@ -35,7 +36,20 @@ impl<'a, R: Files> DiskShelf<'a, R> {
             rt,
             reading: 0,
             writing: 0,
-            held: HeldFiles::new(),
+            held: HeldFiles::new(false),
+        }
+    }
+
+    /// The same, but small pieces are held back. Whoever appends to a file has it written out at the end, by `write_out`.
+    pub fn holding_back(rt: &'a R) -> DiskShelf<'a, R>
+        ensures reading { disk_reading result ≡ 0 }
+        ensures writing { disk_writing result ≡ 0 }
+    {
+        DiskShelf {
+            rt,
+            reading: 0,
+            writing: 0,
+            held: HeldFiles::new(true),
         }
     }
 }

@@ -16,7 +16,7 @@ const HELD: usize = 8192;
 
 /// An open file, to the end of which is written, and the bytes that come next and aren't written yet.
 #[derive(Drop)]
-pub(crate) struct HeldFile<F> {
+struct HeldFile<F> {
     name: ArrayString<NAME>,
     file: F,
     bytes: ArrayVec<u8, HELD>,
@@ -25,6 +25,8 @@ pub(crate) struct HeldFile<F> {
 /// The open files.
 #[derive(Drop)]
 pub(crate) struct HeldFiles<F> {
+    /// Whether small pieces are held back; else each is written at once.
+    holds: bool,
     /// The one that was opened last.
     last: Option<HeldFile<F>>,
     /// The one before.
@@ -33,8 +35,9 @@ pub(crate) struct HeldFiles<F> {
 
 impl<F: Write + Drop> HeldFiles<F> {
     /// No open file.
-    pub(crate) fn new() -> HeldFiles<F> {
+    pub(crate) fn new(holds: bool) -> HeldFiles<F> {
         HeldFiles {
+            holds,
             last: None,
             before: None,
         }
@@ -76,8 +79,9 @@ impl<F: Write + Drop> HeldFiles<F> {
     ) -> io::Result<usize>
         ensures { IfOk result (λ count. count ≤ length bytes.now) }
     {
+        let holds = self.holds;
         if let Some(file) = self.find(name) {
-            return file.append(bytes);
+            return file.append(bytes, holds);
         }
         let file = OpenOptions::new().append(true).open(rt, name)?;
         if let Some(oldest) = &mut self.before {
@@ -86,7 +90,7 @@ impl<F: Write + Drop> HeldFiles<F> {
         self.before = self.last.take();
         match HeldFile::new(name, file) {
             Ok(mut file) => {
-                let count = file.append(bytes);
+                let count = file.append(bytes, holds);
                 self.last = Some(file);
                 count
             }
@@ -97,7 +101,7 @@ impl<F: Write + Drop> HeldFiles<F> {
 
 impl<F: Write> HeldFile<F> {
     /// The file by this name, with no bytes held back; the file is given back where the name is too long.
-    pub(crate) fn new(name: &str, file: F) -> Result<HeldFile<F>, F> {
+    fn new(name: &str, file: F) -> Result<HeldFile<F>, F> {
         match ArrayString::from(name) {
             Ok(name) => Ok(HeldFile {
                 name,
@@ -109,27 +113,27 @@ impl<F: Write> HeldFile<F> {
     }
 
     /// Whether it is the file by this name.
-    pub(crate) fn has_name(&self, name: &str) -> bool {
+    fn has_name(&self, name: &str) -> bool {
         self.name.as_str() == name
     }
 
-    /// Holds the bytes back, or writes the first of them where they are too many, and says how many.
-    /// An append of no bytes writes out all that is held back. After an error what wasn't written is
-    /// still held back.
-    pub(crate) fn append(&mut self, bytes: &[u8]) -> io::Result<usize>
+    /// Holds the bytes back, or writes the first of them, and says how many. An append of no bytes writes out
+    /// all that is held back. After an error what wasn't written is still held back.
+    fn append(&mut self, bytes: &[u8], holds: bool) -> io::Result<usize>
         ensures { IfOk result (λ count. count ≤ length bytes.now) }
     {
         if bytes.is_empty() || bytes.len() > self.bytes.remaining_capacity() {
             self.write_out()?;
         }
-        match self.bytes.try_extend_from_slice(bytes) {
-            Ok(()) => Ok(bytes.len()),
-            Err(_) => self.file.write(bytes),
+        if holds && self.bytes.try_extend_from_slice(bytes).is_ok() {
+            Ok(bytes.len())
+        } else {
+            self.file.write(bytes)
         }
     }
 
     /// Writes out all that is held back.
-    pub(crate) fn write_out(&mut self) -> io::Result<()> {
+    fn write_out(&mut self) -> io::Result<()> {
         let mut done = 0;
         while done < self.bytes.len() {
             match self.file.write(&self.bytes[done..]) {

@@ -75,6 +75,7 @@ fn files_are_kept_on_disk(rt: HostRuntime) -> Result<(), Fail> {
     let fault = read_all(alloc, &mut shelf, "missing.bin", 11).err();
     assert_eq!(rt; fault, Some(ReadFault::Failed));
     assert_eq!(rt; shelf.create("no_folder/disk.bin"), Err(Failed));
+    let mut shelf = DiskShelf::holding_back(&rt);
     let names = ["one.bin", "two.bin", "three.bin"];
     for name in names {
         assert_eq!(rt; shelf.create(name), Ok(()));
