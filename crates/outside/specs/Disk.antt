@@ -5,17 +5,17 @@ use Rattle.outside.specs.declared.disk.StdOut.{StdOut}
 use Rattle.outside.specs.Files.{Files}
 
 -- files on disk are not told
-abbrev pub disk_files : {R : Type 0} → DiskShelf R → Option Files
+abbrev pub disk_files : {R File Dir : Type 0} → DiskShelf R File Dir → Option Files
 disk_files shelf = None
 
-abbrev pub disk_reading : {R : Type 0} → DiskShelf R → ℕ
+abbrev pub disk_reading : {R File Dir : Type 0} → DiskShelf R File Dir → ℕ
 disk_reading shelf = shelf.reading
 
-abbrev pub disk_writing : {R : Type 0} → DiskShelf R → ℕ
+abbrev pub disk_writing : {R File Dir : Type 0} → DiskShelf R File Dir → ℕ
 disk_writing shelf = shelf.writing
 
 -- its reads are not counted
-abbrev pub disk_reads : {R : Type 0} → DiskShelf R → ℕ
+abbrev pub disk_reads : {R File Dir : Type 0} → DiskShelf R File Dir → ℕ
 disk_reads shelf = 0
 
 -- what was put on the standard output is not told

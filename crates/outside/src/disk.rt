@@ -4,22 +4,30 @@ ghost use Rattle.outside.specs.Files.{Lacks, ReadsFrom, appended, created, said}
 ghost use Rattle.outside.specs.Faults.{HasCause, one_more};
 ghost use Rattle.outside.specs.Disk.{disk_files, disk_reading, disk_reads, disk_writing, output_bytes, output_faults};
 
+use crate::held::HeldFiles;
 use crate::{Failed, Out, Shelf};
-use std::fs::{File, OpenOptions};
+use std::fs::File;
 use std::io;
 use std::io::{Read, Seek, SeekFrom, Write};
 use std::rt::Files;
 
 /// The files of the system. It tells no content.
+///
+/// The two files that were appended to last stay open. A shelf by `new` writes each piece at once. One by `holding_back` keeps
+/// up to 8192 bytes of each of the two back: they are written out when there is no room for more, when no bytes are
+/// appended to the file (as `write_out` does), when it is read, and when its place is needed for a third file. A failing write is
+/// counted by the call that makes it; its bytes are still held back then, so what a file has is always what was
+/// appended first. What is still held back when the shelf goes is lost. Files are told apart by their names' bytes.
 #[derive(Drop)]
-pub struct DiskShelf<'a, R> {
+pub struct DiskShelf<'a, R: Files> {
     rt: &'a R,
     reading: u64,
     writing: u64,
+    held: HeldFiles<R::File>,
 }
 
 impl<'a, R: Files> DiskShelf<'a, R> {
-    /// The files of this system, with no fault counted yet.
+    /// The files of this system, with no fault counted yet. Each piece is written at once.
     pub fn new(rt: &'a R) -> DiskShelf<'a, R>
         ensures reading { disk_reading result ≡ 0 }
         ensures writing { disk_writing result ≡ 0 }
@@ -28,6 +36,20 @@ impl<'a, R: Files> DiskShelf<'a, R> {
             rt,
             reading: 0,
             writing: 0,
+            held: HeldFiles::new(false),
+        }
+    }
+
+    /// The same, but small pieces are held back. Whoever appends to a file has it written out at the end, by `write_out`.
+    pub fn holding_back(rt: &'a R) -> DiskShelf<'a, R>
+        ensures reading { disk_reading result ≡ 0 }
+        ensures writing { disk_writing result ≡ 0 }
+    {
+        DiskShelf {
+            rt,
+            reading: 0,
+            writing: 0,
+            held: HeldFiles::new(true),
         }
     }
 }
@@ -55,7 +77,7 @@ impl<R: Files> Shelf for DiskShelf<'_, R> {
         // The count of reading faults rises by one exactly where the call fails.
         ensures by_one { OnErr result (disk_reading self.new ≡ one_more (disk_reading self.old)) }
     {
-        match read_file(self.rt, name, at, into) {
+        match read_file(self.rt, &mut self.held, name, at, into) {
             Ok(count) => Ok(count),
             Err(_) => {
                 self.reading = self.reading.saturating_add(1);
@@ -73,6 +95,7 @@ impl<R: Files> Shelf for DiskShelf<'_, R> {
         // The count of writing faults rises by one exactly where the call fails.
         ensures by_one { OnErr result (disk_writing self.new ≡ one_more (disk_writing self.old)) }
     {
+        self.held.forget(name);
         match File::create(self.rt, name) {
             Ok(_) => Ok(()),
             Err(_) => {
@@ -96,7 +119,7 @@ impl<R: Files> Shelf for DiskShelf<'_, R> {
         // The count of writing faults rises by one exactly where the call fails.
         ensures by_one { OnErr result (disk_writing self.new ≡ one_more (disk_writing self.old)) }
     {
-        match append_file(self.rt, name, bytes) {
+        match self.held.append(self.rt, name, bytes) {
             Ok(count) if count > 0 || bytes.is_empty() => Ok(count),
             _ => {
                 self.writing = self.writing.saturating_add(1);
@@ -106,10 +129,17 @@ impl<R: Files> Shelf for DiskShelf<'_, R> {
     }
 }
 
-fn read_file<R: Files>(rt: &R, name: &str, at: u64, into: &mut [u8]) -> io::Result<usize>
+fn read_file<R: Files>(
+    rt: &R,
+    held: &mut HeldFiles<R::File>,
+    name: &str,
+    at: u64,
+    into: &mut [u8],
+) -> io::Result<usize>
     ensures count { IfOk result (λ count. count ≤ length into.old) }
     ensures rest { IfOk result (λ count. drop count into.new ≡ drop count into.old) }
 {
+    held.write_out(name)?;
     let mut file = File::open(rt, name)?;
     file.seek(SeekFrom::Start(at))?;
     let mut chunk = [0u8; 4096];
@@ -117,13 +147,6 @@ fn read_file<R: Files>(rt: &R, name: &str, at: u64, into: &mut [u8]) -> io::Resu
     let count = file.read(&mut chunk[..room])?;
     into[..count].copy_from_slice(&chunk[..count]);
     Ok(count)
-}
-
-fn append_file<R: Files>(rt: &R, name: &str, bytes: &[u8]) -> io::Result<usize>
-    ensures count { IfOk result (λ count. count ≤ length bytes.now) }
-{
-    let mut file = OpenOptions::new().append(true).open(rt, name)?;
-    file.write(bytes)
 }
 
 /// The standard output. It tells no content.

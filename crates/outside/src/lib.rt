@@ -5,6 +5,7 @@ mod copy;
 mod disk;
 mod failures;
 mod gate;
+mod held;
 mod memory;
 mod output;
 mod shelf;
@@ -18,7 +19,7 @@ pub use memory::MemShelf;
 pub use output::MemOut;
 pub use shelf::{Failed, Out, Shelf};
 pub use sure::SureShelf;
-pub use whole::{ReadFault, append_all, put_all, read_all};
+pub use whole::{ReadFault, append_all, put_all, read_all, write_out};
 
 #[cfg(test)]
 mod tests;

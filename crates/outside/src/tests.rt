@@ -75,6 +75,28 @@ fn files_are_kept_on_disk(rt: HostRuntime) -> Result<(), Fail> {
     let fault = read_all(alloc, &mut shelf, "missing.bin", 11).err();
     assert_eq!(rt; fault, Some(ReadFault::Failed));
     assert_eq!(rt; shelf.create("no_folder/disk.bin"), Err(Failed));
+    let mut shelf = DiskShelf::holding_back(&rt);
+    let names = ["one.bin", "two.bin", "three.bin"];
+    for name in names {
+        assert_eq!(rt; shelf.create(name), Ok(()));
+    }
+    // small pieces are held back, a large one isn't, and the third file takes the place of the first
+    for round in 0..300u16 {
+        for name in names {
+            assert_eq!(rt; append_all(&mut shelf, name, &round.to_le_bytes()), Ok(()));
+        }
+        if round % 100 == 0 {
+            assert_eq!(rt; append_all(&mut shelf, "two.bin", &[7; 9000]), Ok(()));
+        }
+    }
+    for name in names {
+        assert_eq!(rt; write_out(&mut shelf, name), Ok(()));
+        let mut other = DiskShelf::new(&rt);
+        let bytes = read_all(alloc, &mut other, name, 27600).expect(&rt, "what was written out");
+        let longs = if name == "two.bin" { 3 } else { 0 };
+        assert_eq!(rt; bytes.len(), 600 + 9000 * longs);
+        assert!(rt; bytes.ends_with(&[43, 1]));
+    }
     Ok(())
 }
 

@@ -80,6 +80,20 @@ pub fn append_all<S: Shelf>(shelf: &mut S, name: &str, bytes: &[u8]) -> Result<(
     Ok(())
 }
 
+/// Has a shelf write out what it may hold back of the named file, by an append of no bytes. The files stay as they are.
+pub fn write_out<S: Shelf>(shelf: &mut S, name: &str) -> Result<(), Failed>
+    ensures files { S.files shelf.new ≡ S.files shelf.old }
+    ensures lacks { Lacks (S.files shelf.old) name.now → IsErr result }
+    ensures cause { HasCause (S.writing shelf.old) (S.writing shelf.new) (S.reading shelf.old) (S.reading shelf.new)
+        (Lacks (S.files shelf.old) name.now) result }
+    ensures reads { S.reads shelf.new ≡ S.reads shelf.old }
+{
+    match shelf.append(name, &[]) {
+        Ok(_) => Ok(()),
+        Err(failed) => Err(failed),
+    }
+}
+
 /// Puts all the bytes. After `Failed` the first of them may have been put.
 pub fn put_all<O: Out>(out: &mut O, bytes: &[u8]) -> Result<(), Failed>
     ensures all { OnOk result (O.written out.new ≡ option_map (said bytes.now) (O.written out.old)) }

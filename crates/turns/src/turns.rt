@@ -12,7 +12,7 @@ ghost use Rattle.turns.specs.Written.{order_lines, both_appended, BothBegun};
 
 use crate::target::Target;
 use crate::turn::run_turn;
-use crate::write::{write_block, write_lines};
+use crate::write::{write_block, write_lines, write_out_both};
 use command_queue::Line;
 use live_renderer::LiveRenderer;
 use outside::{Failed, Gate, Shelf, append_all};
@@ -23,6 +23,43 @@ use take_files::wav_block;
 
 /// The same as `play_turns`, where a failure also tells which file could not be written.
 pub fn run_turns<R: Threads + Wait + Sync, S: Shelf, G: Gate>(
+    rt: &R,
+    line: &Line,
+    renderer: &mut LiveRenderer,
+    players: &mut [Player],
+    blocks: u32,
+    shelf: &mut S,
+    sound: &str,
+    order: &str,
+    gate: &G,
+) -> Result<(), Target>
+    requires players { AreFresh line.now players.old }
+    requires renderer { IsFreshRenderer line.now renderer.old }
+    requires spare { many_commands (plans_of players.old) ≤ renderer.old.spare }
+    requires blocks { (1 ≤ blocks) × (blocks ≤ 1048576) }
+    requires due { (k : ℕ) (d : PlayerView) → k < length players.old → AllBelow blocks (dues (slice_index_or players.old k d).left) }
+    requires differ { sound.now ≢ order.now }
+    requires has_sound { ¬ (Lacks (S.files shelf.old) sound.now) }
+    requires has_order { ¬ (Lacks (S.files shelf.old) order.now) }
+    ensures played { HavePlayed line.now (plans_of players.old) renderer.new.journal players.new }
+    ensures taker { renderer.new.taker.line ≡ line.now }
+    ensures live { IsLive renderer.new }
+    ensures within { All (λ l. l.block < blocks) renderer.new.journal }
+    ensures on_time { OnOk result (AreOnTime line.now blocks (plans_of players.old) renderer.new.journal players.new) }
+    ensures rendered { OnOk result (renderer.new.blocks ≡ blocks) }
+    ensures whole { OnOk result (S.files shelf.new ≡ option_map (both_appended sound.now (wav_blocks renderer.new.journal blocks) order.now (order_lines renderer.new.journal)) (S.files shelf.old)) }
+    ensures begun { OnErr result (BothBegun sound.now (wav_blocks renderer.new.journal blocks) order.now (order_lines renderer.new.journal) (S.files shelf.old) (S.files shelf.new)) }
+    ensures cause { HasCause (S.writing shelf.old) (S.writing shelf.new) (S.reading shelf.old) (S.reading shelf.new) ⊥ result }
+    ensures reads { S.reads shelf.new ≡ S.reads shelf.old }
+{
+    append_turns(
+        rt, line, renderer, players, blocks, shelf, sound, order, gate,
+    )?;
+    write_out_both(shelf, sound, order)
+}
+
+/// Plays all turns, and appends to both files what is made in each.
+fn append_turns<R: Threads + Wait + Sync, S: Shelf, G: Gate>(
     rt: &R,
     line: &Line,
     renderer: &mut LiveRenderer,
@@ -70,7 +107,7 @@ pub fn run_turns<R: Threads + Wait + Sync, S: Shelf, G: Gate>(
 }
 
 /// Plays all turns. In each the players send what is due, beside the renderer, which renders the block before and takes; then all that was accepted is taken, and logged at the turn's block;
-/// and then the block and the lines of the new entries are appended to the two files. After the last turn the last block is rendered and appended. It allocates nothing.
+/// and then the block and the lines of the new entries are appended to the two files. After the last turn the last block is rendered and appended, and the shelf writes out what it holds back. It allocates nothing.
 ///
 /// `Failed` comes only where the shelf's count of faults of writing rose. Wherever it ends, each end accepted the first commands of its script and the others are left in its player; the journal
 /// has as many entries of each script as its end accepted, each at or above its due block (`played`); and the files have a front of the blocks and of the journal's lines (`begun`). Where all turns

@@ -9,7 +9,7 @@ ghost use Rattle.turns.specs.Written.{order_lines};
 
 use crate::target::Target;
 use command_set::{LineText, Logged};
-use outside::{Shelf, append_all};
+use outside::{Shelf, append_all, write_out};
 use take_files::{order_line, wav_block};
 
 /// Appends the block before a turn, where there is one.
@@ -56,4 +56,26 @@ pub(crate) fn write_lines<S: Shelf>(
         }
     }
     Ok(())
+}
+
+/// Has the shelf write out what it holds back of the two files.
+pub(crate) fn write_out_both<S: Shelf>(
+    shelf: &mut S,
+    sound: &str,
+    order: &str,
+) -> Result<(), Target>
+    requires has_sound { ¬ (Lacks (S.files shelf.old) sound.now) }
+    requires has_order { ¬ (Lacks (S.files shelf.old) order.now) }
+    ensures files { S.files shelf.new ≡ S.files shelf.old }
+    ensures cause { HasCause (S.writing shelf.old) (S.writing shelf.new) (S.reading shelf.old) (S.reading shelf.new) ⊥ result }
+    ensures reads { S.reads shelf.new ≡ S.reads shelf.old }
+{
+    match write_out(shelf, sound) {
+        Ok(()) => {}
+        Err(_) => return Err(Target::Sound),
+    }
+    match write_out(shelf, order) {
+        Ok(()) => Ok(()),
+        Err(_) => Err(Target::Order),
+    }
 }
