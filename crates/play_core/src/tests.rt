@@ -232,15 +232,15 @@ fn refusals_are_told<R: Threads + Wait + Sync + Abort>(
         ),
         (
             "o.wav o.txt 100 - a.txt",
-            b"edit 1\n",
+            b"edit 1\n0 undo\n",
             4,
-            b"script 0 line 1: not yet\n",
+            b"script 0 line 2: undo\n",
         ),
         (
             "o.wav o.txt 100 - a.txt",
             b"MThd",
             4,
-            b"script 0 line 1: not yet\n",
+            b"script 0 byte 4: cut\n",
         ),
         (
             "o.wav o.txt - - a.txt",

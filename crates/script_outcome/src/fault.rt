@@ -39,8 +39,6 @@ pub enum ScriptKind {
     Division,
     /// An event of a MIDI file is none.
     Event,
-    /// Scripts of this kind are not read yet.
-    NotYet,
 }
 
 /// Why no script is answered.

@@ -5,7 +5,7 @@ use plain_text::LineText;
 
 #[test]
 fn kinds_have_their_texts(rt: HostRuntime) {
-    let rows: [(ScriptKind, &[u8]); 14] = [
+    let rows: [(ScriptKind, &[u8]); 13] = [
         (ScriptKind::Kind, b"kind"),
         (ScriptKind::Line, b"line"),
         (ScriptKind::Falls, b"falls"),
@@ -19,7 +19,6 @@ fn kinds_have_their_texts(rt: HostRuntime) {
         (ScriptKind::Format, b"format"),
         (ScriptKind::Division, b"division"),
         (ScriptKind::Event, b"event"),
-        (ScriptKind::NotYet, b"not yet"),
     ];
     for (kind, text) in rows {
         let mut line = LineText::new();

@@ -32,6 +32,5 @@ pub fn push_script_text(kind: &ScriptKind, into: &mut LineText)
         ScriptKind::Format => push_text(into, b"format"),
         ScriptKind::Division => push_text(into, b"division"),
         ScriptKind::Event => push_text(into, b"event"),
-        ScriptKind::NotYet => push_text(into, b"not yet"),
     }
 }

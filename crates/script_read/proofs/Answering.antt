@@ -15,6 +15,7 @@ use Rattle.script_read.specs.Edits.{edit_text_outcomes, edits_behind}
 use Rattle.script_outcome.specs.Outcomes.{Outcome}
 use Rattle.script_read.specs.Outcomes.{stream_of, outcomes_behind, text_outcomes}
 use Rattle.script_outcome.specs.Plan.{Commands, Refused, TooMany, plan_of}
+use Rattle.midi_file.specs.File.{midi_outcomes}
 use Rattle.script_read.specs.Plan.{at_first, is_stream, is_midi_file, lines_outcomes, outcomes, plan}
 use Rattle.script_outcome.specs.Reading.{Settles, Stops, all_given}
 use Rattle.script_outcome.proofs.Plans.{fails_behind, stopped_refused, stopped_many, whole}
@@ -110,7 +111,13 @@ unknown_refused fault room blocks first e is =
     refused_with fault room kind.Kind _ (unknown (bytes_eq first (codes "midi 1")) (bytes_eq first (codes "edit 1")) (text_outcomes blocks []) (edit_text_outcomes blocks []) (at_first kind.Kind) e) is
 
 -- a MIDI file
-pub midi_file_refused : (fault : ScriptFault) (room : ℕ) (blocks : Option ℕ) (bytes : List ℕ) → is_stream bytes ≡ false → is_midi_file bytes ≡ true
-    → fault ≡ faults.Refused (place.Line 1) kind.NotYet → Stops fault room (outcomes blocks bytes)
+chosen_third : (a b : Bool) (xs ys zs : List Outcome) → a ≡ false → b ≡ true → ys ≡ cond a xs (cond b ys zs)
+chosen_third true b xs ys zs e f = absurd (cc)
+chosen_third false true xs ys zs e f = refl
+chosen_third false false xs ys zs e f = absurd (cc)
+
+pub midi_settled : (result : Result (List PlannedData) ScriptFault) (room : ℕ) (blocks : Option ℕ) (bytes : List ℕ) → is_stream bytes ≡ false → is_midi_file bytes ≡ true
+    → Settles result room (midi_outcomes blocks bytes) → Settles result room (outcomes blocks bytes)
 unfolding outcomes
-midi_file_refused fault room blocks bytes e f is = refused_with fault room kind.NotYet _ (rw (e, f) refl) is
+midi_settled result room blocks bytes e f settles =
+    subst (λ (os : List Outcome). Settles result room os) (chosen_third (is_stream bytes) (is_midi_file bytes) (stream_outcomes bytes) (midi_outcomes blocks bytes) (lines_outcomes blocks (lines_of bytes)) e f) settles

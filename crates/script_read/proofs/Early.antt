@@ -11,6 +11,8 @@ use Rattle.script_outcome.specs.declared.fault.ScriptKind.TheVariants as kind
 use Rattle.script_read.specs.Lines.{Said, Blank, Maps, Orders, Feeds, Wrong, sayings}
 use Rattle.script_read.specs.EditLines.{EditSaid, Passed, Asks, Bad, edit_sayings}
 use Rattle.script_read.specs.Edits.{Answered, Becomes, Refuses, answer_outcomes, answered, edit_block, edit_outcomes, edit_place, edit_text_outcomes, edits_behind, history_behind, opened}
+use Rattle.midi_file.specs.File.{midi_outcomes}
+use Rattle.midi_file.proofs.Early.{midi_early}
 use Rattle.script_read.specs.Words.{lines_of}
 use Rattle.script_outcome.specs.Stream.{begun_at}
 use Rattle.script_outcome.specs.Outcomes.{Outcome, Gives, Fails, fed_outcomes}
@@ -89,5 +91,5 @@ by_lines blocks (first ∷ lines) =
 pub all_early : (blocks : ℕ) (bytes : List ℕ) → 0 < blocks → AllEarly blocks (outcomes (Some blocks) bytes)
 unfolding outcomes
 all_early blocks bytes some =
-    either_early blocks (is_stream bytes) (stream_outcomes bytes) (if is_midi_file bytes then at_first kind.NotYet else lines_outcomes (Some blocks) (lines_of bytes))
-    (stream_early blocks bytes some) (either_early blocks (is_midi_file bytes) (at_first kind.NotYet) (lines_outcomes (Some blocks) (lines_of bytes)) tt (by_lines blocks (lines_of bytes)))
+    either_early blocks (is_stream bytes) (stream_outcomes bytes) (if is_midi_file bytes then midi_outcomes (Some blocks) bytes else lines_outcomes (Some blocks) (lines_of bytes))
+    (stream_early blocks bytes some) (either_early blocks (is_midi_file bytes) (midi_outcomes (Some blocks) bytes) (lines_outcomes (Some blocks) (lines_of bytes)) (midi_early blocks bytes) (by_lines blocks (lines_of bytes)))

@@ -5,6 +5,7 @@ use Rattle.std.specs.Prelude.{nat_eq}
 use Rattle.script_outcome.specs.declared.fault.Place.TheVariants as place
 use Rattle.script_outcome.specs.declared.fault.ScriptKind.{ScriptKind}
 use Rattle.script_outcome.specs.declared.fault.ScriptKind.TheVariants as kind
+use Rattle.midi_file.specs.File.{midi_outcomes}
 use Rattle.script_read.specs.Words.{lines_of}
 use Rattle.script_read.specs.Lines.{sayings}
 use Rattle.script_read.specs.EditLines.{edit_sayings}
@@ -38,7 +39,7 @@ is_midi_file bytes = starts_with nat_eq bytes (codes "MThd")
 unfoldable pub outcomes : Option ℕ → List ℕ → List Outcome
 outcomes blocks bytes =
     if is_stream bytes then stream_outcomes bytes
-    else if is_midi_file bytes then at_first kind.NotYet
+    else if is_midi_file bytes then midi_outcomes blocks bytes
     else lines_outcomes blocks (lines_of bytes)
 
 -- the plan of a script, with the number of blocks where it is known, and the room for commands

@@ -10,6 +10,7 @@ ghost use Rattle.script_outcome.specs.Reading.{Settles};
 use crate::edit_lines::read_edit_lines;
 use crate::lines::{read_lines, without_return};
 use crate::stream::read_stream;
+use midi_file::read_midi_file;
 use plain_text::{cut, is_word};
 use script_outcome::{Bounds, Place, ScriptFault, ScriptKind};
 use script_plan::Script;
@@ -48,7 +49,7 @@ fn read_any(
     if is_stream(bytes) {
         read_stream(alloc, bytes, maps.map(Curve::Linear), bounds.room)
     } else if is_midi_file(bytes) {
-        Err(at_first(ScriptKind::NotYet))
+        read_midi_file(alloc, bytes, maps.map(Curve::Linear), bounds)
     } else {
         read_text(alloc, bytes, maps, bounds)
     }

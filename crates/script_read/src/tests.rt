@@ -97,7 +97,11 @@ fn judge(
 fn texts_are_read(rt: HostRuntime) -> Result<(), Fail> {
     let alloc = rt.alloc();
     let maps = make_maps!(alloc);
-    let rows: [(&[u8], &[u8]); 21] = [
+    let rows: [(&[u8], &[u8]); 22] = [
+        (
+            b"MThd\0\0\0\x06\0\0\0\x01\0\x60MTrk\0\0\0\x08\0\x90\x3C\x64\0\xFF\x2F\0",
+            b"0 on 0 60 100\n",
+        ),
         (b"midi 1", b""),
         (b"midi 1\n", b""),
         (b"midi 1\r\n\r\n   \r\n#\xFF x\n", b""),
@@ -170,7 +174,7 @@ fn texts_are_refused(rt: HostRuntime) -> Result<(), Fail> {
         (b"#\nmidi 1\n", b"line 1: kind"),
         (b"\xEF\xBB\xBFmidi 1\n", b"line 1: kind"),
         (b"edit 1 \n0 undo\n", b"line 1: kind"),
-        (b"MThd\0\0\0\x06", b"line 1: not yet"),
+        (b"MThd\0\0\0\x06", b"byte 4: cut"),
         (b"midi 1\n\n # x\n", b"line 3: line"),
         (b"midi 1\nmap\n", b"line 2: line"),
         (b"midi 1\nmap x\n", b"line 2: line"),
