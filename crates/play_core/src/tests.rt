@@ -334,8 +334,9 @@ fn failing_calls_are_told<R: Threads + Wait + Sync + Abort>(
         play_main(rt, alloc, &words, &mut whole, &mut out, &NoGate, maps),
         0
     );
-    // Two reads, two creates, two headers; then the first block, the line of the second turn, and two more blocks.
-    let lines: [&[u8]; 10] = [
+    // Two reads, two creates, two headers; then the first block, the line of the second turn, and two more blocks; and both files
+    // are written out.
+    let lines: [&[u8]; 12] = [
         b"cannot read a.txt\n",
         b"cannot read a.txt\n",
         b"cannot write o.wav\n",
@@ -346,6 +347,8 @@ fn failing_calls_are_told<R: Threads + Wait + Sync + Abort>(
         b"cannot write o.txt\n",
         b"cannot write o.wav\n",
         b"cannot write o.wav\n",
+        b"cannot write o.wav\n",
+        b"cannot write o.txt\n",
     ];
     for (call, line) in lines.iter().enumerate() {
         let mut shelf = MemShelf::new(alloc, &[call as u64])?;
