@@ -1,8 +1,9 @@
 //! Runs a kernel many times and prints a checksum of its answers, so that a script can time it:
 //! `notes` renders blocks of six operators, `note` a whole note of them, `died` one that has died away, `sixteen` sixteen notes on the instrument, `commands` applies commands,
-//! `entries` passes entries through a line, `frames` reads a cartridge's message.
+//! `entries` passes entries through a line, `acts` edits a voice, `frames` reads a cartridge's message.
 #![tactic(auto)]
 
+mod acts;
 mod engine;
 mod line;
 
@@ -45,11 +46,15 @@ fn main(rt: HostRuntime) -> Result<(), anyhow::Error> {
                 let sum = line::pass_entries(&rt, rt.alloc())?;
                 println!(rt; "entries sum {sum}")?;
             }
+            "acts" => {
+                let acts = acts::edit_voice(rt.alloc())?;
+                println!(rt; "acts {acts}")?;
+            }
             "frames" => {
                 let sum = read_frames(rt.alloc())?;
                 println!(rt; "frames sum {sum}")?;
             }
-            _ => println!(rt; "usage: speed notes|note|died|sixteen|commands|entries|frames")?,
+            _ => println!(rt; "usage: speed notes|note|died|sixteen|commands|entries|acts|frames")?,
         }
     }
     Ok(())

@@ -107,6 +107,10 @@ module _ (sound order : List ℕ) (ne : sound ≢ order) where
   begun_at o now a b samples lines rest rest' is at_a at_b =
       (length a, length b, is ∙ (λ i. option_map (both_appended sound (sym (front samples a rest at_a) i) order (sym (front lines b rest' at_b) i)) o))
 
+  -- both are whole
+  pub whole_begun : (o now : Option Files) (samples lines : List ℕ) → now ≡ option_map (both_appended sound samples order lines) o → BothBegun sound samples order lines o now
+  whole_begun o now samples lines is = begun_at o now samples lines samples lines [] [] is (sym (append-nil samples)) (sym (append-nil lines))
+
   -- where an append stopped
 
   pub sound_stopped : (o before now : Option Files) (a b z samples lines rest rest' : List ℕ) → before ≡ option_map (both_appended sound a order b) o → AppendedSome sound z before now
