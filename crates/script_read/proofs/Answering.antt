@@ -111,13 +111,7 @@ unknown_refused fault room blocks first e is =
     refused_with fault room kind.Kind _ (unknown (bytes_eq first (codes "midi 1")) (bytes_eq first (codes "edit 1")) (text_outcomes blocks []) (edit_text_outcomes blocks []) (at_first kind.Kind) e) is
 
 -- a MIDI file
-chosen_third : (a b : Bool) (xs ys zs : List Outcome) → a ≡ false → b ≡ true → ys ≡ cond a xs (cond b ys zs)
-chosen_third true b xs ys zs e f = absurd (cc)
-chosen_third false true xs ys zs e f = refl
-chosen_third false false xs ys zs e f = absurd (cc)
-
 pub midi_settled : (result : Result (List PlannedData) ScriptFault) (room : ℕ) (blocks : Option ℕ) (bytes : List ℕ) → is_stream bytes ≡ false → is_midi_file bytes ≡ true
     → Settles result room (midi_outcomes blocks bytes) → Settles result room (outcomes blocks bytes)
 unfolding outcomes
-midi_settled result room blocks bytes e f settles =
-    subst (λ (os : List Outcome). Settles result room os) (chosen_third (is_stream bytes) (is_midi_file bytes) (stream_outcomes bytes) (midi_outcomes blocks bytes) (lines_outcomes blocks (lines_of bytes)) e f) settles
+midi_settled result room blocks bytes e f settles = rw (e, f) settles
