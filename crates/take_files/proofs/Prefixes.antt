@@ -1,4 +1,4 @@
--- The front of a line, number by number.
+-- The beginning of a line, number by number.
 use Rattle.std.proofs.Common.{◌≡◌, ◌≢◌, ℕ, ◌+◌, ◌^◌, ◌<◌, ◌≤◌, List, [], ◌∷◌, ◌++◌, length, Option, Some, None, Bor, refl, sym, ◌∙◌, ap, arith, length-append}
 use Rattle.std.specs.Prelude.{codes, decimal, IfNone, IfSome, MatchOption}
 use Rattle.std.proofs.lemmas.List.{append_cancel_left}
@@ -7,60 +7,61 @@ use Rattle.plain_text.specs.Parts.{parts}
 use Rattle.plain_text.proofs.Numbers.{reads_decimal, written}
 use Rattle.command_set.specs.Entries.{LoggedData}
 use Rattle.command_set.specs.Text.{text}
+use Rattle.take_files.specs.Files.{entry_text, header_text}
 use Rattle.take_files.specs.Orders.{IsWritable}
-use Rattle.take_files.specs.Reading.{IsHeader, entry_text, header_text, numbered}
+use Rattle.take_files.specs.Reading.{IsHeader, numbered}
 use Rattle.take_files.proofs.Lines.{cut_none, cut_only, cut_text, decimal_whole, number_same}
 
--- ---- a front that is stripped
+-- ---- a prefix that is stripped
 
-pub stripped : (whole front : List ℕ) (r : Option (Bor (List ℕ))) → MatchOption r ((rest : List ℕ) → whole ≢ front ++ rest) (λ x. whole ≡ front ++ x.now)
-    → IfSome r (λ x. whole ≡ front ++ x.now)
-stripped whole front (Some x) h = h
-stripped whole front None h = tt
+pub stripped : (whole prefix : List ℕ) (r : Option (Bor (List ℕ))) → MatchOption r ((rest : List ℕ) → whole ≢ prefix ++ rest) (λ x. whole ≡ prefix ++ x.now)
+    → IfSome r (λ x. whole ≡ prefix ++ x.now)
+stripped whole prefix (Some x) h = h
+stripped whole prefix None h = tt
 
-pub unstripped : (whole front : List ℕ) (r : Option (Bor (List ℕ))) → MatchOption r ((rest : List ℕ) → whole ≢ front ++ rest) (λ x. whole ≡ front ++ x.now)
-    → IfNone r ((rest : List ℕ) → whole ≢ front ++ rest)
-unstripped whole front (Some x) h = tt
-unstripped whole front None h = h
+pub unstripped : (whole prefix : List ℕ) (r : Option (Bor (List ℕ))) → MatchOption r ((rest : List ℕ) → whole ≢ prefix ++ rest) (λ x. whole ≡ prefix ++ x.now)
+    → IfNone r ((rest : List ℕ) → whole ≢ prefix ++ rest)
+unstripped whole prefix (Some x) h = tt
+unstripped whole prefix None h = h
 
 -- ---- one number and its space
 
 pub no_space : (whole : List ℕ) (n : ℕ) (rest : List ℕ) → parts 32 whole ≡ whole ∷ [] → n < 2 ^ 32 → whole ≢ decimal n ++ 32 ∷ rest
 no_space whole n rest e l = cut_none 32 whole (decimal n) rest e (decimal_whole 32 n (omega arith) l)
 
-pub no_number : (whole word behind rest : List ℕ) (least most n : ℕ) → parts 32 whole ≡ word ∷ parts 32 behind → None ≡ number least most word → most < 2 ^ 32
+pub no_number : (whole word rest_of rest : List ℕ) (least most n : ℕ) → parts 32 whole ≡ word ∷ parts 32 rest_of → None ≡ number least most word → most < 2 ^ 32
     → least ≤ n → n ≤ most → whole ≢ decimal n ++ 32 ∷ rest
-no_number whole word behind rest least most n e none range low high is =
-    let h = cut_only 32 whole word behind (decimal n) rest e (decimal_whole 32 n (omega arith) (omega arith)) is in
+no_number whole word rest_of rest least most n e none range low high is =
+    let h = cut_only 32 whole word rest_of (decimal n) rest e (decimal_whole 32 n (omega arith) (omega arith)) is in
     let some : number least most word ≡ Some n = reads_decimal least most n word range (h.0, low, high) in
     absurd (cc)
 
-pub number_found : (whole word behind : List ℕ) (least most n : ℕ) → parts 32 whole ≡ word ∷ parts 32 behind → Some n ≡ number least most word → most < 2 ^ 32
-    → whole ≡ decimal n ++ 32 ∷ behind
-number_found whole word behind least most n e some range =
-    cut_text 32 whole word behind e ∙ ap (λ (w : List ℕ). w ++ 32 ∷ behind) (written least most n word range (sym some)).0
+pub number_found : (whole word rest_of : List ℕ) (least most n : ℕ) → parts 32 whole ≡ word ∷ parts 32 rest_of → Some n ≡ number least most word → most < 2 ^ 32
+    → whole ≡ decimal n ++ 32 ∷ rest_of
+number_found whole word rest_of least most n e some range =
+    cut_text 32 whole word rest_of e ∙ ap (λ (w : List ℕ). w ++ 32 ∷ rest_of) (written least most n word range (sym some)).0
 
 -- a text that begins with one number and its space begins with no other
-pub next_front : (whole rest more : List ℕ) (n m : ℕ) → whole ≡ decimal n ++ 32 ∷ rest → n < 2 ^ 32 → m < 2 ^ 32 → whole ≡ decimal m ++ 32 ∷ more
+pub next_number : (whole rest more : List ℕ) (n m : ℕ) → whole ≡ decimal n ++ 32 ∷ rest → n < 2 ^ 32 → m < 2 ^ 32 → whole ≡ decimal m ++ 32 ∷ more
     → (n ≡ m) × (rest ≡ more)
-next_front whole rest more n m e ln lm is = number_same n m rest more ln lm (sym e ∙ is)
+next_number whole rest more n m e ln lm is = number_same n m rest more ln lm (sym e ∙ is)
 
 -- ---- the four numbers of an entry
 
--- a line whose first number is n has these others behind it
-pub second_front : (whole rest more : List ℕ) (n block due script seq : ℕ) → whole ≡ decimal n ++ 32 ∷ rest → n < 2 ^ 32 → block < 2 ^ 32
+-- a line whose first number is n has these others after it
+pub second_number : (whole rest more : List ℕ) (n block due script seq : ℕ) → whole ≡ decimal n ++ 32 ∷ rest → n < 2 ^ 32 → block < 2 ^ 32
     → whole ≡ numbered block due script seq more → rest ≡ decimal due ++ 32 ∷ (decimal script ++ 32 ∷ (decimal seq ++ 32 ∷ more))
-second_front whole rest more n block due script seq e ln lb is = (next_front whole rest _ n block e ln lb is).1
+second_number whole rest more n block due script seq e ln lb is = (next_number whole rest _ n block e ln lb is).1
 
-pub third_front : (whole one rest more : List ℕ) (n m block due script seq : ℕ) → whole ≡ decimal n ++ 32 ∷ one → one ≡ decimal m ++ 32 ∷ rest → n < 2 ^ 32 → m < 2 ^ 32
+pub third_number : (whole one rest more : List ℕ) (n m block due script seq : ℕ) → whole ≡ decimal n ++ 32 ∷ one → one ≡ decimal m ++ 32 ∷ rest → n < 2 ^ 32 → m < 2 ^ 32
     → block < 2 ^ 32 → due < 2 ^ 32 → whole ≡ numbered block due script seq more → rest ≡ decimal script ++ 32 ∷ (decimal seq ++ 32 ∷ more)
-third_front whole one rest more n m block due script seq e next ln lm lb ld is =
-    (next_front one rest _ m due next lm ld (second_front whole one more n block due script seq e ln lb is)).1
+third_number whole one rest more n m block due script seq e next ln lm lb ld is =
+    (next_number one rest _ m due next lm ld (second_number whole one more n block due script seq e ln lb is)).1
 
-pub fourth_front : (whole one two rest more : List ℕ) (n m k block due script seq : ℕ) → whole ≡ decimal n ++ 32 ∷ one → one ≡ decimal m ++ 32 ∷ two → two ≡ decimal k ++ 32 ∷ rest
+pub fourth_number : (whole one two rest more : List ℕ) (n m k block due script seq : ℕ) → whole ≡ decimal n ++ 32 ∷ one → one ≡ decimal m ++ 32 ∷ two → two ≡ decimal k ++ 32 ∷ rest
     → n < 2 ^ 32 → m < 2 ^ 32 → k < 2 ^ 32 → block < 2 ^ 32 → due < 2 ^ 32 → script < 2 ^ 32 → whole ≡ numbered block due script seq more → rest ≡ decimal seq ++ 32 ∷ more
-fourth_front whole one two rest more n m k block due script seq e next then ln lm lk lb ld ls is =
-    (next_front two rest _ k script then lk ls (third_front whole one two more n m block due script seq e next ln lm lb ld is)).1
+fourth_number whole one two rest more n m k block due script seq e next then ln lm lk lb ld ls is =
+    (next_number two rest _ k script then lk ls (third_number whole one two more n m block due script seq e next ln lm lb ld is)).1
 
 pub numbered_same : (a b c d block due script seq : ℕ) (rest more : List ℕ) → a < 2 ^ 32 → b < 2 ^ 32 → c < 2 ^ 32 → d < 2 ^ 32 → block < 2 ^ 32 → due < 2 ^ 32
     → script < 2 ^ 32 → seq < 2 ^ 32 → numbered a b c d rest ≡ numbered block due script seq more → rest ≡ more
@@ -71,24 +72,24 @@ numbered_same a b c d block due script seq rest more la lb lc ld lblock ldue lsc
     (number_same d seq rest more ld lseq three.1).1
 
 -- the text of the command of a line
-pub entry_behind : (line rest : List ℕ) (a b c d : ℕ) (l : LoggedData) → line ≡ numbered a b c d rest → a < 2 ^ 32 → b < 2 ^ 32 → c < 2 ^ 32 → d < 2 ^ 32 → IsWritable l
+pub entry_command : (line rest : List ℕ) (a b c d : ℕ) (l : LoggedData) → line ≡ numbered a b c d rest → a < 2 ^ 32 → b < 2 ^ 32 → c < 2 ^ 32 → d < 2 ^ 32 → IsWritable l
     → entry_text l ≡ line → text l.entry.command ≡ rest
-entry_behind line rest a b c d l e la lb lc ld w is =
+entry_command line rest a b c d l e la lb lc ld w is =
     sym (numbered_same a b c d l.block l.entry.sent_at l.entry.script l.entry.seq rest (text l.entry.command) la lb lc ld w.block w.due w.script w.seq (sym e ∙ sym is))
 
 -- ---- the two numbers of a first line
 
-pub header_front : (blocks scripts : ℕ) → header_text blocks scripts ≡ codes "order engine 1 blocks " ++ (decimal blocks ++ 32 ∷ (codes "scripts " ++ decimal scripts))
+pub header_first : (blocks scripts : ℕ) → header_text blocks scripts ≡ codes "order engine 1 blocks " ++ (decimal blocks ++ 32 ∷ (codes "scripts " ++ decimal scripts))
 unfolding header_text
-header_front blocks scripts = refl
+header_first blocks scripts = refl
 
 pub header_second : (line rest : List ℕ) (blocks scripts : ℕ) → line ≡ codes "order engine 1 blocks " ++ rest → line ≡ header_text blocks scripts
     → rest ≡ decimal blocks ++ 32 ∷ (codes "scripts " ++ decimal scripts)
-header_second line rest blocks scripts e is = append_cancel_left (codes "order engine 1 blocks ") _ _ (sym e ∙ is ∙ header_front blocks scripts)
+header_second line rest blocks scripts e is = append_cancel_left (codes "order engine 1 blocks ") _ _ (sym e ∙ is ∙ header_first blocks scripts)
 
 pub header_third : (line rest last : List ℕ) (n blocks scripts : ℕ) → line ≡ codes "order engine 1 blocks " ++ rest → rest ≡ decimal n ++ 32 ∷ last → n < 2 ^ 32
     → blocks < 2 ^ 32 → line ≡ header_text blocks scripts → last ≡ codes "scripts " ++ decimal scripts
-header_third line rest last n blocks scripts e next ln lb is = (next_front rest last _ n blocks next ln lb (header_second line rest blocks scripts e is)).1
+header_third line rest last n blocks scripts e next ln lb is = (next_number rest last _ n blocks next ln lb (header_second line rest blocks scripts e is)).1
 
 pub header_last : (line rest last word : List ℕ) (n blocks scripts : ℕ) → line ≡ codes "order engine 1 blocks " ++ rest → rest ≡ decimal n ++ 32 ∷ last
     → last ≡ codes "scripts " ++ word → n < 2 ^ 32 → blocks < 2 ^ 32 → line ≡ header_text blocks scripts → word ≡ decimal scripts
@@ -113,15 +114,15 @@ header_found line rest last word blocks scripts e next more within some =
       some_scripts = w.1;
       few_scripts = w.2;
       spelled = e ∙ ap (λ (bs : List ℕ). codes "order engine 1 blocks " ++ bs)
-          (next ∙ ap (λ (bs : List ℕ). decimal blocks ++ 32 ∷ bs) (more ∙ ap (λ (bs : List ℕ). codes "scripts " ++ bs) w.0)) ∙ sym (header_front blocks scripts);
+          (next ∙ ap (λ (bs : List ℕ). decimal blocks ++ 32 ∷ bs) (more ∙ ap (λ (bs : List ℕ). codes "scripts " ++ bs) w.0)) ∙ sym (header_first blocks scripts);
     }
 
 -- ---- lengths
 
-pub front_short : (code : ℕ) (whole front rest : List ℕ) → parts code whole ≡ front ∷ parts code rest → length front ≤ length whole
-front_short code whole front rest e =
-    let count : length whole ≡ length front + length (code ∷ rest) = ap length (cut_text code whole front rest e) ∙ length-append front (code ∷ rest) in
+pub line_short : (code : ℕ) (whole prefix rest : List ℕ) → parts code whole ≡ prefix ∷ parts code rest → length prefix ≤ length whole
+line_short code whole prefix rest e =
+    let count : length whole ≡ length prefix + length (code ∷ rest) = ap length (cut_text code whole prefix rest e) ∙ length-append prefix (code ∷ rest) in
     omega arith
 
-pub rest_short : (whole front rest : List ℕ) → whole ≡ front ++ rest → length rest ≤ length whole
-rest_short whole front rest e = let count : length whole ≡ length front + length rest = ap length e ∙ length-append front rest in omega arith
+pub rest_short : (whole prefix rest : List ℕ) → whole ≡ prefix ++ rest → length rest ≤ length whole
+rest_short whole prefix rest e = let count : length whole ≡ length prefix + length rest = ap length e ∙ length-append prefix rest in omega arith
