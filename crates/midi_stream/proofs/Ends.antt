@@ -1,10 +1,11 @@
--- Messages, last segment and last system exclusive message where one more byte comes.
+-- Messages, last segment and last SysEx message where one more byte comes.
 use Rattle.std.proofs.Common.{◌≡◌, ℕ, ◌≤◌, Bool, true, false, ◌&&◌, List, [], ◌∷◌, ◌++◌, refl, ap, sym, ◌∙◌, arith, append_assoc, nat_lt, nat_eq, if◌then◌else◌}
 use Rattle.std.proofs.Common.{append-nil}
 use Rattle.std.specs.Prelude.{Option, Some, None}
 use Rattle.midi_stream.specs.declared.message.MidiMessage.{MidiMessage}
-use Rattle.midi_stream.specs.Segments.{Segment, last_segment, grown, extended, begun, with_status}
-use Rattle.midi_stream.specs.Messages.{segment_messages, takes_one, messages_of, ended_by, exclusive_at_end}
+use Rattle.midi_stream.specs.Segments.{Segment, last_segment}
+use Rattle.midi_stream.specs.Growth.{grown, extended, begun, with_status}
+use Rattle.midi_stream.specs.Messages.{segment_messages, takes_one, messages_of, ended_by, sysex_at_end}
 use Rattle.midi_stream.specs.Standing.{Answers}
 
 -- the messages before the last segment, as the later ones leave them
@@ -49,14 +50,14 @@ last_extended (s ∷ []) b h = refl
 last_extended (s ∷ t ∷ []) b h = refl
 last_extended (s ∷ t ∷ u ∷ later) b h = last_extended (t ∷ u ∷ later) b h
 
-pub end_extended : (parts : List Segment) (b : ℕ) → exclusive_at_end (extended parts b) ≡ exclusive_at_end parts
+pub end_extended : (parts : List Segment) (b : ℕ) → sysex_at_end (extended parts b) ≡ sysex_at_end parts
 end_extended [] b = refl
 end_extended (s ∷ []) b = refl
 end_extended (s ∷ t ∷ []) b = refl
 end_extended (s ∷ t ∷ u ∷ []) b = refl
 end_extended (s ∷ t ∷ u ∷ v ∷ later) b = end_extended (t ∷ u ∷ v ∷ later) b
 
-pub end_status : (parts : List Segment) (b : ℕ) → exclusive_at_end (with_status parts b) ≡ ended_by (last_segment parts) (begun b)
+pub end_status : (parts : List Segment) (b : ℕ) → sysex_at_end (with_status parts b) ≡ ended_by (last_segment parts) (begun b)
 end_status [] b = refl
 end_status (s ∷ []) b = refl
 end_status (s ∷ t ∷ []) b = refl

@@ -6,7 +6,8 @@ use Rattle.std.proofs.lemmas.List.Edits.{length-between}
 use Rattle.voice_record.specs.Voice.{greatest_value}
 use Rattle.voice_record.proofs.Voices.{greatest_small}
 use Rattle.sysex_frame.specs.Frame.{IsData, IsParamChange, IsOtherChange, IsRequest}
-use Rattle.sysex_frame.specs.FrameFault.{substatus, device, group, number, unknown_substatus, unknown_format, wrong_count, wanted_length, wrong_length, wrong_checksum, high_value, later_fault}
+use Rattle.sysex_frame.specs.FrameFault.{substatus, device, group, number, unknown_substatus, unknown_format, wrong_count, wanted_length, wrong_length, wrong_checksum, high_value}
+use Rattle.sysex_frame.specs.Halves.{later_fault}
 use Rattle.sysex_frame.proofs.Facts.{none_parts, row_free, row_none, IsPlain}
 use Rattle.sysex_frame.proofs.Conditions.{not_a_dump, not_a_change, length_of_change, change_length, request_length, value_known, value_good}
 use Rattle.sysex_frame.proofs.Shapes.{heads_3, heads_5, heads_6, tail_end, range_is_data, data_cons, data_none, plain_text}

@@ -6,7 +6,8 @@ use Rattle.std.specs.List.{slice_range, position, position_or_len}
 use Rattle.std.proofs.lemmas.Bool.{leb-false, ltb-false, eqb-true, eq-eqb, lt-leb, lt-ltb, le-ltb, cases_lt, or_parts, not-false}
 use Rattle.std.proofs.lemmas.List.Edits.{length-between, get_or-between}
 use Rattle.std.proofs.lemmas.List.Sums.{fails_before_first, position_or_len_is}
-use Rattle.sysex_frame.specs.FrameFault.{where_true, not_framed, not_yamaha, data_byte, too_short, first_fault, early_fault, later_fault}
+use Rattle.sysex_frame.specs.FrameFault.{where_true, not_framed, not_yamaha, data_byte, too_short, first_fault}
+use Rattle.sysex_frame.specs.Halves.{early_fault, later_fault}
 use Rattle.sysex_frame.specs.declared.frame.FrameFault.{FrameFault}
 use Rattle.sysex_frame.specs.declared.frame.FrameFault.TheVariants.{DataByte}
 

@@ -31,7 +31,7 @@ heads_5 (a ∷ b ∷ []) h = absurd (omega (arith, h))
 heads_5 (a ∷ b ∷ c ∷ []) h = absurd (omega (arith, h))
 heads_5 (a ∷ b ∷ c ∷ d ∷ []) h = absurd (omega (arith, h))
 
--- what stands behind the first n places, up to the last one, and the last one
+-- what stands after the first n places, up to the last one, and the last one
 pub tail_end : (xs : List ℕ) (n : ℕ) → n + 1 ≤ length xs → drop n xs ≡ slice_range xs n (length xs - 1) ++ get_or xs (length xs - 1) 0 ∷ []
 tail_end xs n h =
     let rest : List ℕ = drop n xs in
