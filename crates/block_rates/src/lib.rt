@@ -4,10 +4,10 @@
 mod cycle;
 mod delay;
 mod envelope;
-mod pitch_segment;
+mod level_segment;
 mod lfo;
 mod pitch_envelope;
-mod level_segment;
+mod pitch_segment;
 mod stage;
 mod wave;
 

@@ -162,6 +162,6 @@ more_words kind first second third [] some = absurd (some refl)
 more_words kind first second third (one ∷ rest) some = refl
 
 -- a word too many
-pub five_words : (kind first rest second behind third last : List ℕ) → split 32 rest ≡ second ∷ split 32 behind → split 32 behind ≡ third ∷ split 32 last
+pub five_words : (kind first rest second after third last : List ℕ) → split 32 rest ≡ second ∷ split 32 after → split 32 after ≡ third ∷ split 32 last
     → numbers_of (kind ∷ first ∷ split 32 rest) ≡ None
-five_words kind first rest second behind third last one two = rw (one, two) (more_words kind first second third (split 32 last) (split_some 32 last))
+five_words kind first rest second after third last one two = rw (one, two) (more_words kind first second third (split 32 last) (split_some 32 last))

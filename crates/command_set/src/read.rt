@@ -10,7 +10,7 @@ ghost use Rattle.command_set.specs.declared.read.TextFault.TheVariants.{Memory, 
 use crate::command::Command;
 use crate::read_bytes::{read_cartridge, read_voice};
 use crate::read_numbers::{read_more, read_store};
-use plain_text::{split_once, is_word};
+use plain_text::{is_word, split_once};
 use std::alloc::Global;
 
 /// Why a text is no command: it is not the text of a command in range, or memory was wanting.

@@ -7,7 +7,7 @@ ghost use Rattle.command_set.specs.Command.{content};
 ghost use Rattle.command_set.specs.Words.{numbers_of, store_of, three_bytes_of, three_of, two_bytes_of, two_of};
 
 use crate::command::Command;
-use plain_text::{split_once, is_word, parse_number};
+use plain_text::{is_word, parse_number, split_once};
 
 /// `store` and a slot.
 #[tactic(auto, unfolding(crate::specs::Words::store_of))]

@@ -76,9 +76,9 @@ none_begun_by false one xs e = e
 pub none_begun : (b : ℕ) → segment_messages (begun b) 0 ≡ []
 none_begun b = none_begun_by (nat_lt b 240) (takes_one b) _ (none_by_none (nat_eq b 240) false _ refl)
 
-joined : (front before now : List MidiMessage) (answer : Option MidiMessage) → Answers answer before now → Answers answer (front ++ before) (front ++ now)
-joined front before now None h = ap (λ (l : List MidiMessage). front ++ l) h
-joined front before now (Some m) h = ap (λ (l : List MidiMessage). front ++ l) h ∙ sym (append_assoc front before (m ∷ []))
+joined : (prefix before now : List MidiMessage) (answer : Option MidiMessage) → Answers answer before now → Answers answer (prefix ++ before) (prefix ++ now)
+joined prefix before now None h = ap (λ (l : List MidiMessage). prefix ++ l) h
+joined prefix before now (Some m) h = ap (λ (l : List MidiMessage). prefix ++ l) h ∙ sym (append_assoc prefix before (m ∷ []))
 
 answers_at : (answer : Option MidiMessage) (a b c d : List MidiMessage) → a ≡ b → c ≡ d → Answers answer b d → Answers answer a c
 answers_at answer a b c d p q h = rw (p, q) h

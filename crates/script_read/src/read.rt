@@ -11,7 +11,7 @@ use crate::edit_lines::read_edit_lines;
 use crate::lines::{read_lines, without_return};
 use crate::stream::read_stream;
 use midi_file::read_midi_file;
-use plain_text::{split_once, is_word};
+use plain_text::{is_word, split_once};
 use script_outcome::{Bounds, Place, ScriptFault, ScriptKind};
 use script_plan::Script;
 use std::alloc::Global;

@@ -85,7 +85,7 @@ dump_frame text form high low count d =
       bytes = range_is_data text 6 (length text - 2) (omega arith) (λ k a b. plain.bytes k (omega arith) (omega arith));
       check = check text;
       checked = rw (d.checked) (checksum_checks (payload text));
-      spelled = cc (head, plain.first, plain.maker, same, d.form_is, d.high_is, d.low_is, tail, plain.ended);
+      spelled = cc (head, plain.first, plain.manufacturer, same, d.form_is, d.high_is, d.low_is, tail, plain.ended);
     }
 
 -- a text that is spelled so has these places

@@ -48,7 +48,7 @@ by_parts text =
 pub record IsPlain (text : List ℕ) : Type 0 where
   pub long : 5 ≤ length text
   pub first : get_or text 0 0 ≡ 0xF0
-  pub maker : get_or text 1 0 ≡ 0x43
+  pub manufacturer : get_or text 1 0 ≡ 0x43
   pub bytes : (k : ℕ) → 2 ≤ k → k + 1 < length text → get_or text k 0 < 128
   pub ended : get_or text (length text - 1) 0 ≡ 0xF7
 
@@ -77,7 +77,7 @@ plain_from_none text h =
     record {
       long = long;
       first = eqb-true _ _ (not-false _ both.0);
-      maker = eqb-true _ _ (not-false _ (row_free _ _ two.0));
+      manufacturer = eqb-true _ _ (not-false _ (row_free _ _ two.0));
       bytes = λ k two_on below.
           let size : length (slice_range text 2 (length text - 1)) ≡ length text - 1 - 2 = length-between text 2 (length text - 1) (omega arith) in
           let there : get_or (slice_range text 2 (length text - 1)) (k - 2) 0 ≡ get_or text (2 + (k - 2)) 0 = get_or-between text 2 (length text - 1) (k - 2) 0 (omega arith) in
@@ -91,7 +91,7 @@ pub none_from_plain : (text : List ℕ) → IsPlain text → early_fault text �
 none_from_plain text p =
     let framed : not_framed text ≡ None =
     row_none _ _ (rw (le-ltb _ _ (let l = p.long in let m : 2 ≤ length text = omega arith in m), eq-eqb _ _ p.first, eq-eqb _ _ p.ended)) in
-    let made : not_yamaha text ≡ None = row_none _ _ (rw (eq-eqb _ _ p.maker)) in
+    let made : not_yamaha text ≡ None = row_none _ _ (rw (eq-eqb _ _ p.manufacturer)) in
     let size : length (slice_range text 2 (length text - 1)) ≡ length text - 1 - 2 = length-between text 2 (length text - 1) (omega arith) in
     let clean : data_byte text ≡ None =
     position_none (slice_range text 2 (length text - 1)) (λ k l. rw (get_or-between text 2 (length text - 1) k 0 (omega arith)) (p.bytes (2 + k) (omega arith) (omega arith))) in

@@ -6,7 +6,7 @@ ghost use Rattle.take_files.specs.Orders.{HasNoHeader};
 ghost use Rattle.take_files.specs.Reading.{IsHeader};
 
 use crate::words::{behind, number_before};
-use plain_text::{split_once, parse_number};
+use plain_text::{parse_number, split_once};
 
 /// How many blocks and scripts an order has by its first line, and what stands behind the line.
 pub(crate) fn read_header(text: &[u8]) -> Option<(u32, u32, &[u8])>

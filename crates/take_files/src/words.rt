@@ -2,7 +2,7 @@
 
 ghost use Rattle.std.specs.Prelude.{ℕ, List, ◌≡◌, ◌≢◌, ◌≤◌, ◌∷◌, ◌++◌, IfNone, IfSome, decimal};
 
-use plain_text::{split_once, parse_number};
+use plain_text::{parse_number, split_once};
 
 /// What stands behind this front.
 pub(crate) fn behind<'a>(text: &'a [u8], front: &[u8]) -> Option<&'a [u8]>
