@@ -35,7 +35,7 @@ common_rows =
     ∷ (106, 0, 7) ∷ (107, 0, 7) ∷ (108, 0, 7) ∷ (109, 0, 7)  -- pitch levels
     ∷ (110, 0, 5)  -- algorithm
     ∷ (111, 0, 3)  -- feedback
-    ∷ (111, 3, 1)  -- LFO key sync
+    ∷ (111, 3, 1)  -- oscillator key sync
     ∷ (112, 0, 7) ∷ (113, 0, 7) ∷ (114, 0, 7) ∷ (115, 0, 7)  -- LFO speed, delay, pitch depth, amplitude depth
     ∷ (116, 0, 1)  -- LFO sync
     ∷ (116, 1, 3)  -- LFO wave

@@ -26,7 +26,7 @@ common_greatest =
     ∷ 99 ∷ 99 ∷ 99 ∷ 99  -- pitch levels 1 to 4
     ∷ 31  -- algorithm
     ∷ 7  -- feedback
-    ∷ 1  -- LFO key sync
+    ∷ 1  -- oscillator key sync
     ∷ 99 ∷ 99 ∷ 99 ∷ 99  -- LFO speed, delay, pitch depth, amplitude depth
     ∷ 1  -- LFO sync
     ∷ 5  -- LFO wave

@@ -46,7 +46,7 @@ const COMMON_ROWS: [(u8, u8, u8); 29] = [
     (109, 0, 7),
     (110, 0, 5), // algorithm
     (111, 0, 3), // feedback
-    (111, 3, 1), // LFO key sync
+    (111, 3, 1), // oscillator key sync
     (112, 0, 7), // LFO speed
     (113, 0, 7), // LFO delay
     (114, 0, 7), // LFO pitch depth
