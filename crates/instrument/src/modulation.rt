@@ -1,9 +1,9 @@
 ghost use Rattle.std.specs.Prelude.{◌≤◌, ◌^◌, pos, ◌≤ℤ◌};
 
-/// What moves all notes in a block: the oscillator's value and delay, 2^24 for the greatest of both, the bend, 0 to 16383
+/// What moves all notes in a block: the LFO's value and delay, 2^24 for the greatest of both, the bend, 0 to 16383
 /// with 8192 for none, and the wheel, 0 to 127.
 #[derive(Clone, Copy)]
-pub(crate) struct Movement {
+pub(crate) struct BlockModulation {
     pub(crate) lfo: i32,
     pub(crate) delay: i32,
     pub(crate) bend: u16,

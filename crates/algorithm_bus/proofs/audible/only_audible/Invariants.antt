@@ -1,7 +1,7 @@
 use Rattle.std.proofs.Common.{◌≡◌, length}
 use Rattle.operator_kernel.specs.Operator.{HasGains}
-use Rattle.algorithm_bus.proofs.Unheard.{AreMutedUpTo, HaveGainsUpTo}
-use Rattle.algorithm_bus.proofs.heard.only_heard.Given as goal
+use Rattle.algorithm_bus.proofs.Inaudible.{AreMutedUpTo, HaveGainsUpTo}
+use Rattle.algorithm_bus.proofs.audible.only_audible.Given as goal
 
 abbrev pub invariant-loop-k : goal.invariant-loop-k
 invariant-loop-k l = record {

@@ -4,7 +4,7 @@ ghost use Rattle.operator_kernel.specs.Operator.{HasGains, silent};
 ghost use Rattle.algorithm_bus.specs.Algorithms.{modulates, is_carrier, feedback_operator};
 ghost use Rattle.algorithm_bus.specs.Signals.{Patch, is_fed_back, note_output};
 ghost use Rattle.algorithm_bus.specs.Buses.{HaveGains, op_of};
-ghost use Rattle.algorithm_bus.specs.Heard.{AreClosed, IsCovered, if_kept, is_kept};
+ghost use Rattle.algorithm_bus.specs.Audible.{AreClosed, IsCovered, if_kept, is_kept};
 
 use crate::algorithm::targets;
 use crate::bus::is_fed_back;
@@ -34,7 +34,7 @@ fn reaches(algorithm: u8, operator: u8, kept: &[bool; 6]) -> bool
 }
 
 /// Whether an operator has to run, where it is known which of the lower ones have to.
-fn is_heard(algorithm: u8, operator: u8, op: &OpBlock, kept: &[bool; 6]) -> bool
+fn is_audible(algorithm: u8, operator: u8, op: &OpBlock, kept: &[bool; 6]) -> bool
     requires algorithm { algorithm ≤ 31 }
     requires operator { (1 ≤ operator) × (operator ≤ 6) }
     ensures carrier { is_carrier algorithm operator ≡ true → IsCovered result op.now }
@@ -54,13 +54,13 @@ fn is_heard(algorithm: u8, operator: u8, op: &OpBlock, kept: &[bool; 6]) -> bool
 }
 
 /// The operators that have to run.
-fn heard(algorithm: u8, ops: &[OpBlock; 6]) -> [bool; 6]
+fn audible_operators(algorithm: u8, ops: &[OpBlock; 6]) -> [bool; 6]
     requires { algorithm ≤ 31 }
     ensures { AreClosed algorithm ops.now 6 result }
 {
     let mut kept = [false; 6];
     for k in 0..6usize {
-        kept[k] = is_heard(algorithm, k as u8 + 1, &ops[k], &kept);
+        kept[k] = is_audible(algorithm, k as u8 + 1, &ops[k], &kept);
     }
     kept
 }
@@ -84,14 +84,14 @@ fn kept_or_muted(kept: bool, op: &OpBlock) -> OpBlock
 }
 
 /// The six operators, with those muted that nobody hears. What is heard stays.
-pub(crate) fn only_heard(algorithm: u8, ops: &[OpBlock; 6]) -> [OpBlock; 6]
+pub(crate) fn only_audible(algorithm: u8, ops: &[OpBlock; 6]) -> [OpBlock; 6]
     requires algorithm { algorithm ≤ 31 }
     requires gains { HaveGains ops.now }
     ensures gains { HaveGains result }
     ensures output { (p : Patch) → p.algorithm ≡ algorithm → p.op ≡ op_of ops.now → (j : ℕ) → note_output (record p { op = op_of result }) j ≡ note_output p j }
     ensures fed_back { (o : ℕ) → feedback_operator algorithm ≡ Some o → op_of result o ≡ op_of ops.now o }
 {
-    let kept = heard(algorithm, ops);
+    let kept = audible_operators(algorithm, ops);
     let mut few = *ops;
     for k in 0..6usize {
         few[k] = kept_or_muted(kept[k], &ops[k]);
@@ -100,7 +100,7 @@ pub(crate) fn only_heard(algorithm: u8, ops: &[OpBlock; 6]) -> [OpBlock; 6]
 }
 
 /// Whether an operator sounds that modulates silent ones alone. It only chooses between two ways to the same samples.
-pub(crate) fn has_unheard(algorithm: u8, ops: &[OpBlock; 6]) -> bool
+pub(crate) fn has_inaudible(algorithm: u8, ops: &[OpBlock; 6]) -> bool
     requires { algorithm ≤ 31 }
 {
     let mut sounding = 0u8;
@@ -124,7 +124,7 @@ pub(crate) fn has_unheard(algorithm: u8, ops: &[OpBlock; 6]) -> bool
 }
 
 /// Whether an operator that is heard sounds.
-pub(crate) fn is_any_carrier_heard(algorithm: u8, ops: &[OpBlock; 6]) -> bool
+pub(crate) fn has_audible_carrier(algorithm: u8, ops: &[OpBlock; 6]) -> bool
     requires { algorithm ≤ 31 }
     ensures { result ≡ false → (o : ℕ) → 1 ≤ o → o ≤ 6 → is_carrier algorithm o ≡ true → silent (op_of ops.now o) ≡ true }
 {

@@ -8,9 +8,9 @@ use Rattle.operator_kernel.specs.Operator.{HasGains, silent, sample_at, feedback
 use Rattle.algorithm_bus.specs.Algorithms.{modulates, is_carrier, feedback_operator}
 use Rattle.algorithm_bus.specs.Signals.{Patch, sum_of, input_of, is_fed_back, own_sample, signals_of, note_output}
 use Rattle.algorithm_bus.specs.Buses.{HaveGains, IsBus, op_of, no_operator}
-use Rattle.algorithm_bus.specs.Heard.{AreClosed, IsCovered, if_kept, is_kept, muted}
+use Rattle.algorithm_bus.specs.Audible.{AreClosed, IsCovered, if_kept, is_kept, muted}
 use Rattle.algorithm_bus.proofs.Panel.{fed_back_within, goes_down}
-use Rattle.algorithm_bus.proofs.Sends.{own_same, signals_before, signals_here, signals_heard}
+use Rattle.algorithm_bus.proofs.Sends.{own_same, signals_before, signals_here, signals_meet_equation}
 
 -- a silent operator's samples are 0, whatever it hears
 zero_by : (t : Bool) (x y : ℤ) → x ≡ pos 0 → y ≡ pos 0 → cond t x y ≡ pos 0
@@ -42,7 +42,7 @@ sum_alike chosen y y' (suc k) j h =
 pub record AreMuted (p q : Patch) (kept : ℕ → Bool) : Type 0 where
   pub algorithm_is : q.algorithm ≡ p.algorithm
   pub feedback_is : q.feedback ≡ p.feedback
-  pub memory_is : q.memory ≡ p.memory
+  pub memory_is : q.feedback_state ≡ p.feedback_state
   pub op_is : (o : ℕ) → 1 ≤ o → o ≤ 6 → q.op o ≡ if_kept (kept o) (p.op o)
 
 still_silent : (t : Bool) (op : OpBlock) → silent op ≡ true → silent (if_kept t op) ≡ true
@@ -50,7 +50,7 @@ still_silent true op e = e
 still_silent false op e = refl
 
 -- an operator that is kept has the same samples under the same input
-own_kept : (p q : Patch) (o : ℕ) (f : ℕ → ℤ) (j : ℕ) → q.algorithm ≡ p.algorithm → q.feedback ≡ p.feedback → q.memory ≡ p.memory → q.op o ≡ p.op o → own_sample q o f j ≡ own_sample p o f j
+own_kept : (p q : Patch) (o : ℕ) (f : ℕ → ℤ) (j : ℕ) → q.algorithm ≡ p.algorithm → q.feedback ≡ p.feedback → q.feedback_state ≡ p.feedback_state → q.op o ≡ p.op o → own_sample q o f j ≡ own_sample p o f j
 unfolding own_sample
 own_kept p q o f j a b m e = rw (a, b, m, e) refl
 
@@ -237,7 +237,7 @@ pub no_output : (p : Patch) → p.algorithm ≤ 31 → ((o : ℕ) → 1 ≤ o �
 unfolding note_output
 no_output p la h j =
     ap wrap (sum_none (is_carrier p.algorithm) (signals_of p 6) 6 j (λ i lt e.
-    signals_heard p la (6 - i) j (omega arith) (omega arith) ∙ own_silent p (6 - i) _ j (h (6 - i) (omega arith) (omega arith) e)))
+    signals_meet_equation p la (6 - i) j (omega arith) (omega arith) ∙ own_silent p (6 - i) _ j (h (6 - i) (omega arith) (omega arith) e)))
     ∙ int_wrap_fits w32 (pos 0) (record { sfits = omega arith })
 
 pub silent_six : (k : ℕ) → silent (get_or (no_operator ∷ no_operator ∷ no_operator ∷ no_operator ∷ no_operator ∷ no_operator ∷ []) k no_operator) ≡ true

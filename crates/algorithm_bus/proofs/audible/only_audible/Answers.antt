@@ -1,8 +1,8 @@
 use Rattle.std.proofs.Common.{ℕ, ◌≡◌, ◌+◌, ◌-◌, ◌≤◌, length, length-set, subst, arith, get_or}
 use Rattle.operator_kernel.specs.Operator.{HasGains}
 use Rattle.algorithm_bus.specs.Buses.{no_operator}
-use Rattle.algorithm_bus.proofs.Unheard.{muted_none, muted_next, gains_none, gains_next, gains_all, few_output, few_fed_back}
-use Rattle.algorithm_bus.proofs.heard.only_heard.Goals as goal
+use Rattle.algorithm_bus.proofs.Inaudible.{muted_none, muted_next, gains_none, gains_next, gains_all, few_output, few_fed_back}
+use Rattle.algorithm_bus.proofs.audible.only_audible.Goals as goal
 
 pub kept_or_muted-requires : goal.kept_or_muted-requires
 kept_or_muted-requires c =
@@ -27,7 +27,7 @@ pub returns-clause-gains : goal.returns-clause-gains
 returns-clause-gains c = gains_all c.loop-k.k _ (omega arith) c.loop-k.invariant.gains
 
 pub returns-clause-output : goal.returns-clause-output
-returns-clause-output c = few_output c.args.algorithm c.args.ops.now _ _ c.loop-k.k (omega arith) c.heard-kept.ensures c.loop-k.invariant.muted
+returns-clause-output c = few_output c.args.algorithm c.args.ops.now _ _ c.loop-k.k (omega arith) c.audible_operators-kept.ensures c.loop-k.invariant.muted
 
 pub returns-clause-fed_back : goal.returns-clause-fed_back
-returns-clause-fed_back c = few_fed_back c.args.algorithm c.args.ops.now _ _ c.loop-k.k c.requires.algorithm (omega arith) c.heard-kept.ensures c.loop-k.invariant.muted
+returns-clause-fed_back c = few_fed_back c.args.algorithm c.args.ops.now _ _ c.loop-k.k c.requires.algorithm (omega arith) c.audible_operators-kept.ensures c.loop-k.invariant.muted

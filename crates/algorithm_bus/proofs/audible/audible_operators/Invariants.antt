@@ -1,6 +1,6 @@
 use Rattle.std.proofs.Common.{◌≡◌, length}
-use Rattle.algorithm_bus.specs.Heard.{AreClosed}
-use Rattle.algorithm_bus.proofs.heard.heard.Given as goal
+use Rattle.algorithm_bus.specs.Audible.{AreClosed}
+use Rattle.algorithm_bus.proofs.audible.audible_operators.Given as goal
 
 abbrev pub invariant-loop-k : goal.invariant-loop-k
 invariant-loop-k l = record {
