@@ -5,7 +5,7 @@ use Rattle.std.proofs.lemmas.Bool.{cases_lt, eq-eqb, eqb-true}
 use Rattle.std.proofs.lemmas.List.Elements.{All-nil, All-cons, All-head, All-tail}
 use Rattle.std.proofs.lemmas.List.Splits.{length-slice_split}
 use Rattle.std.proofs.lemmas.List.Sums.{sum_by-append}
-use Rattle.plain_text.specs.Parts.{parts}
+use Rattle.plain_text.specs.Split.{split}
 use Rattle.command_set.specs.Entries.{LoggedData}
 use Rattle.take_files.specs.Files.{entry_text, header_text, order, order_header, order_line}
 use Rattle.take_files.specs.Orders.{BeginsWith, HasFault, HasNoHeader, IsOrdered, IsRefused, IsWritable}
@@ -50,7 +50,7 @@ has_no_feed (byte ∷ text) e = by (byte == 10) refl (has_no_feed text) where
       All-cons (λ b. (b == 10) ≡ false) byte text is (later (omega (arith, e, none, count)))
 
 -- a text that is cut, or not, at its first line feed
-pub cut_feeds : (text line rest : List ℕ) → parts 10 text ≡ line ∷ parts 10 rest → line_feeds line ≡ 0
+pub cut_feeds : (text line rest : List ℕ) → split 10 text ≡ line ∷ split 10 rest → line_feeds line ≡ 0
 cut_feeds text line rest e =
     let all = length-slice_split (λ byte. byte == 10) text in
     let later = length-slice_split (λ byte. byte == 10) rest in
@@ -58,7 +58,7 @@ cut_feeds text line rest e =
     let here = ap line_feeds (cut_text 10 text line rest e) ∙ feeds_end line rest in
     omega (arith, all, later, count, here)
 
-pub uncut_feeds : (text : List ℕ) → parts 10 text ≡ text ∷ [] → line_feeds text ≡ 0
+pub uncut_feeds : (text : List ℕ) → split 10 text ≡ text ∷ [] → line_feeds text ≡ 0
 uncut_feeds text e =
     let all = length-slice_split (λ byte. byte == 10) text in
     let count = ap length e in

@@ -13,8 +13,8 @@ use Rattle.std.proofs.lemmas.List.Splits.{slice_split_at, join_with_byte-slice_s
 use Rattle.hex.specs.Hex.{IsBytes, encode_lower, encode_with, lower_digits}
 use Rattle.voice_record.proofs.Every.{every, every_at}
 use Rattle.voice_record.proofs.Voices.{greatest_small}
-use Rattle.plain_text.specs.Parts.{parts, spaced}
-use Rattle.plain_text.proofs.Cuts.{parts_some}
+use Rattle.plain_text.specs.Split.{split, spaced}
+use Rattle.plain_text.proofs.Cuts.{split_some}
 use Rattle.command_set.specs.Command.{CommandData, StartsNote, EndsNote, Bends, Controls, PicksProgram, SetsNumber, StoresVoice, TakesVoice, TakesCartridge, IsInRange}
 use Rattle.command_set.specs.Entries.{LoggedData}
 use Rattle.command_set.specs.Text.{text, packed}
@@ -34,36 +34,36 @@ join_prefix code prefix [] some = absurd (some refl)
 join_prefix code prefix (p ∷ ps) some = refl
 
 -- a text that was cut is its prefix, the byte, and the rest
-pub cut_text : (code : ℕ) (whole prefix rest : List ℕ) → parts code whole ≡ prefix ∷ parts code rest → whole ≡ prefix ++ code ∷ rest
+pub cut_text : (code : ℕ) (whole prefix rest : List ℕ) → split code whole ≡ prefix ∷ split code rest → whole ≡ prefix ++ code ∷ rest
 cut_text code whole prefix rest e =
-    sym (join_with_byte-slice_split code whole) ∙ ap (join_with_byte code) e ∙ join_prefix code prefix (parts code rest) (parts_some code rest)
+    sym (join_with_byte-slice_split code whole) ∙ ap (join_with_byte code) e ∙ join_prefix code prefix (split code rest) (split_some code rest)
     ∙ ap (λ (bs : List ℕ). prefix ++ code ∷ bs) (join_with_byte-slice_split code rest)
 
 heads : (a b : List ℕ) (xs ys : List (List ℕ)) → a ∷ xs ≡ b ∷ ys → (a ≡ b) × (xs ≡ ys)
 heads a b xs ys e = (cc, cc)
 
-same_parts : (code : ℕ) (a b xs ys : List ℕ) → a ∷ parts code xs ≡ b ∷ parts code ys → (a ≡ b) × (xs ≡ ys)
-same_parts code a b xs ys e =
-    let h = heads a b (parts code xs) (parts code ys) e in
+same_split : (code : ℕ) (a b xs ys : List ℕ) → a ∷ split code xs ≡ b ∷ split code ys → (a ≡ b) × (xs ≡ ys)
+same_split code a b xs ys e =
+    let h = heads a b (split code xs) (split code ys) e in
     (h.0, sym (join_with_byte-slice_split code xs) ∙ ap (join_with_byte code) h.1 ∙ join_with_byte-slice_split code ys)
 
-parts_at : (code : ℕ) (prefix rest : List ℕ) → HasNo code prefix → parts code (prefix ++ code ∷ rest) ≡ prefix ∷ parts code rest
-parts_at code prefix rest h = slice_split_at (λ byte. byte == code) prefix code rest h (eq-eqb code code refl)
+split_first : (code : ℕ) (prefix rest : List ℕ) → HasNo code prefix → split code (prefix ++ code ∷ rest) ≡ prefix ∷ split code rest
+split_first code prefix rest h = slice_split_at (λ byte. byte == code) prefix code rest h (eq-eqb code code refl)
 
 -- a text is cut at its first byte of the code
-pub cut_only : (code : ℕ) (whole prefix rest a b : List ℕ) → parts code whole ≡ prefix ∷ parts code rest → HasNo code a → whole ≡ a ++ code ∷ b
+pub cut_only : (code : ℕ) (whole prefix rest a b : List ℕ) → split code whole ≡ prefix ∷ split code rest → HasNo code a → whole ≡ a ++ code ∷ b
     → (prefix ≡ a) × (rest ≡ b)
-cut_only code whole prefix rest a b e h is = same_parts code prefix a rest b (sym e ∙ ap (parts code) is ∙ parts_at code a b h)
+cut_only code whole prefix rest a b e h is = same_split code prefix a rest b (sym e ∙ ap (split code) is ∙ split_first code a b h)
 
 -- a text that was not cut has no byte of the code
-pub cut_none : (code : ℕ) (whole a b : List ℕ) → parts code whole ≡ whole ∷ [] → HasNo code a → whole ≢ a ++ code ∷ b
+pub cut_none : (code : ℕ) (whole a b : List ℕ) → split code whole ≡ whole ∷ [] → HasNo code a → whole ≢ a ++ code ∷ b
 cut_none code whole a b e h is =
-    let h2 = heads a whole (parts code b) [] (sym (parts_at code a b h) ∙ sym (ap (parts code) is) ∙ e) in
-    parts_some code b h2.1
+    let h2 = heads a whole (split code b) [] (sym (split_first code a b h) ∙ sym (ap (split code) is) ∙ e) in
+    split_some code b h2.1
 
 -- two texts with the same byte after prefixes without it
 pub prefix_same : (code : ℕ) (a b xs ys : List ℕ) → HasNo code a → HasNo code b → a ++ code ∷ xs ≡ b ++ code ∷ ys → (a ≡ b) × (xs ≡ ys)
-prefix_same code a b xs ys ha hb e = same_parts code a b xs ys (sym (parts_at code a xs ha) ∙ ap (parts code) e ∙ parts_at code b ys hb)
+prefix_same code a b xs ys ha hb e = same_split code a b xs ys (sym (split_first code a xs ha) ∙ ap (split code) e ∙ split_first code b ys hb)
 
 -- ---- bytes of words
 

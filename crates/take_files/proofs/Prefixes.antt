@@ -3,7 +3,7 @@ use Rattle.std.proofs.Common.{◌≡◌, ◌≢◌, ℕ, ◌+◌, ◌^◌, ◌<�
 use Rattle.std.specs.Prelude.{codes, decimal, IfNone, IfSome, MatchOption}
 use Rattle.std.proofs.lemmas.List.{append_cancel_left}
 use Rattle.plain_text.specs.Number.{number}
-use Rattle.plain_text.specs.Parts.{parts}
+use Rattle.plain_text.specs.Split.{split}
 use Rattle.plain_text.proofs.Numbers.{reads_decimal, written}
 use Rattle.command_set.specs.Entries.{LoggedData}
 use Rattle.command_set.specs.Text.{text}
@@ -26,17 +26,17 @@ unstripped whole prefix None h = h
 
 -- ---- one number and its space
 
-pub no_space : (whole : List ℕ) (n : ℕ) (rest : List ℕ) → parts 32 whole ≡ whole ∷ [] → n < 2 ^ 32 → whole ≢ decimal n ++ 32 ∷ rest
+pub no_space : (whole : List ℕ) (n : ℕ) (rest : List ℕ) → split 32 whole ≡ whole ∷ [] → n < 2 ^ 32 → whole ≢ decimal n ++ 32 ∷ rest
 no_space whole n rest e l = cut_none 32 whole (decimal n) rest e (decimal_whole 32 n (omega arith) l)
 
-pub no_number : (whole word rest_of rest : List ℕ) (least most n : ℕ) → parts 32 whole ≡ word ∷ parts 32 rest_of → None ≡ number least most word → most < 2 ^ 32
+pub no_number : (whole word rest_of rest : List ℕ) (least most n : ℕ) → split 32 whole ≡ word ∷ split 32 rest_of → None ≡ number least most word → most < 2 ^ 32
     → least ≤ n → n ≤ most → whole ≢ decimal n ++ 32 ∷ rest
 no_number whole word rest_of rest least most n e none range low high is =
     let h = cut_only 32 whole word rest_of (decimal n) rest e (decimal_whole 32 n (omega arith) (omega arith)) is in
     let some : number least most word ≡ Some n = reads_decimal least most n word range (h.0, low, high) in
     absurd (cc)
 
-pub number_found : (whole word rest_of : List ℕ) (least most n : ℕ) → parts 32 whole ≡ word ∷ parts 32 rest_of → Some n ≡ number least most word → most < 2 ^ 32
+pub number_found : (whole word rest_of : List ℕ) (least most n : ℕ) → split 32 whole ≡ word ∷ split 32 rest_of → Some n ≡ number least most word → most < 2 ^ 32
     → whole ≡ decimal n ++ 32 ∷ rest_of
 number_found whole word rest_of least most n e some range =
     cut_text 32 whole word rest_of e ∙ ap (λ (w : List ℕ). w ++ 32 ∷ rest_of) (written least most n word range (sym some)).0
@@ -119,7 +119,7 @@ header_found line rest last word blocks scripts e next more within some =
 
 -- ---- lengths
 
-pub line_short : (code : ℕ) (whole prefix rest : List ℕ) → parts code whole ≡ prefix ∷ parts code rest → length prefix ≤ length whole
+pub line_short : (code : ℕ) (whole prefix rest : List ℕ) → split code whole ≡ prefix ∷ split code rest → length prefix ≤ length whole
 line_short code whole prefix rest e =
     let count : length whole ≡ length prefix + length (code ∷ rest) = ap length (cut_text code whole prefix rest e) ∙ length-append prefix (code ∷ rest) in
     omega arith

@@ -4,7 +4,7 @@ ghost use Rattle.std.specs.Prelude.{ℕ, IfNone, IfSome};
 ghost use Rattle.take_files.specs.Reading.{IsHeader};
 
 use crate::words::{after_prefix, number_before};
-use plain_text::number_in;
+use plain_text::parse_number;
 
 /// How many blocks and scripts an order has by its first line, which is given without its line feed.
 pub(crate) fn read_header(line: &[u8]) -> Option<(u32, u32)>
@@ -14,6 +14,6 @@ pub(crate) fn read_header(line: &[u8]) -> Option<(u32, u32)>
     let line = after_prefix(line, b"order engine 1 blocks ")?;
     let (block_count, line) = number_before(line, 1, 1_048_576)?;
     let line = after_prefix(line, b"scripts ")?;
-    let script_count = number_in(line, 1, 256)?;
+    let script_count = parse_number(line, 1, 256)?;
     Some((block_count, script_count))
 }

@@ -12,7 +12,7 @@ use crate::line::read_entry;
 use crate::listing::Listing;
 use crate::read::{Order, OrderFault, OrderKind};
 use command_set::TextFault;
-use plain_text::{LineText, cut};
+use plain_text::{LineText, split_once};
 use std::alloc::{AllocError, Global};
 use std::marker::Model;
 
@@ -134,7 +134,7 @@ fn read_lines(
         → IsSeen ((lines_read listing.old ++ line.old.items) ++ bytes.now) at kind }
 {
     let mut rest = bytes;
-    while let Some((end, after)) = cut(rest, b'\n') {
+    while let Some((end, after)) = split_once(rest, b'\n') {
         end_line(alloc, listing, line, end)?;
         rest = after;
     }
