@@ -7,14 +7,8 @@ use Rattle.std.proofs.lemmas.List.{append-nil, length_push}
 use Rattle.std.proofs.lemmas.List.FromFn.{map-range_with_len_more}
 use Rattle.command_set.specs.Entries.{EntryData}
 use Rattle.schedule_core.specs.Core.{Core, Send, step, queued, refused, next_entry}
-use Rattle.schedule_core.specs.World.{IsWorld, waiting_of}
-use Rattle.schedule_core.specs.declared.world.World.{World}
-use Rattle.schedule_core.proofs.Worlds.{how_many}
-use Rattle.generator.specs.Drawn.{command, due, entry}
+use Rattle.generator.specs.Generated.{command, due, entry}
 use Rattle.generator.specs.Playing.{IsSent}
-
-pub waiting_are : (w : World) (c : Core) → IsWorld w c → waiting_of w ≡ length c.waiting
-waiting_are w c h = omega (arith, w.waiting.ok, how_many h)
 
 -- the core after a script's next command
 abbrev pub after_send : Core → ℕ → ℕ → ℕ → Core
