@@ -3,12 +3,12 @@ use Rattle.std.proofs.Common.{◌≡◌, ◌≢◌, ℕ, zero, suc, ◌+◌, ◌
 use Rattle.std.specs.Prelude.{◌⊎◌}
 use Rattle.std.specs.List.{range_with_len}
 use Rattle.std.proofs.lemmas.Bool.{cases_eq, cases_lt}
-use Rattle.std.proofs.lemmas.List.{length-map, get_or-set_same, get_or-set_other, length-set}
+use Rattle.std.proofs.lemmas.List.{length-map, get_or-set_same, get_or-set_other, length-set, length-replicate, get_or-replicate}
 use Rattle.std.proofs.lemmas.List.FromFn.{length-map-range_with_len}
 use Rattle.std.proofs.lemmas.List.Sums.{sum_by-cons, sum_by-set}
 use Rattle.command_set.specs.Entries.{EntryData, LoggedData}
 use Rattle.instrument.specs.Logging.{logged_at}
-use Rattle.schedule_core.specs.Core.{Core, opening, step, Settle, Render}
+use Rattle.schedule_core.specs.Core.{Core, Sends, no_sends, accepted_of, opening, step, Settle, Render}
 use Rattle.generator.specs.Generated.{script_seed, entry, due_at, all_due_at, block_entries, journal_below}
 use Rattle.generator.specs.Scripts.{IsGenerated, AreBefore}
 use Rattle.generator.specs.Playing.{CanSend, HasSentTo, IsInBlock, generated_of}
@@ -105,7 +105,7 @@ next_script seed n b k scripts before script old new below h g last up =
       four = length-set scripts k script ∙ h.four;
       all = omega (arith, ap length s.journal, long, sums, h.all, up);
       accepted = λ j e low.
-          changed (λ (i : ℕ) (x : GeneratedScript). length (d.accepted i) ≡ x.count) scripts k j script e inside
+          changed (λ (i : ℕ) (x : GeneratedScript). length (accepted_of d i) ≡ x.count) scripts k j script e inside
           (λ same. s.own) (λ ne. ap length (s.others j ne) ∙ h.accepted j e low);
       generated = λ j e low.
           changed (λ (i : ℕ) (x : GeneratedScript). IsGenerated (script_seed seed i) x) scripts k j script e inside
@@ -128,13 +128,13 @@ first_block seed n scripts w four is none generated =
     let sum : generated_of scripts ≤ length scripts * 0 = generated_most 0 scripts (λ j e below. omega (arith, none j e (omega (arith, below, four)))) in
     subst (λ (c : Core). IsInBlock seed n 0 0 scripts c) (sym is) (record {
       places = refl;
-      ends = refl;
+      ends = length-replicate 4 no_sends;
       blocks = refl;
       journal = refl;
       waiting = refl;
       four = four;
       all = omega (arith, sum);
-      accepted = λ k d below. sym (none k d below);
+      accepted = λ k d below. ap (λ (s : Sends). length s.accepted) (get_or-replicate 4 k no_sends no_sends below) ∙ sym (none k d below);
       generated = generated;
       past = λ k d below. absurd (omega (arith, below));
       next = λ k d high below. subst (AreBefore (script_seed seed k) n 0) (sym (none k d below)) (none_before (script_seed seed k) n);

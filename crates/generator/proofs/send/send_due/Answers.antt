@@ -31,7 +31,7 @@ loop-script-preserved c =
             can = e.can seed d.can;
             sent = subst (λ (w : Core). IsSent c.args.world.now c.args.number seed from c.send_next.new.script.count w) (sym (e.sent seed d.can))
                 (subst (λ (n : ℕ). IsSent c.args.world.now c.args.number seed from n (after_send c.loop-script.world c.args.number seed count)) (sym e.count)
-                (one_sent c.args.world.now c.loop-script.world c.args.number seed from count i.up (omega (arith, d.can.room, c.loop-script-test.true)) d.sent));
+                (one_sent c.args.world.now c.loop-script.world c.args.number seed from count i.up d.can.made (omega (arith, d.can.room, c.loop-script-test.true)) d.sent));
           };
       generated = λ seed h. e.generated seed (i.generated seed h);
       past = λ seed generated past j below.
