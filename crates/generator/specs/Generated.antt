@@ -1,4 +1,4 @@
--- Scripts of drawn commands, their texts, and the journal of four of them.
+-- Scripts of generated commands, their texts, and the journal of four of them.
 use Rattle.std.specs.Prelude.{ℕ, zero, suc, ◌+◌, ◌*◌, ◌/◌, ◌%◌, ◌^◌, ◌==◌, nat_lt, if◌then◌else◌, List, [], ◌∷◌, ◌++◌, map, filter, ℤ, pos, ◌+ℤ◌, fold, codes, decimal}
 use Rattle.std.specs.List.{range_with_len, flat_map}
 use Rattle.plain_text.specs.Split.{spaced}
@@ -7,31 +7,31 @@ use Rattle.command_set.specs.Entries.{EntryData, LoggedData}
 use Rattle.command_set.specs.Text.{text}
 use Rattle.instrument.specs.Journal.{sound}
 use Rattle.instrument.specs.Logging.{logged_at}
-use Rattle.generator.specs.Draws.{draw}
+use Rattle.generator.specs.Lcg.{number_at}
 
 -- the seed of a script's generator
 unfoldable pub script_seed : ℕ → ℕ → ℕ
 script_seed seed script = (seed + 1000003 * script) % 2 ^ 64
 
--- Behind so many draws a command begins: the first draw says how many blocks pass, the second which of eight kinds it is.
+-- After so many numbers a command begins: the first says how many blocks pass, the second which of eight kinds it is.
 abbrev pub kind : ℕ → ℕ → ℕ
-kind seed place = draw seed (place + 2) 8
+kind seed place = number_at seed (place + 2) 8
 
--- that command with the numbers that are drawn for it: four kinds of eight are notes, three are releases, and one sets the algorithm
+-- that command with the numbers that are generated for it: four kinds of eight are notes, three are releases, and one sets the algorithm
 unfoldable pub command_at : ℕ → ℕ → CommandData
 command_at seed place =
-    if nat_lt (kind seed place) 4 then StartsNote 0 (36 + draw seed (place + 3) 60) (1 + draw seed (place + 4) 127)
-    else if nat_lt (kind seed place) 7 then EndsNote 0 (36 + draw seed (place + 3) 60)
-    else SetsNumber 134 (draw seed (place + 3) 32)
+    if nat_lt (kind seed place) 4 then StartsNote 0 (36 + number_at seed (place + 3) 60) (1 + number_at seed (place + 4) 127)
+    else if nat_lt (kind seed place) 7 then EndsNote 0 (36 + number_at seed (place + 3) 60)
+    else SetsNumber 134 (number_at seed (place + 3) 32)
 
--- how many draws it takes
-unfoldable pub draws_at : ℕ → ℕ → ℕ
-draws_at seed place = if nat_lt (kind seed place) 4 then 4 else 3
+-- how many numbers it takes
+unfoldable pub numbers_at : ℕ → ℕ → ℕ
+numbers_at seed place = if nat_lt (kind seed place) 4 then 4 else 3
 
--- how many draws stand before command i
+-- how many numbers stand before command i
 unfoldable pub place : ℕ → ℕ → ℕ
 place seed zero = 0
-place seed (suc i) = place seed i + draws_at seed (place seed i)
+place seed (suc i) = place seed i + numbers_at seed (place seed i)
 
 -- command i, from 0 on
 abbrev pub command : ℕ → ℕ → CommandData
@@ -39,14 +39,14 @@ command seed i = command_at seed (place seed i)
 
 -- the block at which command i is due: up to 7 blocks after the one before
 unfoldable pub due : ℕ → ℕ → ℕ
-due seed zero = draw seed 1 8
-due seed (suc i) = due seed i + draw seed (place seed (suc i) + 1) 8
+due seed zero = number_at seed 1 8
+due seed (suc i) = due seed i + number_at seed (place seed (suc i) + 1) 8
 
 -- the line `BLOCK TEXT` of command i
 abbrev pub line : ℕ → ℕ → List ℕ
 line seed i = spaced (decimal (due seed i)) (text (command seed i) ∷ []) ++ 10 ∷ []
 
--- the text of a script of so many drawn commands
+-- the text of a script of so many generated commands
 unfoldable pub generated_text : ℕ → ℕ → ℕ → List ℕ
 generated_text seed script commands = codes "midi 1" ++ (10 ∷ flat_map (line (script_seed seed script)) (range_with_len 0 commands))
 
@@ -75,8 +75,8 @@ abbrev pub journal_below : ℕ → ℕ → ℕ → List LoggedData
 journal_below seed commands blocks = flat_map (block_entries seed commands) (range_with_len 0 blocks)
 
 -- The journal of four scripts that are played for so many blocks, each of a quarter as many commands. Those that are due later are left out.
-unfoldable pub drawn_journal : ℕ → ℕ → List LoggedData
-drawn_journal seed blocks = journal_below seed (blocks / 4) blocks
+unfoldable pub generated_journal : ℕ → ℕ → List LoggedData
+generated_journal seed blocks = journal_below seed (blocks / 4) blocks
 
 -- the sum of numbers
 abbrev pub total : List ℤ → ℤ

@@ -1,28 +1,30 @@
+//! The numbers that scripts are generated from.
+
 ghost use Rattle.std.specs.Prelude.{◌≡◌, ◌+◌, ◌*◌, ◌%◌, ◌^◌, ◌<◌};
 
 /// A linear congruential generator of 64 bits.
 #[derive(Clone, Copy)]
-pub(crate) struct Draws {
+pub(crate) struct Lcg {
     pub state: u64,
 }
 
-impl Draws {
-    ghost use Rattle.generator.specs.Draws.{below, next};
-    ghost use Rattle.generator.specs.Drawn.{script_seed};
+impl Lcg {
+    ghost use Rattle.generator.specs.Lcg.{below, next};
+    ghost use Rattle.generator.specs.Generated.{script_seed};
 
     /// The generator of a script, by the seed of all and the script's number.
-    #[tactic(auto, unfolding(crate::specs::Drawn::script_seed))]
-    pub fn of_script(seed: u64, script: u32) -> Draws
+    #[tactic(auto, unfolding(crate::specs::Generated::script_seed))]
+    pub fn of_script(seed: u64, script: u32) -> Lcg
         ensures { result.state ≡ script_seed seed script }
     {
-        Draws {
+        Lcg {
             state: seed.wrapping_add(1_000_003 * u64::from(script)),
         }
     }
 
-    /// Draws a number below another.
-    #[tactic(auto, unfolding(crate::specs::Draws::below, crate::specs::Draws::next))]
-    pub fn draw(&mut self, bound: u8) -> u8
+    /// The next number below another.
+    #[tactic(auto, unfolding(crate::specs::Lcg::below, crate::specs::Lcg::next))]
+    pub fn next_below(&mut self, bound: u8) -> u8
         requires { 0 < bound }
         ensures state { self.new.state ≡ next self.old.state }
         ensures value { result ≡ below bound self.new.state }
