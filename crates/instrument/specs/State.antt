@@ -6,7 +6,7 @@ use Rattle.std.specs.Option.{option_map_or}
 use Rattle.voice_record.specs.Voice.{opening_voice}
 use Rattle.cartridge.specs.Cartridge.{voice_at}
 use Rattle.command_set.specs.Command.{CommandData, StartsNote, EndsNote, Bends, Controls, PicksProgram, SetsNumber, StoresVoice, TakesVoice, TakesCartridge}
-use Rattle.block_rates.specs.Oscillators.{Oscillation, opening_oscillation, oscillator_settings, assigned, key_pressed, oscillator_value, oscillator_delay}
+use Rattle.block_rates.specs.Lfos.{LfoState, opening_lfo, lfo_settings, assigned, key_pressed, lfo_value, lfo_depth}
 use Rattle.note_voice.specs.Modulation.{Modulation}
 use Rattle.note_voice.specs.Note.{NoteData, begun, note_released, after_block, note_sample}
 
@@ -27,7 +27,7 @@ pub record State : Type 0 where
   pub wheel : ℕ
   pub is_pedal_down : Bool
   pub next : ℕ
-  pub oscillation : Oscillation
+  pub oscillation : LfoState
   pub steps : ℕ
   pub slots : ℕ → Option SlotData
 
@@ -41,7 +41,7 @@ opening = record {
   wheel = 0;
   is_pedal_down = false;
   next = 0;
-  oscillation = opening_oscillation;
+  oscillation = opening_lfo;
   steps = 0;
   slots = λ _. None;
 }
@@ -71,7 +71,7 @@ fresh s channel key velocity = record { channel = channel; note = begun s.voice 
 abbrev pub taken : State → SlotData → ℕ → State
 taken s w f = record s {
   next = (f + 1) % 16;
-  oscillation = key_pressed (assigned (oscillator_settings s.voice) s.oscillation s.steps) 0;
+  oscillation = key_pressed (assigned (lfo_settings s.voice) s.oscillation s.steps) 0;
   steps = 0;
   slots = λ i. if i == f then Some w else s.slots i;
 }
@@ -134,8 +134,8 @@ apply s (TakesCartridge voices) = record s { bank = voices }
 -- what moves the notes in the next block: the LFO's next step, the bend and the wheel
 abbrev pub modulation : State → Modulation
 modulation s = record {
-  lfo = oscillator_value s.oscillation (s.steps + 1);
-  delay = oscillator_delay s.oscillation (s.steps + 1);
+  lfo = lfo_value s.oscillation (s.steps + 1);
+  delay = lfo_depth s.oscillation (s.steps + 1);
   bend = s.bend;
   wheel = s.wheel;
 }
