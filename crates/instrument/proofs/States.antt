@@ -26,7 +26,7 @@ fresh_slots vs s voice switch channel key velocity f vo sw h =
     let Q : ℕ → Type 0 = λ t. AreSlots vs (λ i. cond (eqb i f) (Some (record { channel = channel; note = begun voice t key velocity; is_down = true; is_held = false })) (s.slots i)) in
     subst P vo (subst Q sw h)
 
--- the oscillator takes the settings of the voice, and a key goes down
+-- the LFO takes the settings of the voice, and a key goes down
 pub pressed_is : (l : Lfo) (s : State) (voice : List ℕ) → voice ≡ s.voice → IsLfo l (key_pressed (assigned (lfo_settings voice) s.oscillation s.steps) 0) 0 → IsLfo l (key_pressed (assigned (lfo_settings s.voice) s.oscillation s.steps) 0) 0
 pressed_is l s voice vo h = rw (← vo) h
 
