@@ -1,4 +1,4 @@
-//! A file on disk with bytes that are held back, so that not each small piece is a call of the system.
+//! Files on disk with bytes that are held back, so that not each small piece is a call of the system.
 
 ghost use Rattle.std.specs.Prelude.{◌≤◌, length, IfOk};
 
@@ -8,29 +8,29 @@ use std::io;
 use std::io::{Error, ErrorKind, Write};
 use std::rt::Files;
 
-/// The longest name, in bytes, of a file whose bytes are held back.
+/// The longest name, in bytes, of a file that stays open.
 const NAME: usize = 1024;
 
 /// The most bytes that are held back.
 const HELD: usize = 8192;
 
-/// An open file, to the end of which is written, and the bytes that come next and aren't written yet.
+/// Room for an open file, to the end of which is written, and the bytes that come next and aren't written yet.
 #[derive(Drop)]
 struct HeldFile<F> {
     name: ArrayString<NAME>,
-    file: F,
+    file: Option<F>,
     bytes: ArrayVec<u8, HELD>,
 }
 
-/// The open files.
+/// The open files. Their rooms are made once, since they are large.
 #[derive(Drop)]
 pub(crate) struct HeldFiles<F> {
     /// Whether small pieces are held back; else each is written at once.
     holds: bool,
-    /// The one that was opened last.
-    last: Option<HeldFile<F>>,
-    /// The one before.
-    before: Option<HeldFile<F>>,
+    one: HeldFile<F>,
+    other: HeldFile<F>,
+    /// Whether `one` was opened after `other`.
+    one_is_last: bool,
 }
 
 impl<F: Write + Drop> HeldFiles<F> {
@@ -38,27 +38,37 @@ impl<F: Write + Drop> HeldFiles<F> {
     pub(crate) fn new(holds: bool) -> HeldFiles<F> {
         HeldFiles {
             holds,
-            last: None,
-            before: None,
+            one: HeldFile::new(),
+            other: HeldFile::new(),
+            one_is_last: false,
         }
     }
 
     /// The open file by this name.
     fn find(&mut self, name: &str) -> Option<&mut HeldFile<F>> {
-        match &mut self.last {
-            Some(file) if file.has_name(name) => return Some(file),
-            _ => {}
+        if self.one.has_name(name) {
+            Some(&mut self.one)
+        } else if self.other.has_name(name) {
+            Some(&mut self.other)
+        } else {
+            None
         }
-        match &mut self.before {
-            Some(file) if file.has_name(name) => Some(file),
-            _ => None,
+    }
+
+    /// The room of the file that was opened last, or the other one.
+    fn last(&mut self, is_last: bool) -> &mut HeldFile<F> {
+        if self.one_is_last == is_last {
+            &mut self.one
+        } else {
+            &mut self.other
         }
     }
 
     /// Closes the file by this name, without what is held back.
     pub(crate) fn forget(&mut self, name: &str) {
-        self.last = self.last.take().filter(|file| !file.has_name(name));
-        self.before = self.before.take().filter(|file| !file.has_name(name));
+        if let Some(file) = self.find(name) {
+            file.close();
+        }
     }
 
     /// Writes out what is held back of the file by this name.
@@ -83,38 +93,47 @@ impl<F: Write + Drop> HeldFiles<F> {
         if let Some(file) = self.find(name) {
             return file.append(bytes, holds);
         }
-        let file = OpenOptions::new().append(true).open(rt, name)?;
-        if let Some(oldest) = &mut self.before {
-            oldest.write_out()?;
+        let mut file = OpenOptions::new().append(true).open(rt, name)?;
+        if name.len() > NAME {
+            return file.write(bytes);
         }
-        self.before = self.last.take();
-        match HeldFile::new(name, file) {
-            Ok(mut file) => {
-                let count = file.append(bytes, holds);
-                self.last = Some(file);
-                count
-            }
-            Err(mut file) => file.write(bytes),
-        }
+        self.last(false).write_out()?;
+        self.one_is_last = !self.one_is_last;
+        let latest = self.last(true);
+        latest.open(name, file);
+        latest.append(bytes, holds)
     }
 }
 
-impl<F: Write> HeldFile<F> {
-    /// The file by this name, with no bytes held back; the file is given back where the name is too long.
-    fn new(name: &str, file: F) -> Result<HeldFile<F>, F> {
-        match ArrayString::from(name) {
-            Ok(name) => Ok(HeldFile {
-                name,
-                file,
-                bytes: ArrayVec::new(),
-            }),
-            Err(_) => Err(file),
+impl<F: Write + Drop> HeldFile<F> {
+    /// No file.
+    fn new() -> HeldFile<F> {
+        HeldFile {
+            name: ArrayString::new(),
+            file: None,
+            bytes: ArrayVec::new(),
         }
     }
 
     /// Whether it is the file by this name.
     fn has_name(&self, name: &str) -> bool {
-        self.name.as_str() == name
+        self.file.is_some() && self.name.as_str() == name
+    }
+
+    /// Takes another file, with no bytes held back. A name for which there is no room is cut to nothing.
+    fn open(&mut self, name: &str, file: F) {
+        self.name.clear();
+        self.bytes.clear();
+        self.file = match self.name.try_push_str(name) {
+            Ok(()) => Some(file),
+            Err(_) => None,
+        };
+    }
+
+    /// Closes the file, without what is held back.
+    fn close(&mut self) {
+        self.bytes.clear();
+        self.file = None;
     }
 
     /// Holds the bytes back, or writes the first of them, and says how many. An append of no bytes writes out
@@ -126,29 +145,39 @@ impl<F: Write> HeldFile<F> {
             self.write_out()?;
         }
         if holds && self.bytes.try_extend_from_slice(bytes).is_ok() {
-            Ok(bytes.len())
-        } else {
-            self.file.write(bytes)
+            return Ok(bytes.len());
+        }
+        match &mut self.file {
+            Some(file) => file.write(bytes),
+            None => Err(Error::from(ErrorKind::NotFound)),
         }
     }
 
     /// Writes out all that is held back.
     fn write_out(&mut self) -> io::Result<()> {
-        let mut done = 0;
-        while done < self.bytes.len() {
-            match self.file.write(&self.bytes[done..]) {
-                Ok(count) if count > 0 => done += count,
-                Ok(_) => {
-                    self.bytes.drain(..done);
-                    return Err(Error::from(ErrorKind::WriteZero));
-                }
-                Err(error) => {
-                    self.bytes.drain(..done);
-                    return Err(error);
-                }
+        match &mut self.file {
+            Some(file) => write_held(file, &mut self.bytes),
+            None => Ok(()),
+        }
+    }
+}
+
+/// Writes the bytes, and takes away those that were written.
+fn write_held<F: Write>(file: &mut F, bytes: &mut ArrayVec<u8, HELD>) -> io::Result<()> {
+    let mut done = 0;
+    while done < bytes.len() {
+        match file.write(&bytes[done..]) {
+            Ok(count) if count > 0 => done += count,
+            Ok(_) => {
+                bytes.drain(..done);
+                return Err(Error::from(ErrorKind::WriteZero));
+            }
+            Err(error) => {
+                bytes.drain(..done);
+                return Err(error);
             }
         }
-        self.bytes.clear();
-        Ok(())
     }
+    bytes.clear();
+    Ok(())
 }
