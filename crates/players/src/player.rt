@@ -1,3 +1,4 @@
+//! A script that an end sends, turn by turn.
 ghost use Rattle.std.specs.Prelude.{◌≡◌, ◌+◌, ◌<◌, ◌≤◌, MatchBool, IsTrue, length, ◌↔◌};
 ghost use Rattle.lateness.specs.Late.{AllFrom, FirstBelow};
 ghost use Rattle.script_plan.specs.Plan.{dues};
