@@ -1,7 +1,7 @@
 pub mod Words
 pub mod Verdict
 pub mod Refused
-pub mod Survey
+pub mod Scan
 pub mod Lines
 pub mod Files
 pub mod Run

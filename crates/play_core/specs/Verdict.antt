@@ -8,7 +8,7 @@ use Rattle.script_outcome.specs.declared.fault.ScriptKind.{ScriptKind}
 use Rattle.script_outcome.specs.Plan.{Plan, Commands, Refused, TooMany}
 use Rattle.script_read.specs.Plan.{plan}
 use Rattle.play_core.specs.declared.totals.Totals.{Totals}
-use Rattle.play_core.specs.Words.{Asked}
+use Rattle.play_core.specs.Words.{RequestData}
 
 -- the most bytes of a script, and of all scripts of a run together
 abbrev pub script_limit : ℕ
@@ -107,7 +107,7 @@ of_blocks blocks ManyCommands = ManyCommands
 of_blocks blocks ManyBlocks = ManyBlocks
 
 -- what decides of a run with these files
-unfoldable pub verdict : Asked → Files → Verdict
+unfoldable pub verdict : RequestData → Files → Verdict
 verdict a told = of_blocks a.blocks (of_scripts told a.blocks nothing a.scripts)
 
 -- each script has a plan

@@ -1,9 +1,9 @@
 //! A run: the scripts are read, all is made ready, both files are begun, all turns are played, and the report is put.
 ghost use Rattle.std.specs.Prelude.{◌≡◌, ◌≢◌, ◌⊎◌, ◌≤◌, ◌<◌, ◌-◌, ◌==◌, IfSome, IfOk, IfErr, OnOk, length, map, option_map, string_bytes, if◌then◌else◌};
-ghost use Rattle.play_core.specs.Words.{asked};
+ghost use Rattle.play_core.specs.Words.{request_data};
 ghost use Rattle.play_core.specs.Verdict.{block_limit, command_limit, count_all, verdict};
 ghost use Rattle.play_core.specs.Refused.{HasCause, IsWithin, Tells};
-ghost use Rattle.play_core.specs.Run.{HavePlans, HasReported, IsPlayedRun, IsRun, moment};
+ghost use Rattle.play_core.specs.Run.{HavePlans, HasReported, IsPlayedRun, IsRun, snapshot};
 ghost use Rattle.play_core.specs.Stage.{IsStage};
 ghost use Rattle.turns.specs.Turns.{plans_of};
 ghost use Rattle.outside.specs.Faults.{HasCause as HasFault};
@@ -15,7 +15,7 @@ ghost use Rattle.play_core.specs.Files.{IsStopped, with_two};
 use crate::lines::{refuse, report_of};
 use crate::refusal::Refusal;
 use crate::stage::{Stage, choose_blocks, set_stage};
-use crate::survey::read_scripts;
+use crate::scan::read_scripts;
 use crate::words::Request;
 use crate::writing::write_files;
 use fault_lines::say_cannot_write;
@@ -43,9 +43,9 @@ pub(crate) fn play<R: Threads + Wait + Sync, S: Shelf, O: Out, G: Gate>(
     requires scripts { (1 ≤ length request.scripts.now) × (length request.scripts.now ≤ 256) }
     requires blocks { IfSome request.blocks (λ b. (1 ≤ b) × (b ≤ block_limit)) }
     requires places { IfSome request.places (λ p. (1 ≤ p) × (p ≤ 1000000)) }
-    ensures { IsRun (asked request.entry)
-        (moment (S.files shelf.old) (S.reading shelf.old) (S.writing shelf.old) (O.written out.old) (O.faults out.old))
-        (moment (S.files shelf.new) (S.reading shelf.new) (S.writing shelf.new) (O.written out.new) (O.faults out.new)) result }
+    ensures { IsRun (request_data request.entry)
+        (snapshot (S.files shelf.old) (S.reading shelf.old) (S.writing shelf.old) (O.written out.old) (O.faults out.old))
+        (snapshot (S.files shelf.new) (S.reading shelf.new) (S.writing shelf.new) (O.written out.new) (O.faults out.new)) result }
 {
     match prepare(alloc, shelf, request, maps) {
         Ok(stage) => perform(rt, shelf, out, request, stage, gate),
@@ -64,9 +64,9 @@ fn prepare<S: Shelf>(
     requires blocks { IfSome request.blocks (λ b. (1 ≤ b) × (b ≤ block_limit)) }
     requires places { IfSome request.places (λ p. (1 ≤ p) × (p ≤ 1000000)) }
     ensures stage { IfOk result (λ stage. IsStage request.entry.blocks request.entry.places (plans_of stage.players.items) stage) }
-    ensures plans { IfOk result (λ stage. HavePlans (asked request.entry) (S.files shelf.old) (plans_of stage.players.items)) }
+    ensures plans { IfOk result (λ stage. HavePlans (request_data request.entry) (S.files shelf.old) (plans_of stage.players.items)) }
     ensures kept { OnOk result (S.reading shelf.new ≡ S.reading shelf.old) }
-    ensures tells { IfErr result (λ why. IfSome (S.files shelf.old) (λ told. Tells why (verdict (asked request.entry) told))) }
+    ensures tells { IfErr result (λ why. IfSome (S.files shelf.old) (λ told. Tells why (verdict (request_data request.entry) told))) }
     ensures cause { IfErr result (λ why. HasCause why request.entry.blocks (S.files shelf.old) (map string_bytes request.entry.scripts.now) (S.reading shelf.old) (S.reading shelf.new)) }
     ensures few { IfOk result (λ stage. count_all (plans_of stage.players.items) ≤ command_limit) }
     ensures within { IfErr result (λ why. IsWithin why (length request.entry.scripts.now)) }
@@ -116,11 +116,11 @@ fn perform<R: Threads + Wait + Sync, S: Shelf, O: Out, G: Gate>(
     requires differ { request.out.now ≢ request.order.now }
     requires scripts { (1 ≤ length request.scripts.now) × (length request.scripts.now ≤ 256) }
     requires stage { IsStage request.blocks request.places (plans_of stage.players.items) stage }
-    requires plans { HavePlans (asked request) (S.files shelf.old) (plans_of stage.players.items) }
+    requires plans { HavePlans (request_data request) (S.files shelf.old) (plans_of stage.players.items) }
     requires few { count_all (plans_of stage.players.items) ≤ command_limit }
-    ensures { IsPlayedRun (asked request.entry)
-        (moment (S.files shelf.old) (S.reading shelf.old) (S.writing shelf.old) (O.written out.old) (O.faults out.old))
-        (moment (S.files shelf.new) (S.reading shelf.new) (S.writing shelf.new) (O.written out.new) (O.faults out.new)) result }
+    ensures { IsPlayedRun (request_data request.entry)
+        (snapshot (S.files shelf.old) (S.reading shelf.old) (S.writing shelf.old) (O.written out.old) (O.faults out.old))
+        (snapshot (S.files shelf.new) (S.reading shelf.new) (S.writing shelf.new) (O.written out.new) (O.faults out.new)) result }
 {
     let blocks = stage.blocks;
     let commands = stage.commands;

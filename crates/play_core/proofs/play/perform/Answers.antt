@@ -6,10 +6,10 @@ use Rattle.outside.specs.Files.{Files}
 use Rattle.command_set.specs.Entries.{journal_data, logged_data}
 use Rattle.take_files.specs.Files.{wav_header, order_header}
 use Rattle.turns.specs.Turns.{plans_of}
-use Rattle.play_core.specs.Words.{asked}
+use Rattle.play_core.specs.Words.{request_data}
 use Rattle.play_core.specs.Verdict.{blocks_of_run, places_of_run, count_all}
 use Rattle.play_core.specs.Files.{with_two}
-use Rattle.play_core.specs.Run.{moment}
+use Rattle.play_core.specs.Run.{snapshot}
 use Rattle.play_core.proofs.Runs.{none_ordered, stopped_at_start, stopped_in_turns, played_whole, run_ordered}
 use Rattle.play_core.proofs.Counts.{not_more}
 use Rattle.play_core.proofs.Following.{all_follow}
@@ -28,9 +28,9 @@ play_scripts-journal-requires-clause-has_order g c κs within = has_second c.arg
 
 pub returns-in-Err : goal.returns-in-Err
 returns-in-Err g c =
-    stopped_at_start (asked c.args.request)
-    (moment (g.S.Shelf.files c.args.shelf.now) (g.S.Shelf.reading c.args.shelf.now) (g.S.Shelf.writing c.args.shelf.now) (g.O.Out.written c.args.out.now) (g.O.Out.faults c.args.out.now))
-    (moment (g.S.Shelf.files c.begin_files.new.shelf) (g.S.Shelf.reading c.begin_files.new.shelf) (g.S.Shelf.writing c.begin_files.new.shelf) (g.O.Out.written c.say_stopped.new.out) (g.O.Out.faults c.say_stopped.new.out))
+    stopped_at_start (request_data c.args.request)
+    (snapshot (g.S.Shelf.files c.args.shelf.now) (g.S.Shelf.reading c.args.shelf.now) (g.S.Shelf.writing c.args.shelf.now) (g.O.Out.written c.args.out.now) (g.O.Out.faults c.args.out.now))
+    (snapshot (g.S.Shelf.files c.begin_files.new.shelf) (g.S.Shelf.reading c.begin_files.new.shelf) (g.S.Shelf.writing c.begin_files.new.shelf) (g.O.Out.written c.say_stopped.new.out) (g.O.Out.faults c.say_stopped.new.out))
     c.say_stopped.result (plans_of c.args.stage.players.items) c.requires.differ c.requires.plans c.in-Err.target c.say_stopped.ensures.status
     (rw (← c.requires.stage.blocks_are)
     (none_ordered c.args.stage.blocks (length (plans_of c.args.stage.players.items)) c.requires.stage.some c.requires.stage.few
@@ -48,9 +48,9 @@ returns-in-Ok-result g c =
     let few : length (journal_data c.play_scripts-journal.result.0.items) ≤ count_all (plans_of c.args.stage.players.items) =
     not_more (plans_of c.args.stage.players.items) (journal_data c.play_scripts-journal.result.0.items) c.play_scripts-journal.ensures.played in
     let scripts : length (plans_of c.args.stage.players.items) ≤ 256 = omega (arith, c.requires.plans.0, length-map c.args.request.scripts.now string_bytes, c.requires.scripts.1) in
-    played_whole (asked c.args.request)
-    (moment (g.S.Shelf.files c.args.shelf.now) (g.S.Shelf.reading c.args.shelf.now) (g.S.Shelf.writing c.args.shelf.now) (g.O.Out.written c.args.out.now) (g.O.Out.faults c.args.out.now))
-    (moment (g.S.Shelf.files c.play_scripts-journal.new.shelf) (g.S.Shelf.reading c.play_scripts-journal.new.shelf) (g.S.Shelf.writing c.play_scripts-journal.new.shelf) (g.O.Out.written c.put_report.new.out) (g.O.Out.faults c.put_report.new.out))
+    played_whole (request_data c.args.request)
+    (snapshot (g.S.Shelf.files c.args.shelf.now) (g.S.Shelf.reading c.args.shelf.now) (g.S.Shelf.writing c.args.shelf.now) (g.O.Out.written c.args.out.now) (g.O.Out.faults c.args.out.now))
+    (snapshot (g.S.Shelf.files c.play_scripts-journal.new.shelf) (g.S.Shelf.reading c.play_scripts-journal.new.shelf) (g.S.Shelf.writing c.play_scripts-journal.new.shelf) (g.O.Out.written c.put_report.new.out) (g.O.Out.faults c.put_report.new.out))
     c.put_report.result (plans_of c.args.stage.players.items) c.requires.differ c.requires.plans (g.S.Shelf.files c.begin_files.new.shelf) (journal_data c.play_scripts-journal.result.0.items)
     (rw (← c.requires.stage.blocks_are, c.requires.plans.0, length-map c.args.request.scripts.now string_bytes) c.in-Ok.ensures.whole)
     (rw (← c.requires.stage.blocks_are) (search rules))
@@ -72,9 +72,9 @@ returns g c =
     let few : length (journal_data c.play_scripts-journal.result.0.items) ≤ count_all (plans_of c.args.stage.players.items) =
     not_more (plans_of c.args.stage.players.items) (journal_data c.play_scripts-journal.result.0.items) c.play_scripts-journal.ensures.played in
     let scripts : length (plans_of c.args.stage.players.items) ≤ 256 = omega (arith, c.requires.plans.0, length-map c.args.request.scripts.now string_bytes, c.requires.scripts.1) in
-    stopped_in_turns (asked c.args.request)
-    (moment (g.S.Shelf.files c.args.shelf.now) (g.S.Shelf.reading c.args.shelf.now) (g.S.Shelf.writing c.args.shelf.now) (g.O.Out.written c.args.out.now) (g.O.Out.faults c.args.out.now))
-    (moment (g.S.Shelf.files c.play_scripts-journal.new.shelf) (g.S.Shelf.reading c.play_scripts-journal.new.shelf) (g.S.Shelf.writing c.play_scripts-journal.new.shelf) (g.O.Out.written c.say_stopped-in-Err-result.new.out) (g.O.Out.faults c.say_stopped-in-Err-result.new.out))
+    stopped_in_turns (request_data c.args.request)
+    (snapshot (g.S.Shelf.files c.args.shelf.now) (g.S.Shelf.reading c.args.shelf.now) (g.S.Shelf.writing c.args.shelf.now) (g.O.Out.written c.args.out.now) (g.O.Out.faults c.args.out.now))
+    (snapshot (g.S.Shelf.files c.play_scripts-journal.new.shelf) (g.S.Shelf.reading c.play_scripts-journal.new.shelf) (g.S.Shelf.writing c.play_scripts-journal.new.shelf) (g.O.Out.written c.say_stopped-in-Err-result.new.out) (g.O.Out.faults c.say_stopped-in-Err-result.new.out))
     c.say_stopped-in-Err-result.result (plans_of c.args.stage.players.items) c.requires.differ c.requires.plans (g.S.Shelf.files c.begin_files.new.shelf) (journal_data c.play_scripts-journal.result.0.items)
     (rw (← c.requires.stage.blocks_are, c.requires.plans.0, length-map c.args.request.scripts.now string_bytes) c.in-Ok.ensures.whole)
     c.say_stopped-in-Err-result.ensures.status

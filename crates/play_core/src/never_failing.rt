@@ -6,7 +6,7 @@ ghost use Rattle.fault_lines.specs.Statuses.{IsOneOf};
 ghost use Rattle.fault_lines.specs.Lines.{Says, out_of_memory};
 ghost use Rattle.script_outcome.specs.declared.fault.Place.{Place};
 ghost use Rattle.script_outcome.specs.declared.fault.ScriptKind.{ScriptKind};
-ghost use Rattle.play_core.specs.Words.{asked_by};
+ghost use Rattle.play_core.specs.Words.{requested_by};
 ghost use Rattle.play_core.specs.Verdict.{Verdict};
 ghost use Rattle.play_core.specs.Lines.{fault_line, report, usage};
 ghost use Rattle.play_core.specs.Headline.{Asks, IsLimit, WasPlayed, limit_line};
@@ -20,7 +20,7 @@ use velocity_map::MapSet;
 
 /// `play_main` over a shelf that never fails: it never answers 2, and 3 only where the output failed, with no more than a front of the report. The other statuses come as there, each with its
 /// line; 5 only where a number of places was asked for.
-pub fn play_surely<R: Threads + Wait + Sync, O: Out, G: Gate>(
+pub fn play_never_failing<R: Threads + Wait + Sync, O: Out, G: Gate>(
     rt: &R,
     alloc: Global,
     words: &[String],
@@ -30,7 +30,7 @@ pub fn play_surely<R: Threads + Wait + Sync, O: Out, G: Gate>(
     maps: &MapSet,
 ) -> u8
     ensures status { IsOneOf result (0 ∷ 1 ∷ 3 ∷ 4 ∷ 5 ∷ 6 ∷ 8 ∷ []) }
-    ensures words { result ≡ 1 ↔ asked_by (map string_bytes words.now) ≡ None }
+    ensures words { result ≡ 1 ↔ requested_by (map string_bytes words.now) ≡ None }
     ensures write { result ≡ 3 → Rose (O.faults out.old) (O.faults out.new) }
     ensures puts { WasPlayed result → O.faults out.new ≡ O.faults out.old }
     ensures line { WasPlayed result → Asks (map string_bytes words.now) (λ a. (left : ℕ) × (blocks : ℕ) × (commands : ℕ) × (result ≡ (if left == 0 then 0 else 5)) × IfSome a.blocks (λ b. blocks ≡ b)

@@ -7,7 +7,7 @@ ghost use Rattle.script_outcome.specs.Plan.{Commands};
 ghost use Rattle.script_read.specs.Plan.{plan};
 ghost use Rattle.play_core.specs.Verdict.{Verdict, command_limit, script_limit, scripts_limit, nothing, count_all, of_text, of_scripts, Plays};
 ghost use Rattle.play_core.specs.Refused.{HasCause, IsOfContent, Tells};
-ghost use Rattle.play_core.specs.Survey.{IsNext, NextCause, NextTells, AreBelow};
+ghost use Rattle.play_core.specs.Scan.{IsNext, NextCause, NextTells, AreBelow};
 
 use crate::refusal::Refusal;
 use crate::totals::Totals;
