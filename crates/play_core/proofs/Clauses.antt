@@ -23,11 +23,13 @@ use Rattle.play_core.specs.declared.totals.Totals.{Totals}
 use Rattle.play_core.specs.declared.refusal.Refusal.{Refusal}
 use Rattle.play_core.specs.declared.refusal.Refusal.TheVariants as why
 use Rattle.play_core.specs.Words.{RequestData, requested_by}
-use Rattle.play_core.specs.Verdict.{Verdict, Lacking, LongFile, LongScripts, Faulty, ManyCommands, ManyBlocks, Plays, IsPlayed, verdict, plans_in, blocks_of_run, places_of_run, count_all, nothing, command_limit, with_script, with_plan, of_plan, of_file, of_blocks, of_scripts}
+use Rattle.play_core.specs.Limits.{command_limit}
+use Rattle.play_core.specs.Verdict.{Verdict, Lacking, LongFile, LongScripts, Faulty, ManyCommands, ManyBlocks, Plays, IsPlayed, verdict, plans_in, blocks_of_run, places_of_run, count_all, nothing, with_script, with_plan, of_plan, of_file, of_blocks, of_scripts}
 use Rattle.play_core.specs.Refused.{HasCause, IsUnread, Tells}
 use Rattle.play_core.specs.Lines.{refusal_line, refusal_status, report, fault_line}
 use Rattle.play_core.specs.Files.{AreBegun, with_two}
-use Rattle.play_core.specs.Run.{Snapshot, HavePlans, IsRefused, IsStoppedRun, IsDone, IsRun, IsPlayedRun, SaysOfStop, report_of, left_of, sound_of, order_of, played}
+use Rattle.outside.specs.Snapshot.{Snapshot}
+use Rattle.play_core.specs.Run.{HavePlans, IsRefused, IsStoppedRun, IsDone, IsRun, IsPlayedRun, SaysOfStop, report_of, left_of, sound_of, order_of, played}
 use Rattle.play_core.proofs.Counts.{all_played, some_left, length_blocks, length_part}
 use Rattle.play_core.specs.Headline.{Answers, Asks, HasAll, IsComplete, IsLimit, LacksSome, Lists, Played, PlayedAs, Told, WasPlayed, limit_line}
 
@@ -53,7 +55,7 @@ left_status left status is = by_test (left == 0) is
     by_test true e = inl e
     by_test false e = inr e
 
-refused_status : (why : Refusal) (status : ℕ) → status ≡ refusal_status why → WasPlayed status ⊎ (status ≡ 3) → ⊥
+pub refused_status : (why : Refusal) (status : ℕ) → status ≡ refusal_status why → WasPlayed status ⊎ (status ≡ 3) → ⊥
 refused_status (why.Unread k) status is (inl (inl e)) = absurd (omega arith)
 refused_status (why.Unread k) status is (inl (inr e)) = absurd (omega arith)
 refused_status (why.Unread k) status is (inr e) = absurd (omega arith)

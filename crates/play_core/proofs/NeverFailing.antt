@@ -11,7 +11,8 @@ use Rattle.play_core.specs.Words.{RequestData, requested_by}
 use Rattle.play_core.specs.Verdict.{blocks_of_run, count_all}
 use Rattle.play_core.specs.Lines.{report}
 use Rattle.play_core.specs.Files.{AreBegun}
-use Rattle.play_core.specs.Run.{Snapshot, HavePlans, SaysOfStop, left_of, order_of, sound_of}
+use Rattle.outside.specs.Snapshot.{Snapshot}
+use Rattle.play_core.specs.Run.{HavePlans, SaysOfStop, left_of, order_of, sound_of}
 use Rattle.play_core.specs.Headline.{Asks}
 use Rattle.play_core.proofs.Clauses.{own_blocks}
 

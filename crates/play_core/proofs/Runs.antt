@@ -3,7 +3,7 @@ use Rattle.std.proofs.Common.{◌≡◌, ◌≢◌, ◌⊎◌, ℕ, zero, suc, �
 use Rattle.std.specs.Prelude.{◌==◌, Option, Some, None, All, option_map, slice_index_or, if◌then◌else◌}
 use Rattle.std.proofs.Math.Seq.{take-length}
 use Rattle.std.proofs.lemmas.List.Elements.{All-nil}
-use Rattle.outside.specs.Files.{Files, SaidSome, appended, said}
+use Rattle.outside.specs.Files.{IsBegun, Files, SaidSome, appended, said}
 use Rattle.outside.specs.Faults.{Rose}
 use Rattle.outside.proofs.Shelves.{then_mapped}
 use Rattle.fault_lines.specs.Lines.{Says, cannot_write}
@@ -17,9 +17,14 @@ use Rattle.turns.specs.Timed.{ArePlayed, IsBegun as IsScriptBegun, IsTimed}
 use Rattle.turns.specs.Written.{order_lines, both_appended, BothBegun}
 use Rattle.play_core.specs.Words.{RequestData}
 use Rattle.play_core.specs.Verdict.{blocks_of_run, places_of_run, count_all}
-use Rattle.play_core.specs.Files.{AreBegun, IsBegun, IsStopped, with_two}
-use Rattle.play_core.specs.Run.{Snapshot, HavePlans, HasReported, IsStoppedRun, IsDone, IsPlayedRun, SaysOfStop, left_of, order_of, played, report_of, sound_of}
+use Rattle.play_core.specs.Files.{AreBegun, IsStopped, with_two}
+use Rattle.outside.specs.Snapshot.{Snapshot}
+use Rattle.play_core.specs.Run.{HavePlans, HasReported, IsStoppedRun, IsDone, IsPlayedRun, SaysOfStop, left_of, order_of, played, report_of, sound_of}
 use Rattle.play_core.proofs.Writes.{sound_grows, text_grows, begun_both, begun_whole, stopped_begun}
+
+-- a count that rose stays risen
+pub rose_on : (a b c : ℕ) → Rose a b → b ≤ c → Rose a c
+rose_on a b c rose le = omega (arith, rose, le)
 
 -- nothing was played yet
 pub none_played : (plans : List (List PlannedData)) → ArePlayed [] plans
@@ -28,7 +33,7 @@ none_played plans = record {
   each = λ k below. record { sent = []; left = plan_of plans k; split = refl; entries_are = refl; due = tt };
 }
 
--- a front of some bytes is one of longer ones
+-- a prefix of some bytes is one of longer ones
 prefix_longer : (count : ℕ) (x more : List ℕ) → take count x ≡ take (min count (length x)) (x ++ more)
 prefix_longer zero x more = let none : min 0 (length x) ≡ 0 = omega arith in rw none refl
 prefix_longer (suc n) [] more = let none : min (suc n) 0 ≡ 0 = omega arith in rw none refl

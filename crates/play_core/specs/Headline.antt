@@ -74,7 +74,8 @@ Answers (Faulty number place what) status = IsOneOf status (4 ∷ 8 ∷ [])
 Answers ManyCommands status = IsOneOf status (6 ∷ 8 ∷ [])
 Answers ManyBlocks status = IsOneOf status (6 ∷ 8 ∷ [])
 
--- where all is right and nothing fails: all commands are played, where the line has a place for each, and else some may be left; unless memory runs out
+-- where all is right and nothing fails: all commands are played, where the line has a place for each, and else some may be left; unless
+-- memory runs out
 abbrev pub IsComplete : RequestData → Verdict → ℕ → Type 0
 IsComplete a said status =
     (plans : List (List PlannedData)) → said ≡ Plays plans

@@ -2,6 +2,7 @@
 use Rattle.std.specs.Prelude.{◌≡◌, ◌⊎◌, ℕ, ◌-◌, ◌≤◌, ◌==◌, List, length, Option, IfSome, IsSomeAnd, option_map, if◌then◌else◌}
 use Rattle.outside.specs.Files.{Files, SaidSome, said}
 use Rattle.outside.specs.Faults.{Rose}
+use Rattle.outside.specs.Snapshot.{Snapshot}
 use Rattle.fault_lines.specs.Lines.{Says, cannot_write}
 use Rattle.command_set.specs.Entries.{LoggedData}
 use Rattle.script_plan.specs.Plan.{PlannedData}
@@ -14,17 +15,6 @@ use Rattle.play_core.specs.Verdict.{Plays, verdict, blocks_of_run, places_of_run
 use Rattle.play_core.specs.Refused.{HasCause, Tells}
 use Rattle.play_core.specs.Lines.{refusal_line, refusal_status, report}
 use Rattle.play_core.specs.Files.{AreBegun, with_two}
-
--- what a shelf and an output show at a moment: the files, the counts of faults of reading and of writing, the output's bytes and its count of faults
-pub record Snapshot : Type 0 where
-  pub files : Option Files
-  pub reading : ℕ
-  pub writing : ℕ
-  pub written : Option (List ℕ)
-  pub faults : ℕ
-
-abbrev pub snapshot : Option Files → ℕ → ℕ → Option (List ℕ) → ℕ → Snapshot
-snapshot files reading writing written faults = record { files = files; reading = reading; writing = writing; written = written; faults = faults }
 
 -- nothing was played: no file was touched, and the line of the refusal was put
 pub record IsRefused (a : RequestData) (before now : Snapshot) (status : ℕ) : Type 0 where
@@ -59,8 +49,8 @@ left_of plans journal = count_all plans - length journal
 abbrev pub report_of : RequestData → List (List PlannedData) → List LoggedData → List ℕ
 report_of a plans journal = report (left_of plans journal) (blocks_of_run a.blocks plans) (length journal)
 
--- What is said where a write or the put of the report failed. Where a write failed, one of the two files is named that could not be written; where none did, both files are whole, and of the report
--- no more than a front was put.
+-- What is said where a write or the put of the report failed. Where a write failed, one of the two files is named that could not be written;
+-- where none did, both files are whole, and of the report no more than a prefix was put.
 abbrev pub SaysOfStop : RequestData → List (List PlannedData) → List LoggedData → Snapshot → Snapshot → Type 0
 SaysOfStop a plans journal before now =
     (Rose before.writing now.writing × (Says (cannot_write a.out) before.written now.written before.faults now.faults
@@ -103,7 +93,7 @@ IsPlayedRun a before now status = IsStoppedRun a before now status ⊎ IsDone a 
 abbrev pub IsRun : RequestData → Snapshot → Snapshot → ℕ → Type 0
 IsRun a before now status = IsRefused a before now status ⊎ IsPlayedRun a before now status
 
--- the report was put, and the status is the run's; or the output failed, no more than a front of it was put, and the status is 3
+-- the report was put, and the status is the run's; or the output failed, no more than a prefix of it was put, and the status is 3
 abbrev pub HasReported : List ℕ → ℕ → Option (List ℕ) → Option (List ℕ) → ℕ → ℕ → ℕ → Type 0
 HasReported line status before now faults_before faults_now result =
     ((result ≡ status) × (now ≡ option_map (said line) before) × (faults_now ≡ faults_before))

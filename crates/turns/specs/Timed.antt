@@ -24,5 +24,5 @@ pub record ArePlayed (journal : List LoggedData) (plans : List (List PlannedData
 -- before it and commands of all other scripts.
 pub record IsTimed (journal : List LoggedData) (plans : List (List PlannedData)) (places : ℕ) : Type 0 where
   pub played : ArePlayed journal plans
-  pub full : (k i : ℕ) → k < length plans → i < length (plan_of plans k) 
+  pub full : (k i : ℕ) → k < length plans → i < length (plan_of plans k)
       → IsOff (dues (plan_of plans k)) (blocks_of k journal) i → places ≤ i + others_than plans k

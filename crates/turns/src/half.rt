@@ -130,7 +130,5 @@ pub(crate) fn run_halves<R: Threads + Wait + Sync, G: Gate>(
     }
     let last = last_due(players, t);
     let (first, second) = players.split_at_mut(last);
-    run_parts(
-        rt, line, gate, t, actor, renderer, samples, first, second,
-    );
+    run_parts(rt, line, gate, t, actor, renderer, samples, first, second);
 }

@@ -1,6 +1,6 @@
 use Rattle.std.proofs.Common.{map, string_bytes, arith}
 use Rattle.outside.specs.Sure.{sure_faults, sure_files}
-use Rattle.play_core.specs.Run.{snapshot}
+use Rattle.outside.specs.Snapshot.{snapshot}
 use Rattle.play_core.proofs.NeverFailing.{stopped_never_failing, some_places}
 use Rattle.play_core.proofs.never_failing.play_never_failing.Goals as goal
 
