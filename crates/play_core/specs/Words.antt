@@ -46,7 +46,7 @@ abbrev pub request_of : List ℕ → List ℕ → List ℕ → List ℕ → List
 request_of out order blocks places scripts =
     if are_files out order && are_scripts out order scripts
     then option_and_then (λ b. option_map (λ p. record { out = out; order = order; blocks = b; places = p; scripts = scripts })
-        (choice 1 place_limit places)) (choice 1 block_limit blocks)
+    (choice 1 place_limit places)) (choice 1 block_limit blocks)
     else None
 
 abbrev pub requested_by : List (List ℕ) → Option RequestData

@@ -18,8 +18,8 @@ ghost use Rattle.play_core.specs.Files.{IsStopped, with_two};
 
 use crate::lines::{refuse, report_of};
 use crate::refusal::Refusal;
-use crate::stage::{Stage, choose_blocks, set_stage};
 use crate::scan::read_scripts;
+use crate::stage::{Stage, choose_blocks, set_stage};
 use crate::words::Request;
 use crate::writing::write_files;
 use fault_lines::say_cannot_write;

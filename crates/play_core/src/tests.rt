@@ -2,9 +2,7 @@
 
 use super::*;
 use crate::one_byte::OneByteShelf;
-use outside::{
-    DiskShelf, Gate, MemOut, MemShelf, NoGate, Shelf, SureShelf, append_all, read_all,
-};
+use outside::{DiskShelf, Gate, MemOut, MemShelf, NoGate, Shelf, SureShelf, append_all, read_all};
 use std::alloc::{AllocError, Global};
 use std::process::Abort;
 use std::rt::Files;
@@ -404,10 +402,19 @@ fn held_back_is_written_out<R: Threads + Wait + Sync + Files>(
     let mut inner = DiskShelf::new(rt);
     inner.create("a.txt")?;
     append_all(&mut inner, "a.txt", NOTE)?;
-    let order = b"order engine 1 blocks 100 scripts 1\n0 0 0 0 on 0 69 100\n50 50 0 1 off 0 69\n".as_slice();
+    let order =
+        b"order engine 1 blocks 100 scripts 1\n0 0 0 0 on 0 69 100\n50 50 0 1 off 0 69\n".as_slice();
     for (words, status, line) in [
-        ("o.wav o.txt 100 - a.txt", 0, b"ok blocks 100 commands 2\n".as_slice()),
-        ("/dev/full o.txt 100 - a.txt", 3, b"cannot write /dev/full\n".as_slice()),
+        (
+            "o.wav o.txt 100 - a.txt",
+            0,
+            b"ok blocks 100 commands 2\n".as_slice(),
+        ),
+        (
+            "/dev/full o.txt 100 - a.txt",
+            3,
+            b"cannot write /dev/full\n".as_slice(),
+        ),
     ] {
         let mut shelf = DiskShelf::holding_back(rt);
         let mut out = MemOut::new(alloc, &[])?;
