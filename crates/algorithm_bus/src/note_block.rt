@@ -1,28 +1,28 @@
 ghost use Rattle.std.specs.Prelude.{◌≡◌, ◌≤◌, ℕ, pos, false};
-ghost use Rattle.operator_kernel.specs.Operator.{memory_of};
+ghost use Rattle.operator_kernel.specs.Operator.{feedback_state_of};
 ghost use Rattle.algorithm_bus.specs.Buses.{HaveGains};
 
 use crate::bus::{feed_back, run_note};
 use crate::four::run_four_notes;
-use crate::heard::is_any_carrier_heard;
+use crate::audible::has_audible_carrier;
 use dx_tables::Tables;
 use operator_kernel::OpBlock;
 
 /// A block of 64 samples of a note before it is run: the algorithm, 0 to 31, and the feedback, 0 to 7, what operators 1 to 6 do, and the
-/// last two samples of the operator with feedback.
+/// last two samples of the operator with feedback, its feedback state.
 #[derive(Clone, Copy)]
 pub struct NoteBlock {
     pub algorithm: u8,
     pub feedback: u8,
     pub ops: [OpBlock; 6],
-    pub memory: [i32; 2],
+    pub feedback_state: [i32; 2],
     ghost algorithm_in_range: { algorithm ≤ 31 },
     ghost feedback_in_range: { feedback ≤ 7 },
     ghost gains_in_range: { HaveGains ops },
 }
 
 impl NoteBlock {
-    ghost use Rattle.algorithm_bus.specs.Signals.{memory_left, note_output};
+    ghost use Rattle.algorithm_bus.specs.Signals.{feedback_state_left, note_output};
     ghost use Rattle.algorithm_bus.specs.Buses.{IsBus};
     ghost use Rattle.algorithm_bus.specs.NoteBlocks.{block_patch};
 
@@ -40,20 +40,20 @@ impl NoteBlock {
             algorithm: 0,
             feedback: 0,
             ops: [op; 6],
-            memory: [0, 0],
+            feedback_state: [0, 0],
         }
     }
 
     /// Whether a carrier sounds. Where none does all samples are 0.
-    pub fn is_heard(&self) -> bool
+    pub fn is_audible(&self) -> bool
         ensures { result ≡ false → (j : ℕ) → note_output (block_patch self.now) j ≡ pos 0 }
     {
-        is_any_carrier_heard(self.algorithm, &self.ops)
+        has_audible_carrier(self.algorithm, &self.ops)
     }
 
-    /// Runs the operator with feedback alone, where nothing is heard of the note: the memory becomes its last two samples.
-    pub fn pass_unheard(&mut self, tables: &Tables)
-        ensures { memory_of self.new.memory ≡ memory_left (block_patch self.old) }
+    /// Runs the operator with feedback alone, where nothing is heard of the note: the feedback state becomes its last two samples.
+    pub fn pass_inaudible(&mut self, tables: &Tables)
+        ensures { feedback_state_of self.new.feedback_state ≡ feedback_state_left (block_patch self.old) }
     {
         let ops = self.ops;
         let _ = feed_back(
@@ -61,14 +61,14 @@ impl NoteBlock {
             self.algorithm,
             self.feedback,
             &ops,
-            &mut self.memory,
+            &mut self.feedback_state,
         );
     }
 
-    /// The same as `run_note`: `out` becomes the sum of the carriers, and the memory the last two samples of the operator with feedback.
+    /// The same as `run_note`: `out` becomes the sum of the carriers, and the feedback state the last two samples of the operator with feedback.
     pub fn run(&mut self, tables: &Tables, out: &mut [i32; 64])
         ensures out { IsBus (note_output (block_patch self.old)) out.new }
-        ensures memory { memory_of self.new.memory ≡ memory_left (block_patch self.old) }
+        ensures memory { feedback_state_of self.new.feedback_state ≡ feedback_state_left (block_patch self.old) }
     {
         let ops = self.ops;
         run_note(
@@ -76,7 +76,7 @@ impl NoteBlock {
             self.algorithm,
             self.feedback,
             &ops,
-            &mut self.memory,
+            &mut self.feedback_state,
             out,
         );
     }
@@ -99,10 +99,10 @@ impl NoteBlock {
         ensures out1 { IsBus (note_output (block_patch second.old)) out1.new }
         ensures out2 { IsBus (note_output (block_patch third.old)) out2.new }
         ensures out3 { IsBus (note_output (block_patch fourth.old)) out3.new }
-        ensures memory0 { memory_of first.new.memory ≡ memory_left (block_patch first.old) }
-        ensures memory1 { memory_of second.new.memory ≡ memory_left (block_patch second.old) }
-        ensures memory2 { memory_of third.new.memory ≡ memory_left (block_patch third.old) }
-        ensures memory3 { memory_of fourth.new.memory ≡ memory_left (block_patch fourth.old) }
+        ensures memory0 { feedback_state_of first.new.feedback_state ≡ feedback_state_left (block_patch first.old) }
+        ensures memory1 { feedback_state_of second.new.feedback_state ≡ feedback_state_left (block_patch second.old) }
+        ensures memory2 { feedback_state_of third.new.feedback_state ≡ feedback_state_left (block_patch third.old) }
+        ensures memory3 { feedback_state_of fourth.new.feedback_state ≡ feedback_state_left (block_patch fourth.old) }
     {
         let ops0 = first.ops;
         let ops1 = second.ops;
@@ -116,10 +116,10 @@ impl NoteBlock {
             &ops1,
             &ops2,
             &ops3,
-            &mut first.memory,
-            &mut second.memory,
-            &mut third.memory,
-            &mut fourth.memory,
+            &mut first.feedback_state,
+            &mut second.feedback_state,
+            &mut third.feedback_state,
+            &mut fourth.feedback_state,
             out0,
             out1,
             out2,

@@ -2,33 +2,33 @@
 use Rattle.std.proofs.Common.{◌≡◌, ◌≢◌, ℕ, zero, suc, ◌-◌, ◌*◌, ◌<◌, ◌≤◌, max, false, inl, inr, refl, ap, sym, ◌∙◌, ◌==◌, arith}
 use Rattle.std.proofs.lemmas.Bool.{eqb-true, le-leb, lt-leb}
 use Rattle.std.proofs.Common.{eq-eqb}
-use Rattle.block_rates.specs.declared.slope.Slope.{Slope}
-use Rattle.block_rates.specs.Levels.{rise, risen, go, sloping}
+use Rattle.block_rates.specs.declared.level_segment.LevelSegment.{LevelSegment}
+use Rattle.block_rates.specs.Levels.{rise, risen, go, level_motion}
 use Rattle.block_rates.proofs.StageRuns.{RunsOn, lt_or_le}
 
-falling : (s : Slope) (x m : ℕ) → s.target ≤ x → go s x (suc m) ≡ max s.target (x - suc m * s.step)
+falling : (s : LevelSegment) (x m : ℕ) → s.target ≤ x → go s x (suc m) ≡ max s.target (x - suc m * s.step)
 unfolding go
 falling s x m le = rw (le-leb s.target x le)
 
-rising : (s : Slope) (x m : ℕ) → x < s.target → go s x (suc m) ≡ risen s (suc m) x
+rising : (s : LevelSegment) (x m : ℕ) → x < s.target → go s x (suc m) ≡ risen s (suc m) x
 unfolding go
 rising s x m lt = rw (lt-leb s.target x lt)
 
-pub rising_one : (s : Slope) (x : ℕ) → x < s.target → go s x 1 ≡ rise s x
+pub rising_one : (s : LevelSegment) (x : ℕ) → x < s.target → go s x 1 ≡ rise s x
 unfolding go risen
 rising_one s x lt = rw (lt-leb s.target x lt)
 
-pub falling_one : (s : Slope) (x : ℕ) → s.target ≤ x → go s x 1 ≡ max s.target (x - s.step)
+pub falling_one : (s : LevelSegment) (x : ℕ) → s.target ≤ x → go s x 1 ≡ max s.target (x - s.step)
 falling_one s x le = falling s x 0 le ∙ omega arith
 
-below_target : (s : Slope) (x : ℕ) → rise s x ≢ s.target → rise s x < s.target
+below_target : (s : LevelSegment) (x : ℕ) → rise s x ≢ s.target → rise s x < s.target
 below_target s x ne = omega arith
 
 above_target : (t z : ℕ) → max t z ≢ t → t < z
 above_target t z ne = omega arith
 
 -- a stage that has not ended goes on from the level that it left
-go_on : (s : Slope) (x j : ℕ) → go s x 1 ≢ s.target → go s x (suc j) ≡ go s (go s x 1) j
+go_on : (s : LevelSegment) (x j : ℕ) → go s x 1 ≢ s.target → go s x (suc j) ≡ go s (go s x 1) j
 unfolding go risen
 go_on s x zero ne = refl
 go_on s x (suc j) ne =
@@ -46,7 +46,7 @@ go_on s x (suc j) ne =
           falling s x (suc j) le ∙ g ∙ sym (falling s z j (omega arith)) ∙ ap (λ w. go s w (suc j)) (sym (e ∙ f))
     ]
 
-stays_at : (s : Slope) (m : ℕ) → go s s.target m ≡ s.target
+stays_at : (s : LevelSegment) (m : ℕ) → go s s.target m ≡ s.target
 unfolding go
 stays_at s zero = refl
 stays_at s (suc m) = falling s s.target m (omega arith) ∙ omega arith
@@ -54,11 +54,11 @@ stays_at s (suc m) = falling s s.target m (omega arith) ∙ omega arith
 differs : (a b : ℕ) → (a == b) ≡ false → a ≢ b
 differs a b e h = let f = eq-eqb a b h in cc
 
-begins_at : (s : Slope) (x : ℕ) → go s x 0 ≡ x
+begins_at : (s : LevelSegment) (x : ℕ) → go s x 0 ≡ x
 unfolding go
 begins_at s x = refl
 
-pub sloping_runs : RunsOn sloping
+pub sloping_runs : RunsOn level_motion
 sloping_runs = record {
   begins = begins_at;
   arrives = λ s x e. eqb-true x s.target e;

@@ -2,4 +2,4 @@ pub mod StageRuns
 pub mod StageTurns
 pub mod LevelSteps
 pub mod PitchSteps
-pub mod OscillatorSteps
+pub mod LfoSteps

@@ -3,8 +3,8 @@ use Rattle.std.proofs.Common.{◌≡◌, ◌≢◌, ℕ, suc, ◌+◌, ◌*◌, 
 use Rattle.std.specs.Int.{int_max, int_min}
 use Rattle.std.specs.Ordering.{int_eq}
 use Rattle.std.proofs.lemmas.Int.{ints, clamps, by_lt_z}
-use Rattle.block_rates.specs.declared.glide.Glide.{Glide}
-use Rattle.block_rates.specs.Pitches.{glided, gliding}
+use Rattle.block_rates.specs.declared.pitch_segment.PitchSegment.{PitchSegment}
+use Rattle.block_rates.specs.Pitches.{pitch_moved, pitch_motion}
 use Rattle.block_rates.proofs.StageRuns.{RunsOn}
 
 down_test : (a b : ℤ) → a ≤ℤ b → int_le a b ≡ true
@@ -13,12 +13,12 @@ down_test a b h = grind (arith, ints)
 up_test : (a b : ℤ) → b <ℤ a → int_le a b ≡ false
 up_test a b h = grind (arith, ints)
 
-pub going_down : (g : Glide) (x : ℤ) (m : ℕ) → g.target ≤ℤ x → glided g x m ≡ int_max g.target (x -ℤ pos (m * g.step))
-unfolding glided
+pub going_down : (g : PitchSegment) (x : ℤ) (m : ℕ) → g.target ≤ℤ x → pitch_moved g x m ≡ int_max g.target (x -ℤ pos (m * g.step))
+unfolding pitch_moved
 going_down g x m h = rw (down_test g.target x h)
 
-pub going_up : (g : Glide) (x : ℤ) (m : ℕ) → x <ℤ g.target → glided g x m ≡ int_min g.target (x +ℤ pos (m * g.step))
-unfolding glided
+pub going_up : (g : PitchSegment) (x : ℤ) (m : ℕ) → x <ℤ g.target → pitch_moved g x m ≡ int_min g.target (x +ℤ pos (m * g.step))
+unfolding pitch_moved
 going_up g x m h = rw (up_test g.target x h)
 
 begins_down : (t x : ℤ) → t ≤ℤ x → int_max t (x -ℤ pos 0) ≡ x
@@ -55,7 +55,7 @@ other a b e h = grind (arith, ints)
 down_or_up : (t x : ℤ) → (t ≤ℤ x) ⊎ (x <ℤ t)
 down_or_up t x = by_lt_z x t (λ h. inr h) (λ h. inl h)
 
-begins_at : (g : Glide) (x : ℤ) → glided g x 0 ≡ x
+begins_at : (g : PitchSegment) (x : ℤ) → pitch_moved g x 0 ≡ x
 begins_at g x =
     let z : 0 * g.step ≡ 0 = omega arith in
     elim (down_or_up g.target x) [
@@ -63,14 +63,14 @@ begins_at g x =
       | inr h ↦ going_up g x 0 h ∙ ap (λ n. int_min g.target (x +ℤ pos n)) z ∙ begins_up g.target x h
     ]
 
-pub down_one : (g : Glide) (x : ℤ) → g.target ≤ℤ x → glided g x 1 ≡ int_max g.target (x -ℤ pos g.step)
+pub down_one : (g : PitchSegment) (x : ℤ) → g.target ≤ℤ x → pitch_moved g x 1 ≡ int_max g.target (x -ℤ pos g.step)
 down_one g x h = let z : 1 * g.step ≡ g.step = omega arith in going_down g x 1 h ∙ ap (λ n. int_max g.target (x -ℤ pos n)) z
 
-pub up_one : (g : Glide) (x : ℤ) → x <ℤ g.target → glided g x 1 ≡ int_min g.target (x +ℤ pos g.step)
+pub up_one : (g : PitchSegment) (x : ℤ) → x <ℤ g.target → pitch_moved g x 1 ≡ int_min g.target (x +ℤ pos g.step)
 up_one g x h = let z : 1 * g.step ≡ g.step = omega arith in going_up g x 1 h ∙ ap (λ n. int_min g.target (x +ℤ pos n)) z
 
 -- a stage that has not ended goes on from the pitch that it left
-go_on : (g : Glide) (x : ℤ) (m : ℕ) → glided g x 1 ≢ g.target → glided g x (suc m) ≡ glided g (glided g x 1) m
+go_on : (g : PitchSegment) (x : ℤ) (m : ℕ) → pitch_moved g x 1 ≢ g.target → pitch_moved g x (suc m) ≡ pitch_moved g (pitch_moved g x 1) m
 go_on g x m ne =
     let z : suc m * g.step ≡ g.step + m * g.step = omega arith in
     elim (down_or_up g.target x) [
@@ -78,20 +78,20 @@ go_on g x m ne =
           let e = down_one g x h in
           let ne' : int_max g.target (x -ℤ pos g.step) ≢ g.target = λ q. ne (e ∙ q) in
           going_down g x (suc m) h ∙ ap (λ n. int_max g.target (x -ℤ pos n)) z ∙ on_down g.target x g.step (m * g.step) h ne'
-          ∙ sym (going_down g (int_max g.target (x -ℤ pos g.step)) m (left_down g.target x g.step h ne')) ∙ ap (λ y. glided g y m) (sym e)
+          ∙ sym (going_down g (int_max g.target (x -ℤ pos g.step)) m (left_down g.target x g.step h ne')) ∙ ap (λ y. pitch_moved g y m) (sym e)
       | inr h ↦
           let e = up_one g x h in
           let ne' : int_min g.target (x +ℤ pos g.step) ≢ g.target = λ q. ne (e ∙ q) in
           going_up g x (suc m) h ∙ ap (λ n. int_min g.target (x +ℤ pos n)) z ∙ on_up g.target x g.step (m * g.step) h ne'
-          ∙ sym (going_up g (int_min g.target (x +ℤ pos g.step)) m (left_up g.target x g.step h ne')) ∙ ap (λ y. glided g y m) (sym e)
+          ∙ sym (going_up g (int_min g.target (x +ℤ pos g.step)) m (left_up g.target x g.step h ne')) ∙ ap (λ y. pitch_moved g y m) (sym e)
     ]
 
-pub gliding_runs : RunsOn gliding
+pub gliding_runs : RunsOn pitch_motion
 gliding_runs = record {
   begins = begins_at;
   arrives = λ g x e. same x g.target e;
   stays = λ g m. going_down g g.target m (le_self g.target) ∙ stays_down g.target (m * g.step);
-  goes_on = λ g x m e. go_on g x m (other (glided g x 1) g.target e);
+  goes_on = λ g x m e. go_on g x m (other (pitch_moved g x 1) g.target e);
 }
 
 pub eq_test : (a b : ℤ) → a ≡ b → int_eq a b ≡ true

@@ -87,7 +87,7 @@ module _ {S X : Type 0} (motion : Motion S X) (laws : RunsOn motion) where
       rw h.fourth (let_go start stages x k n (value_is start stages k None g a b c d x h ∙ four_down start stages k))
 
   module _ (start : X) (stages : ℕ → S) (k : ℕ) (off : Option ℕ) (g : Stage) (a b c d : S) (x : X) (h : IsAt motion start stages k off g a b c d x) where
-    -- the key is let go
+    -- the key is released
     pub at_release : IsAt motion start stages k (released_after k off) Fourth a b c d x
     at_release = record {
       first = h.first;

@@ -2,8 +2,8 @@
 use Rattle.std.specs.Prelude.{ℕ, Option}
 use Rattle.block_rates.specs.declared.envelope.Envelope.{Envelope}
 use Rattle.block_rates.specs.StageOrder.{IsAt}
-use Rattle.block_rates.specs.Levels.{EnvelopeSettings, slope_at, sloping}
+use Rattle.block_rates.specs.Levels.{EnvelopeSettings, level_segment_at, level_motion}
 
--- the envelope has these settings, after k steps, let go after `off` of them or not yet
+-- the envelope has these settings, after k steps, released after `off` of them or not yet
 pub record IsEnvelope (e : Envelope) (s : EnvelopeSettings) (k : ℕ) (off : Option ℕ) : Type 0 where
-  pub stands : IsAt sloping 0 (slope_at s) k off e.stage e.first e.second e.third e.fourth e.level
+  pub stands : IsAt level_motion 0 (level_segment_at s) k off e.stage e.first e.second e.third e.fourth e.level

@@ -1,7 +1,8 @@
--- Levels of an operator's envelope, from its settings to the level of each block. 2 ^ 24 is one octave of gain. Levels and targets are not negative, so `max t (x - m * i)` is the same number whether `-` stops at 0 or not.
+-- Levels of an operator's envelope, from its settings to the level of each block. 2 ^ 24 is one octave of gain. Levels and
+-- targets are not negative, so `max t (x - m * i)` is the same number whether `-` stops at 0 or not.
 use Rattle.std.specs.Prelude.{◌≤◌, ℕ, zero, suc, ◌+◌, ◌-◌, ◌*◌, ◌/◌, ◌%◌, ◌^◌, min, max, nat_le, ◌==◌, if◌then◌else◌, List, Option, slice_index}
 use Rattle.dx_tables.specs.Constants.{level}
-use Rattle.block_rates.specs.declared.slope.Slope.{Slope}
+use Rattle.block_rates.specs.declared.level_segment.LevelSegment.{LevelSegment}
 use Rattle.block_rates.specs.Stages.{Motion, four_stages}
 
 -- rates and levels of the four stages, 0 to 99, the operator's output level, and what its rate scaling adds to the rates
@@ -24,34 +25,34 @@ unfoldable pub rate_step : ℕ → ℕ
 rate_step q = (4 + q % 4) * 2 ^ (8 + q / 4)
 
 -- the stage of this number, from 0 to 3
-abbrev pub slope_at : EnvelopeSettings → ℕ → Slope
-slope_at s i = record {
+abbrev pub level_segment_at : EnvelopeSettings → ℕ → LevelSegment
+level_segment_at s i = record {
   target = target_level (slice_index s.levels i) s.out;
   step = rate_step (scaled_rate (slice_index s.rates i) s.rate_scale);
 }
 
--- what every slope of an envelope is: its target is at most that of level 99 and output level 4288, its step at most that of the scaled rate 63
-abbrev pub IsSlope : Slope → Type 0
-IsSlope s = (s.target ≤ 266338304) × (s.step ≤ 58720256)
+-- what every segment of an envelope is: its target is at most that of level 99 and output level 4288, its step at most that of the scaled rate 63
+abbrev pub IsLevelSegment : LevelSegment → Type 0
+IsLevelSegment s = (s.target ≤ 266338304) × (s.step ≤ 58720256)
 
--- one step of a rising stage: the level is lifted, and rises by less the higher it is
-abbrev pub rise : Slope → ℕ → ℕ
+-- one step of a rising stage: a level below 1716 * 2 ^ 16 jumps to it first, and the level rises by less the higher it is
+abbrev pub rise : LevelSegment → ℕ → ℕ
 rise s x = let y = max x (1716 * 65536) in min s.target (y + (17 * 2 ^ 24 - y) / 2 ^ 24 * s.step)
 
 -- m steps of a rising stage
-unfoldable pub risen : Slope → ℕ → ℕ → ℕ
+unfoldable pub risen : LevelSegment → ℕ → ℕ → ℕ
 risen s zero x = x
 risen s (suc m) x = risen s m (rise s x)
 
 -- the level m steps after the stage is entered at x
-unfoldable pub go : Slope → ℕ → ℕ → ℕ
+unfoldable pub go : LevelSegment → ℕ → ℕ → ℕ
 go s x zero = x
 go s x (suc m) = if nat_le s.target x then max s.target (x - suc m * s.step) else risen s (suc m) x
 
 -- how a stage moves a level
-abbrev pub sloping : Motion Slope ℕ
-sloping = record { target = λ s. s.target; is_there = λ s x. x == s.target; go = go }
+abbrev pub level_motion : Motion LevelSegment ℕ
+level_motion = record { target = λ s. s.target; is_there = λ s x. x == s.target; go = go }
 
--- the level that the k-th step of an envelope answers, where the key is let go after `off` steps, or never
+-- the level that the k-th step of an envelope answers, where the key is released after `off` steps, or never
 unfoldable pub envelope_level : EnvelopeSettings → ℕ → Option ℕ → ℕ
-envelope_level s k off = four_stages sloping 0 (slope_at s) k off
+envelope_level s k off = four_stages level_motion 0 (level_segment_at s) k off

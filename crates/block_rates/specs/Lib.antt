@@ -5,5 +5,5 @@ pub mod Envelopes
 pub mod Pitches
 pub mod PitchEnvelopes
 pub mod Waves
-pub mod Oscillators
-pub mod OscillatorStates
+pub mod Lfos
+pub mod LfoStates

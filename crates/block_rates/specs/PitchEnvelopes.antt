@@ -2,8 +2,8 @@
 use Rattle.std.specs.Prelude.{ℕ, Option, slice_index}
 use Rattle.block_rates.specs.declared.pitch_envelope.PitchEnvelope.{PitchEnvelope}
 use Rattle.block_rates.specs.StageOrder.{IsAt}
-use Rattle.block_rates.specs.Pitches.{PitchEnvelopeSettings, pitch_of, glide_at, gliding}
+use Rattle.block_rates.specs.Pitches.{PitchEnvelopeSettings, pitch_of, pitch_segment_at, pitch_motion}
 
--- the pitch envelope has these settings, after k steps, let go after `off` of them or not yet
+-- the pitch envelope has these settings, after k steps, released after `off` of them or not yet
 pub record IsPitchEnvelope (e : PitchEnvelope) (s : PitchEnvelopeSettings) (k : ℕ) (off : Option ℕ) : Type 0 where
-  pub stands : IsAt gliding (pitch_of (slice_index s.levels 3)) (glide_at s) k off e.stage e.first e.second e.third e.fourth e.level
+  pub stands : IsAt pitch_motion (pitch_of (slice_index s.levels 3)) (pitch_segment_at s) k off e.stage e.first e.second e.third e.fourth e.level

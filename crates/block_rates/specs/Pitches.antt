@@ -3,7 +3,7 @@ use Rattle.std.specs.Prelude.{◌≤◌, ◌≤ℤ◌, neg_ℤ, ℕ, ◌*◌, �
 use Rattle.std.specs.Ordering.{int_eq}
 use Rattle.std.specs.Int.{int_max, int_min}
 use Rattle.dx_tables.specs.Constants.{pitch_rate, pitch_level}
-use Rattle.block_rates.specs.declared.glide.Glide.{Glide}
+use Rattle.block_rates.specs.declared.pitch_segment.PitchSegment.{PitchSegment}
 use Rattle.block_rates.specs.Stages.{Motion, four_stages}
 
 -- rates and levels of the four stages, 0 to 99
@@ -20,8 +20,8 @@ unfoldable pub pitch_step : ℕ → ℕ
 pitch_step rate = pitch_rate rate * 1143
 
 -- the stage of this number, from 0 to 3
-abbrev pub glide_at : PitchEnvelopeSettings → ℕ → Glide
-glide_at s i = record {
+abbrev pub pitch_segment_at : PitchEnvelopeSettings → ℕ → PitchSegment
+pitch_segment_at s i = record {
   target = pitch_of (slice_index s.levels i);
   step = pitch_step (slice_index s.rates i);
 }
@@ -30,20 +30,20 @@ glide_at s i = record {
 abbrev pub IsPitch : ℤ → Type 0
 IsPitch z = (neg_ℤ (pos (2 ^ 26)) ≤ℤ z) × (z ≤ℤ pos (2 ^ 26))
 
--- what every glide of it is: its step is at most that of rate 99
-abbrev pub IsGlide : Glide → Type 0
-IsGlide g = IsPitch g.target × (g.step ≤ 291465)
+-- what every segment of it is: its step is at most that of rate 99
+abbrev pub IsPitchSegment : PitchSegment → Type 0
+IsPitchSegment g = IsPitch g.target × (g.step ≤ 291465)
 
 -- the pitch m steps after the stage is entered at x: nearer to the target by m of its steps, and not past it
-unfoldable pub glided : Glide → ℤ → ℕ → ℤ
-glided g x m =
+unfoldable pub pitch_moved : PitchSegment → ℤ → ℕ → ℤ
+pitch_moved g x m =
     if int_le g.target x then int_max g.target (x -ℤ pos (m * g.step))
     else int_min g.target (x +ℤ pos (m * g.step))
 
 -- how a stage moves a pitch
-abbrev pub gliding : Motion Glide ℤ
-gliding = record { target = λ g. g.target; is_there = λ g x. int_eq x g.target; go = glided }
+abbrev pub pitch_motion : Motion PitchSegment ℤ
+pitch_motion = record { target = λ g. g.target; is_there = λ g x. int_eq x g.target; go = pitch_moved }
 
--- the level that the k-th step of a pitch envelope answers, where the key is let go after `off` steps, or never: it begins at the last level
+-- the level that the k-th step of a pitch envelope answers, where the key is released after `off` steps, or never: it begins at the last level
 unfoldable pub pitch_envelope_level : PitchEnvelopeSettings → ℕ → Option ℕ → ℤ
-pitch_envelope_level s k off = four_stages gliding (pitch_of (slice_index s.levels 3)) (glide_at s) k off
+pitch_envelope_level s k off = four_stages pitch_motion (pitch_of (slice_index s.levels 3)) (pitch_segment_at s) k off

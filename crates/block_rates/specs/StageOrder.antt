@@ -25,7 +25,7 @@ next_stage Second = Third
 next_stage Third = Third
 next_stage Fourth = Fourth
 
--- whether this is a stage for a key that is down, or for one that was let go by step k
+-- whether this is a stage for a key that is down, or for one that was released by step k
 abbrev pub IsReleasedBy : Stage → ℕ → Option ℕ → Type 0
 IsReleasedBy Fourth k None = ⊥
 IsReleasedBy Fourth k (Some off) = off ≤ k
@@ -33,7 +33,9 @@ IsReleasedBy _ k None = Unit {0}
 IsReleasedBy _ k (Some off) = ⊥
 
 -- a value in a stage belongs to the k-th step of four stages: what the stages that are left make of it is what they make of the start
-pub record IsAt {S X : Type 0} (motion : Motion S X) (start : X) (stages : ℕ → S) (k : ℕ) (off : Option ℕ) (stage : Stage) (a b c d : S) (x : X) : Type 0 where
+pub record IsAt
+    {S X : Type 0} (motion : Motion S X) (start : X) (stages : ℕ → S) (k : ℕ) (off : Option ℕ) (stage : Stage) (a b c d : S) (x : X)
+    : Type 0 where
   pub first : a ≡ stages 0
   pub second : b ≡ stages 1
   pub third : c ≡ stages 2

@@ -26,14 +26,14 @@ after motion (s ∷ ss) x k =
 abbrev pub while_down : {S X : Type 0} → Motion S X → X → (ℕ → S) → ℕ → X
 while_down motion start stages k = after motion (stages 0 ∷ stages 1 ∷ stages 2 ∷ []) start k
 
--- the value k steps after the stages begin, where the key is let go after `off` steps, or never: stage 3 is entered then, wherever the value is
+-- the value k steps after the stages begin, where the key is released after `off` steps, or never: stage 3 is entered then, wherever the value is
 unfoldable pub four_stages : {S X : Type 0} → Motion S X → X → (ℕ → S) → ℕ → Option ℕ → X
 four_stages motion start stages k None = while_down motion start stages k
 four_stages motion start stages k (Some off) =
     if nat_le k off then while_down motion start stages k
     else after motion (stages 3 ∷ []) (while_down motion start stages off) (k - off)
 
--- the steps before the key was let go, where it is let go after k steps: what counts is the first time
+-- the steps before the key was released, where it is released after k steps: what counts is the first time
 abbrev pub released_after : ℕ → Option ℕ → Option ℕ
 released_after k None = Some k
 released_after k (Some off) = Some off

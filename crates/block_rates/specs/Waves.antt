@@ -1,4 +1,4 @@
--- The waves of the oscillator: values from 0 to 2 ^ 24 at a phase p, of which 2 ^ 32 is one cycle.
+-- The waves of the LFO: values from 0 to 2 ^ 24 at a phase p, of which 2 ^ 32 is one cycle.
 use Rattle.std.specs.Prelude.{ℕ, ◌+◌, ◌-◌, ◌*◌, ◌/◌, ◌%◌, ◌^◌, nat_lt, ◌==◌, if◌then◌else◌, ℤ, pos, ◌+ℤ◌, bit_xor, Bool, true, false}
 use Rattle.std.specs.Int.{int_shr}
 use Rattle.dx_tables.specs.Sine.{sine}

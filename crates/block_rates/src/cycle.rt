@@ -1,13 +1,15 @@
+//! The LFO's phase and its random number.
+
 ghost use Rattle.std.specs.Prelude.{◌≡◌, ◌≤◌, if◌then◌else◌};
-ghost use Rattle.block_rates.specs.Oscillators.{speed_rate, rate_factor, phase_step, next_random};
+ghost use Rattle.block_rates.specs.Lfos.{speed_rate, rate_factor, phase_increment, next_random};
 ghost use Rattle.block_rates.specs.Waves.{is_held};
 
 use crate::wave::Wave;
 
-/// What a step adds to the oscillator's phase, of which 2^32 is one cycle.
-pub(crate) fn phase_step(speed: u8) -> u32
+/// What a step adds to the LFO's phase, of which 2^32 is one cycle.
+pub(crate) fn phase_increment(speed: u8) -> u32
     requires { speed ≤ 99 }
-    ensures value { result ≡ phase_step speed }
+    ensures value { result ≡ phase_increment speed }
     ensures bound { result ≤ 149156640 }
 {
     let rate = speed_rate(speed);
@@ -57,7 +59,7 @@ pub(crate) fn held_random(wave: Wave, ended: bool, random: u8) -> u8
     }
 }
 
-#[tactic(auto, unfolding(crate::specs::Oscillators::next_random))]
+#[tactic(auto, unfolding(crate::specs::Lfos::next_random))]
 fn next_random(random: u8) -> u8
     ensures { result ≡ next_random random }
 {

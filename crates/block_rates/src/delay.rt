@@ -1,54 +1,56 @@
+//! The LFO's delay, and the depth that comes of it.
+
 ghost use Rattle.std.specs.Prelude.{◌≡◌, ◌≤◌, ◌<◌, ◌^◌};
-ghost use Rattle.block_rates.specs.Oscillators.{delay_rate, waited_on, waited_next, fade};
+ghost use Rattle.block_rates.specs.Lfos.{delay_rate, raised_delay_state, next_delay_state, depth_of};
 
-/// Where the delay's silence ends and the fade begins.
-const FADE: u64 = 0x8000_0000;
+/// Where the delay's silence ends and the depth begins to rise.
+const RISE: u64 = 0x8000_0000;
 
-/// Where the fade ends.
+/// Where the depth is whole.
 const END: u64 = 0x1_0000_0000;
 
 /// How far a delay has gone after a step. Without a delay, and at its end, it stays.
-pub(crate) fn waited_next(delay: u8, waited: u32) -> u32
+pub(crate) fn next_delay_state(delay: u8, delay_state: u32) -> u32
     requires { delay ≤ 99 }
-    ensures { result ≡ waited_next delay waited }
+    ensures { result ≡ next_delay_state delay delay_state }
 {
-    let on = waited_on(delay, waited);
+    let on = raised_delay_state(delay, delay_state);
     if delay > 0 && on < END {
         on as u32
     } else {
-        waited
+        delay_state
     }
 }
 
 /// The depth that a step answers, where 2^24 is the greatest.
-pub(crate) fn fade(delay: u8, waited: u32) -> u32
+pub(crate) fn depth_of(delay: u8, delay_state: u32) -> u32
     requires { delay ≤ 99 }
-    ensures value { result ≡ fade delay waited }
+    ensures value { result ≡ depth_of delay delay_state }
     ensures bound { result ≤ 2 ^ 24 }
 {
-    let on = waited_on(delay, waited);
+    let on = raised_delay_state(delay, delay_state);
     if delay == 0 || on >= END {
         1 << 24
-    } else if on < FADE {
+    } else if on < RISE {
         0
     } else {
-        ((on - FADE) >> 7) as u32
+        ((on - RISE) >> 7) as u32
     }
 }
 
 /// How far a delay above 0 would have gone after a step.
-fn waited_on(delay: u8, waited: u32) -> u64
+fn raised_delay_state(delay: u8, delay_state: u32) -> u64
     requires { delay ≤ 99 }
-    ensures value { result ≡ waited_on delay waited }
+    ensures value { result ≡ raised_delay_state delay delay_state }
     ensures bound { result < 2 ^ 33 }
 {
     let rate = delay_rate(delay);
-    let step = if u64::from(waited) < FADE {
+    let step = if u64::from(delay_state) < RISE {
         rate
     } else {
         (rate - rate % 128).max(128)
     };
-    u64::from(waited) + 36558 * step
+    u64::from(delay_state) + 36558 * step
 }
 
 /// How fast a delay above 0 goes by.

@@ -1,24 +1,26 @@
-ghost use Rattle.std.specs.Prelude.{ℕ, ◌≡◌, ◌≤◌, pos, ◌≤ℤ◌, All, unsigned_abs, Option, None};
-ghost use Rattle.block_rates.specs.Levels.{IsSlope};
+//! The envelope generator of an operator.
 
-use crate::slope::Slope;
+ghost use Rattle.std.specs.Prelude.{ℕ, ◌≡◌, ◌≤◌, pos, ◌≤ℤ◌, All, unsigned_abs, Option, None};
+ghost use Rattle.block_rates.specs.Levels.{IsLevelSegment};
+
+use crate::level_segment::LevelSegment;
 use crate::stage::Stage;
 
 /// The envelope generator of an operator: four stages, of which the fourth begins when the key is
-/// let go.
+/// released.
 #[derive(Clone, Copy)]
 pub struct Envelope {
     level: u32,
     stage: Stage,
-    first: Slope,
-    second: Slope,
-    third: Slope,
-    fourth: Slope,
+    first: LevelSegment,
+    second: LevelSegment,
+    third: LevelSegment,
+    fourth: LevelSegment,
     ghost level_bound: { level ≤ 266338304 },
-    ghost first_bound: { IsSlope first },
-    ghost second_bound: { IsSlope second },
-    ghost third_bound: { IsSlope third },
-    ghost fourth_bound: { IsSlope fourth },
+    ghost first_bound: { IsLevelSegment first },
+    ghost second_bound: { IsLevelSegment second },
+    ghost third_bound: { IsLevelSegment third },
+    ghost fourth_bound: { IsLevelSegment fourth },
 }
 
 impl Envelope {
@@ -44,14 +46,14 @@ impl Envelope {
         Envelope {
             level: 0,
             stage: Stage::First,
-            first: Slope::new(rates[0], levels[0], out, rate_scale),
-            second: Slope::new(rates[1], levels[1], out, rate_scale),
-            third: Slope::new(rates[2], levels[2], out, rate_scale),
-            fourth: Slope::new(rates[3], levels[3], out, rate_scale),
+            first: LevelSegment::new(rates[0], levels[0], out, rate_scale),
+            second: LevelSegment::new(rates[1], levels[1], out, rate_scale),
+            third: LevelSegment::new(rates[2], levels[2], out, rate_scale),
+            fourth: LevelSegment::new(rates[3], levels[3], out, rate_scale),
         }
     }
 
-    /// The key is let go: the fourth stage begins at the present level. A second release does nothing.
+    /// The key is released: the fourth stage begins at the present level. A second release does nothing.
     pub fn release(&mut self)
         ensures { (s : EnvelopeSettings) (k : ℕ) (off : Option ℕ) →
             IsEnvelope self.old s k off → IsEnvelope self.new s k (released_after k off) }
@@ -68,18 +70,18 @@ impl Envelope {
         ensures low { pos 0 ≤ℤ result }
         ensures high { result ≤ℤ pos 266338304 }
     {
-        let slope = self.slope();
-        self.level = slope.stepped(self.level);
-        if self.level == slope.target {
+        let level_segment = self.level_segment();
+        self.level = level_segment.stepped(self.level);
+        if self.level == level_segment.target {
             self.stage = self.stage.next();
         }
         self.level as i32
     }
 
-    /// The slope of the present stage.
-    fn slope(&self) -> Slope
+    /// The segment of the present stage.
+    fn level_segment(&self) -> LevelSegment
         ensures value { result ≡ at_stage self.now.stage self.now.first self.now.second self.now.third self.now.fourth }
-        ensures bound { IsSlope result }
+        ensures bound { IsLevelSegment result }
     {
         match self.stage {
             Stage::First => self.first,

@@ -1,18 +1,18 @@
-//! Levels and modulation that change from block to block: envelopes of operators and pitch, and the oscillator.
+//! Levels and modulation that change from block to block: envelopes of operators and pitch, and the LFO.
 #![tactic(auto)]
 
 mod cycle;
 mod delay;
 mod envelope;
-mod glide;
-mod oscillator;
+mod level_segment;
+mod lfo;
 mod pitch_envelope;
-mod slope;
+mod pitch_segment;
 mod stage;
 mod wave;
 
 pub use envelope::Envelope;
-pub use oscillator::Lfo;
+pub use lfo::Lfo;
 pub use pitch_envelope::PitchEnvelope;
 
 #[cfg(test)]

@@ -1,23 +1,25 @@
-ghost use Rattle.std.specs.Prelude.{ℕ, ◌≡◌, ◌≤◌, ◌^◌, pos, neg_ℤ, ◌≤ℤ◌, All, Option, None};
-ghost use Rattle.block_rates.specs.Pitches.{IsPitch, IsGlide};
+//! The pitch envelope of a note.
 
-use crate::glide::{Glide, pitch};
+ghost use Rattle.std.specs.Prelude.{ℕ, ◌≡◌, ◌≤◌, ◌^◌, pos, neg_ℤ, ◌≤ℤ◌, All, Option, None};
+ghost use Rattle.block_rates.specs.Pitches.{IsPitch, IsPitchSegment};
+
+use crate::pitch_segment::{PitchSegment, pitch};
 use crate::stage::Stage;
 
-/// The pitch envelope of a note: four stages, of which the fourth begins when the key is let go.
+/// The pitch envelope of a note: four stages, of which the fourth begins when the key is released.
 #[derive(Clone, Copy)]
 pub struct PitchEnvelope {
     level: i32,
     stage: Stage,
-    first: Glide,
-    second: Glide,
-    third: Glide,
-    fourth: Glide,
+    first: PitchSegment,
+    second: PitchSegment,
+    third: PitchSegment,
+    fourth: PitchSegment,
     ghost level_bound: { IsPitch level },
-    ghost first_bound: { IsGlide first },
-    ghost second_bound: { IsGlide second },
-    ghost third_bound: { IsGlide third },
-    ghost fourth_bound: { IsGlide fourth },
+    ghost first_bound: { IsPitchSegment first },
+    ghost second_bound: { IsPitchSegment second },
+    ghost third_bound: { IsPitchSegment third },
+    ghost fourth_bound: { IsPitchSegment fourth },
 }
 
 impl PitchEnvelope {
@@ -36,14 +38,14 @@ impl PitchEnvelope {
         PitchEnvelope {
             level: pitch(levels[3]),
             stage: Stage::First,
-            first: Glide::new(rates[0], levels[0]),
-            second: Glide::new(rates[1], levels[1]),
-            third: Glide::new(rates[2], levels[2]),
-            fourth: Glide::new(rates[3], levels[3]),
+            first: PitchSegment::new(rates[0], levels[0]),
+            second: PitchSegment::new(rates[1], levels[1]),
+            third: PitchSegment::new(rates[2], levels[2]),
+            fourth: PitchSegment::new(rates[3], levels[3]),
         }
     }
 
-    /// The key is let go: the fourth stage begins at the present pitch. A second release does nothing.
+    /// The key is released: the fourth stage begins at the present pitch. A second release does nothing.
     pub fn release(&mut self)
         ensures { (s : PitchEnvelopeSettings) (k : ℕ) (off : Option ℕ) →
             IsPitchEnvelope self.old s k off → IsPitchEnvelope self.new s k (released_after k off) }
@@ -60,18 +62,18 @@ impl PitchEnvelope {
         ensures low { neg_ℤ (pos 67108864) ≤ℤ result }
         ensures high { result ≤ℤ pos 67108864 }
     {
-        let glide = self.glide();
-        self.level = glide.stepped(self.level);
-        if self.level == glide.target {
+        let pitch_segment = self.pitch_segment();
+        self.level = pitch_segment.stepped(self.level);
+        if self.level == pitch_segment.target {
             self.stage = self.stage.next();
         }
         self.level
     }
 
-    /// The glide of the present stage.
-    fn glide(&self) -> Glide
+    /// The segment of the present stage.
+    fn pitch_segment(&self) -> PitchSegment
         ensures value { result ≡ at_stage self.now.stage self.now.first self.now.second self.now.third self.now.fourth }
-        ensures bound { IsGlide result }
+        ensures bound { IsPitchSegment result }
     {
         match self.stage {
             Stage::First => self.first,

@@ -1,6 +1,8 @@
+//! The four stages of an envelope.
+
 ghost use Rattle.std.specs.Prelude.{◌≡◌};
 
-/// The stage that an envelope is in. The third waits for the key to be let go, the fourth has no end.
+/// The stage that an envelope is in. The third waits for the key to go up, the fourth has no end.
 #[derive(Clone, Copy)]
 pub(crate) enum Stage {
     First,

@@ -1,3 +1,5 @@
+//! Envelopes, pitch envelopes and the LFO, step by step.
+
 ghost use Rattle.std.specs.Prelude.{◌≤◌};
 
 use crate::{Envelope, Lfo, PitchEnvelope};
@@ -160,16 +162,16 @@ fn pitch_envelope_gives_known_levels(rt: HostRuntime) -> Result<(), Fail> {
     Ok(())
 }
 
-/// An oscillator with these settings.
-fn oscillator(speed: u8, delay: u8, sync: u8, wave: u8) -> Result<Lfo, ValueHigh> {
+/// An LFO with these settings.
+fn lfo(speed: u8, delay: u8, sync: u8, wave: u8) -> Result<Lfo, ValueHigh> {
     let mut voice = Voice::init();
     voice.set(137, speed)?;
     voice.set(138, delay)?;
     voice.set(141, sync)?;
     voice.set(142, wave)?;
-    let mut oscillator = Lfo::new();
-    oscillator.assign(&voice);
-    Ok(oscillator)
+    let mut lfo = Lfo::new();
+    lfo.assign(&voice);
+    Ok(lfo)
 }
 
 /// Wave, speed, the steps of one cycle, and the first value, the least and the greatest of them and their sum.
@@ -211,7 +213,7 @@ fn oscillator_gives_known_waves(rt: HostRuntime) -> Result<(), Fail> {
     assert_eq!(rt; Lfo::new().step(&tables), (282_753, 16_777_216));
 
     for (wave, speed, steps, first, least, greatest, sum) in CYCLES {
-        let mut waves = oscillator(speed, 0, 1, wave)?;
+        let mut waves = lfo(speed, 0, 1, wave)?;
         waves.key_down();
         let begun = waves.step(&tables).0;
         assert_eq!(rt; begun, first, "wave {wave}, speed {speed}");
@@ -232,7 +234,7 @@ fn oscillator_gives_known_waves(rt: HostRuntime) -> Result<(), Fail> {
 #[test]
 fn oscillator_holds_waits_and_runs_free(rt: HostRuntime) -> Result<(), Fail> {
     let tables = Tables::new(rt.alloc())?;
-    let mut held = oscillator(99, 0, 1, 5)?;
+    let mut held = lfo(99, 0, 1, 5)?;
     held.key_down();
     let mut value = 8_454_144;
     for next in [9_568_256, 7_667_712, 3_014_656, 8_978_432, 2_752_512] {
@@ -252,7 +254,7 @@ fn oscillator_holds_waits_and_runs_free(rt: HostRuntime) -> Result<(), Fail> {
         (99, 1_835, 2_906, 2_295),
     ];
     for (delay, silent, first, full) in waits {
-        let mut fading = oscillator(35, delay, 0, 0)?;
+        let mut fading = lfo(35, delay, 0, 0)?;
         for _ in 0..2 {
             fading.key_down();
             for k in 1..3_000u32 {
@@ -264,7 +266,7 @@ fn oscillator_holds_waits_and_runs_free(rt: HostRuntime) -> Result<(), Fail> {
         }
     }
 
-    let mut free = oscillator(35, 0, 0, 2)?;
+    let mut free = lfo(35, 0, 0, 2)?;
     for next in [8_529_984, 8_671_361, 8_812_737] {
         assert_eq!(rt; free.step(&tables).0, next);
     }

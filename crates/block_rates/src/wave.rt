@@ -1,3 +1,5 @@
+//! The LFO's six waves.
+
 ghost use Rattle.std.specs.Prelude.{◌≡◌, ◌≤◌, ◌^◌, ℤ, pos, ◌≤ℤ◌};
 ghost use Rattle.block_rates.specs.Waves.{wave_of, wave_value, triangle, saw_down, saw_up, square, sine_wave, held_value};
 
@@ -6,7 +8,7 @@ use dx_tables::Tables;
 /// Half a cycle of a phase.
 const HALF: u32 = 0x8000_0000;
 
-/// A wave of the oscillator.
+/// A wave of the LFO.
 #[derive(Clone, Copy)]
 pub(crate) enum Wave {
     Triangle,

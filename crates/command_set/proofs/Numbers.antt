@@ -3,8 +3,8 @@ use Rattle.std.proofs.Common.{◌≡◌, ◌≢◌, ℕ, ◌^◌, ◌<◌, List,
 use Rattle.std.specs.Prelude.{codes, decimal, option_map, option_and_then, bytes_eq}
 use Rattle.std.proofs.lemmas.Slice.Eq.{bytes_eq-Decides}
 use Rattle.plain_text.specs.Number.{number}
-use Rattle.plain_text.specs.Parts.{parts}
-use Rattle.plain_text.proofs.Cuts.{parts_some}
+use Rattle.plain_text.specs.Split.{split}
+use Rattle.plain_text.proofs.Cuts.{split_some}
 use Rattle.plain_text.proofs.Numbers.{written}
 use Rattle.command_set.specs.Command.{CommandData, StartsNote, EndsNote, Bends, Controls, PicksProgram, SetsNumber, StoresVoice, IsInRange}
 use Rattle.command_set.specs.Words.{words, store_of, two_bytes_of, two_of, three_bytes_of, three_of, numbers_of}
@@ -31,7 +31,7 @@ either false x y d e = inr e
 some_is : (a b : CommandData) → Some a ≡ Some b → a ≡ b
 some_is a b e = cc
 
--- a kind that was found, with other words behind it
+-- a kind that was found, with other words after it
 kinded : (kind own : List ℕ) (more : List (List ℕ)) (a d : CommandData) → bytes_eq kind own ≡ true → Some a ≡ Some d → words a ≡ own ∷ more → words d ≡ kind ∷ more
 kinded kind own more a d e f is =
     ap words (sym (some_is a d f)) ∙ is ∙ ap (λ k. k ∷ more) (sym (bytes_same kind own e))
@@ -137,22 +137,22 @@ numbers_short : (kind word : List ℕ) → bytes_eq kind (codes "voice") ≡ fal
 unfolding command_of one_of numbers_of
 numbers_short kind word v h = rw (v, h) refl
 
-pub numbers_more : (kind first rest : List ℕ) (d : CommandData) → IsInRange d → words d ≡ kind ∷ first ∷ parts 32 rest
-    → numbers_of (kind ∷ first ∷ parts 32 rest) ≡ Some d
-numbers_more kind first rest d r same = sym (numbers_long kind first (parts 32 rest) (parts_some 32 rest)) ∙ read_as _ d r same
+pub numbers_more : (kind first rest : List ℕ) (d : CommandData) → IsInRange d → words d ≡ kind ∷ first ∷ split 32 rest
+    → numbers_of (kind ∷ first ∷ split 32 rest) ≡ Some d
+numbers_more kind first rest d r same = sym (numbers_long kind first (split 32 rest) (split_some 32 rest)) ∙ read_as _ d r same
 
 pub numbers_one : (kind word : List ℕ) (d : CommandData) → bytes_eq kind (codes "voice") ≡ false → bytes_eq kind (codes "cartridge") ≡ false
     → IsInRange d → words d ≡ kind ∷ word ∷ [] → numbers_of (kind ∷ word ∷ []) ≡ Some d
 numbers_one kind word d v h r same = sym (numbers_short kind word v h) ∙ read_as _ d r same
 
--- the numbers behind the first, one after the other
+-- the numbers after the first, one after the other
 
-pub two_words : (kind first rest : List ℕ) → parts 32 rest ≡ rest ∷ [] → numbers_of (kind ∷ first ∷ parts 32 rest) ≡ two_of kind first rest
+pub two_words : (kind first rest : List ℕ) → split 32 rest ≡ rest ∷ [] → numbers_of (kind ∷ first ∷ split 32 rest) ≡ two_of kind first rest
 unfolding numbers_of
 two_words kind first rest whole = rw whole refl
 
-pub three_words : (kind first rest second third : List ℕ) → parts 32 rest ≡ second ∷ parts 32 third → parts 32 third ≡ third ∷ []
-    → numbers_of (kind ∷ first ∷ parts 32 rest) ≡ three_of kind first second third
+pub three_words : (kind first rest second third : List ℕ) → split 32 rest ≡ second ∷ split 32 third → split 32 third ≡ third ∷ []
+    → numbers_of (kind ∷ first ∷ split 32 rest) ≡ three_of kind first second third
 unfolding numbers_of
 three_words kind first rest second third cut whole = rw (cut, whole) refl
 
@@ -162,6 +162,6 @@ more_words kind first second third [] some = absurd (some refl)
 more_words kind first second third (one ∷ rest) some = refl
 
 -- a word too many
-pub five_words : (kind first rest second behind third last : List ℕ) → parts 32 rest ≡ second ∷ parts 32 behind → parts 32 behind ≡ third ∷ parts 32 last
-    → numbers_of (kind ∷ first ∷ parts 32 rest) ≡ None
-five_words kind first rest second behind third last one two = rw (one, two) (more_words kind first second third (parts 32 last) (parts_some 32 last))
+pub five_words : (kind first rest second after third last : List ℕ) → split 32 rest ≡ second ∷ split 32 after → split 32 after ≡ third ∷ split 32 last
+    → numbers_of (kind ∷ first ∷ split 32 rest) ≡ None
+five_words kind first rest second after third last one two = rw (one, two) (more_words kind first second third (split 32 last) (split_some 32 last))

@@ -11,7 +11,7 @@ use Rattle.voice_record.proofs.Voices.{greatest_small}
 use Rattle.cartridge.specs.Cartridge.{IsCartridge, voices_of}
 use Rattle.cartridge.proofs.Voices.{voices_are}
 use Rattle.plain_text.specs.Number.{number}
-use Rattle.plain_text.specs.Parts.{parts}
+use Rattle.plain_text.specs.Split.{split}
 use Rattle.plain_text.proofs.Numbers.{reads_decimal}
 use Rattle.command_set.specs.Command.{CommandData, StartsNote, EndsNote, Bends, Controls, PicksProgram, SetsNumber, StoresVoice, TakesVoice, TakesCartridge, IsInRange}
 use Rattle.command_set.specs.Text.{text, packed}
@@ -105,16 +105,16 @@ one_word kind word = refl
 -- commands with one text are one
 pub unique : TextsAreUnique
 unique c d rc rd same =
-    let alike : words c ≡ words d = sym (parts_text c rc) ∙ ap (parts 32) same ∙ parts_text d rd in
+    let alike : words c ≡ words d = sym (parts_text c rc) ∙ ap (split 32) same ∙ parts_text d rd in
     some_same c d (command_of (words d)) (read_as (words d) c rc alike) (reads d rd)
 
 -- a text and its words
-pub text_words : (d : CommandData) (whole : List ℕ) → IsInRange d → text d ≡ whole → words d ≡ parts 32 whole
-text_words d whole r same = sym (parts_text d r) ∙ ap (parts 32) same
+pub text_words : (d : CommandData) (whole : List ℕ) → IsInRange d → text d ≡ whole → words d ≡ split 32 whole
+text_words d whole r same = sym (parts_text d r) ∙ ap (split 32) same
 
-pub words_text : (d : CommandData) (whole : List ℕ) → AreWordsOf (parts 32 whole) d → text d ≡ whole
+pub words_text : (d : CommandData) (whole : List ℕ) → AreWordsOf (split 32 whole) d → text d ≡ whole
 words_text d whole (r, same) =
     sym (join_with_byte-slice_split 32 (text d)) ∙ ap (join_with_byte 32) (parts_text d r ∙ same) ∙ join_with_byte-slice_split 32 whole
 
-pub only_words : (c d : CommandData) (whole : List ℕ) → AreWordsOf (parts 32 whole) c → IsInRange d → text d ≡ whole → d ≡ c
+pub only_words : (c d : CommandData) (whole : List ℕ) → AreWordsOf (split 32 whole) c → IsInRange d → text d ≡ whole → d ≡ c
 only_words c d whole said r same = unique d c r said.0 (same ∙ sym (words_text c whole said))

@@ -16,7 +16,7 @@ use Rattle.voice_record.proofs.Every.{every, every_at}
 use Rattle.voice_record.proofs.Voices.{greatest_small}
 use Rattle.cartridge.specs.Cartridge.{IsCartridge}
 use Rattle.cartridge.proofs.Voices.{all_data}
-use Rattle.plain_text.specs.Parts.{parts, spaced}
+use Rattle.plain_text.specs.Split.{split, spaced}
 use Rattle.command_set.specs.Command.{CommandData, StartsNote, EndsNote, Bends, Controls, PicksProgram, SetsNumber, StoresVoice, TakesVoice, TakesCartridge, IsKnownControl, IsInRange}
 use Rattle.command_set.specs.Text.{text, packed}
 use Rattle.command_set.specs.Words.{words}
@@ -71,7 +71,7 @@ cartridge_bytes voices h i =
     ]
 
 -- words with one space between two have these words for parts
-pub parts_spaced : (word : List ℕ) (more : List (List ℕ)) → HasNoSpace word → All HasNoSpace more → parts 32 (spaced word more) ≡ word ∷ more
+pub parts_spaced : (word : List ℕ) (more : List (List ℕ)) → HasNoSpace word → All HasNoSpace more → split 32 (spaced word more) ≡ word ∷ more
 parts_spaced word [] h hs = slice_split_none (λ byte. byte == 32) word h
 parts_spaced word (next ∷ more) h hs =
     slice_split_at (λ byte. byte == 32) word 32 (spaced next more) h refl
@@ -97,7 +97,7 @@ known_small number (inr (inl a)) = omega arith
 known_small number (inr (inr a)) = omega arith
 
 -- the parts of a command's text are its words
-pub parts_text : (command : CommandData) → IsInRange command → parts 32 (text command) ≡ words command
+pub parts_text : (command : CommandData) → IsInRange command → split 32 (text command) ≡ words command
 unfolding text every
 parts_text (StartsNote channel key velocity) (a, b, low, high) =
     parts_spaced _ _ (codes_whole (codes "on") refl) (three_whole _ _ _ (decimal_whole channel (omega arith)) (decimal_whole key (omega arith)) (decimal_whole velocity (omega arith)))

@@ -38,7 +38,8 @@ sent_by script entries = filter (λ e. e.script == script) entries
 abbrev pub AreNumbered : List EntryData → Type 0
 AreNumbered entries = (i : ℕ) (d : EntryData) → i < length entries → (slice_index_or entries i d).seq ≡ i
 
--- what holds of the entries that were taken and of those that wait: they are of scripts below a number, those of each script are numbered from 0 on, and no more wait than there are places
+-- what holds of the entries that were taken and of those that wait: they are of scripts below a number, those of each
+-- script are numbered from 0 on, and no more wait than there are places
 pub record AreQueued (scripts places : ℕ) (taken waiting : List EntryData) : Type 0 where
   pub made : All (λ e. e.script < scripts) (taken ++ waiting)
   pub numbered : (script : ℕ) → AreNumbered (sent_by script (taken ++ waiting))

@@ -7,16 +7,18 @@ use Rattle.sysex_frame.specs.Frame.{Content, VoiceDump, CartridgeDump, ParamChan
 use Rattle.sysex_frame.specs.FrameFault.{first_fault}
 use Rattle.sysex_frame.specs.Reading.{reading}
 use Rattle.sysex_frame.specs.declared.frame.FrameFault.{FrameFault}
-use Rattle.sysex_frame.specs.declared.frame.FrameFault.TheVariants.{NotFramed, NotYamaha, DataByte, Short, UnknownSubstatus, UnknownFormat, CountBytes, Length, Checksum, ParamValue}
+use Rattle.sysex_frame.specs.declared.frame.FrameFault.TheVariants.{NotFramed, NotYamaha, DataByte, Short, UnknownSubstatus}
+use Rattle.sysex_frame.specs.declared.frame.FrameFault.TheVariants.{UnknownFormat, CountBytes, Length, Checksum, ParamValue}
 use Rattle.midi_stream.specs.declared.message.MidiMessage.{MidiMessage}
-use Rattle.midi_stream.specs.declared.message.MidiMessage.TheVariants.{NoteOff, NoteOn, KeyPressure, Control, Program, ChannelPressure, Bend, SysEx, SysExTooLong}
+use Rattle.midi_stream.specs.declared.message.MidiMessage.TheVariants.{NoteOff, NoteOn, KeyPressure, Control, Program, ChannelPressure}
+use Rattle.midi_stream.specs.declared.message.MidiMessage.TheVariants.{Bend, SysEx, SysExTooLong}
 use Rattle.velocity_map.specs.declared.curve.Curve.{Curve}
 use Rattle.velocity_map.specs.Curve.{curve_value}
 use Rattle.command_set.specs.Command.{CommandData, StartsNote, EndsNote, Bends, Controls, PicksProgram, SetsNumber, TakesVoice, TakesCartridge}
 use Rattle.command_set.specs.declared.message.CommandFault.{CommandFault}
 use Rattle.command_set.specs.declared.message.CommandFault.TheVariants as faults
 
--- what a message tells: a command; or nothing, it is passed over; or it is a system exclusive one that has more than 5000 bytes, by their count, or this fault
+-- what a message tells: a command; or nothing, it is passed over; or it is a SysEx one that has more than 5000 bytes, by their count, or this fault
 pub data Told : Type 0 where
   Tells : CommandData → Told
   PassedOver : Told
@@ -47,7 +49,7 @@ IsSound (ParamChange device number value) = (number ≤ 155) × (value ≤ great
 IsSound (OtherChange device group number) = Unit {0}
 IsSound (DumpRequest device) = Unit {0}
 
--- a message of another maker, or of a kind that the DX7 doesn't know, is passed over
+-- a message of another manufacturer, or of a kind that the DX7 doesn't know, is passed over
 abbrev pub told_by_fault : FrameFault → Told
 told_by_fault NotFramed = Faulty NotFramed
 told_by_fault NotYamaha = PassedOver
@@ -60,12 +62,12 @@ told_by_fault (Length found wanted) = Faulty (Length found wanted)
 told_by_fault (Checksum found wanted) = Faulty (Checksum found wanted)
 told_by_fault (ParamValue number value) = Faulty (ParamValue number value)
 
--- what system exclusive bytes tell by their first fault, and by what they hold where they have none
+-- what SysEx bytes tell by their first fault, and by what they hold where they have none
 abbrev pub told_by_bytes : Option FrameFault → Content → Told
 told_by_bytes None held = told_by held
 told_by_bytes (Some fault) held = told_by_fault fault
 
--- what a message tells, with the bytes of a system exclusive one: the velocity of a note-on goes through the curve
+-- what a message tells, with the bytes of a SysEx one: the velocity of a note-on goes through the curve
 unfoldable pub command_of : MidiMessage → List ℕ → Curve → Told
 command_of (NoteOff channel key) bytes curve = Tells (EndsNote channel key)
 command_of (NoteOn channel key velocity) bytes curve = Tells (StartsNote channel key (curve_value curve velocity))

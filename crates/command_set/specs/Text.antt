@@ -2,9 +2,10 @@
 use Rattle.std.specs.Prelude.{ℕ, ◌*◌, ◌^◌, ◌==◌, if◌then◌else◌, List, [], ◌∷◌, map, sum, codes, decimal, slice_index}
 use Rattle.std.specs.List.{range_with_len, flat_map}
 use Rattle.hex.specs.Hex.{encode_lower}
-use Rattle.plain_text.specs.Parts.{spaced}
+use Rattle.plain_text.specs.Split.{spaced}
 use Rattle.voice_record.specs.Packing.{row_of}
-use Rattle.command_set.specs.Command.{CommandData, StartsNote, EndsNote, Bends, Controls, PicksProgram, SetsNumber, StoresVoice, TakesVoice, TakesCartridge}
+use Rattle.command_set.specs.Command.{CommandData, StartsNote, EndsNote, Bends, Controls, PicksProgram, SetsNumber, StoresVoice}
+use Rattle.command_set.specs.Command.{TakesVoice, TakesCartridge}
 
 -- what a field of a voice adds to a packed byte
 abbrev pub share : List ℕ → ℕ → ℕ → ℕ

@@ -1,6 +1,7 @@
 -- What a command that edits makes of the voice.
 use Rattle.std.specs.Prelude.{ℕ, ◌≡◌, ◌==◌, if◌then◌else◌, List, [], ◌∷◌, slice_set}
-use Rattle.command_set.specs.Command.{CommandData, StartsNote, EndsNote, Bends, Controls, PicksProgram, SetsNumber, StoresVoice, TakesVoice, TakesCartridge}
+use Rattle.command_set.specs.Command.{CommandData, StartsNote, EndsNote, Bends, Controls, PicksProgram, SetsNumber, StoresVoice}
+use Rattle.command_set.specs.Command.{TakesVoice, TakesCartridge}
 
 -- The voice after a command that sets a number of it or replaces it whole. Number 155 is the operator switch, which is no number of the voice.
 -- Of the other commands only a program changes the voice, and it takes it from the cartridge.

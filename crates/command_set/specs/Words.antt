@@ -3,7 +3,8 @@ use Rattle.std.specs.Prelude.{ℕ, ◌≡◌, ◌≢◌, List, [], ◌∷◌, co
 use Rattle.std.specs.List.{flat_map}
 use Rattle.hex.specs.Hex.{encode_lower}
 use Rattle.plain_text.specs.Number.{number}
-use Rattle.command_set.specs.Command.{CommandData, StartsNote, EndsNote, Bends, Controls, PicksProgram, SetsNumber, StoresVoice, TakesVoice, TakesCartridge, IsInRange}
+use Rattle.command_set.specs.Command.{CommandData, StartsNote, EndsNote, Bends, Controls, PicksProgram, SetsNumber, StoresVoice}
+use Rattle.command_set.specs.Command.{TakesVoice, TakesCartridge, IsInRange}
 use Rattle.command_set.specs.Text.{packed}
 
 -- the words of a command's text
@@ -59,7 +60,9 @@ three_bytes_of kind first second third =
 -- a kind and three words
 unfoldable pub three_of : List ℕ → List ℕ → List ℕ → List ℕ → Option CommandData
 three_of kind first second third =
-    option_and_then (λ a. option_and_then (λ b. option_and_then (three_bytes_of kind a b) (number 0 255 third)) (number 0 255 second)) (number 0 255 first)
+    option_and_then
+    (λ a. option_and_then (λ b. option_and_then (three_bytes_of kind a b) (number 0 255 third)) (number 0 255 second))
+    (number 0 255 first)
 
 -- the command of numbers that the words write, whether it is in range or not
 unfoldable pub numbers_of : List (List ℕ) → Option CommandData

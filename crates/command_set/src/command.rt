@@ -1,3 +1,5 @@
+//! What a player can ask of the instrument.
+
 ghost use Rattle.std.specs.Prelude.{◌≡◌, ◌↔◌, IsTrue};
 ghost use Rattle.command_set.specs.Command.{IsKnownControl};
 ghost use Rattle.command_set.specs.Message.{acts};

@@ -1,3 +1,5 @@
+//! A command with its script, its number and its blocks.
+
 use crate::command::Command;
 
 /// A command that a script sent: the script's number, the command's place in the script from 0 on,

@@ -8,7 +8,8 @@ ghost use Rattle.sysex_frame.specs.FrameFault.{first_fault};
 ghost use Rattle.sysex_frame.specs.Reading.{reading};
 ghost use Rattle.cartridge.specs.Cartridge.{IsCartridge, voices_of};
 ghost use Rattle.command_set.specs.Command.{Controls, IsInRange, TakesCartridge, TakesVoice, content};
-ghost use Rattle.command_set.specs.Message.{IsRefusal, IsSound, PassedOver, Tells, acts, clamped_voice, command_of, told, told_by, told_by_bytes, told_by_fault};
+ghost use Rattle.command_set.specs.Message.{IsRefusal, IsSound, PassedOver, Tells, acts, clamped_voice, command_of, told, told_by};
+ghost use Rattle.command_set.specs.Message.{told_by_bytes, told_by_fault};
 ghost use Rattle.command_set.specs.declared.message.CommandFault.TheVariants.{Memory};
 
 use crate::command::{Command, is_known_control};
@@ -22,7 +23,7 @@ use voice_record::Voice;
 /// Why a message is no command and isn't passed over.
 #[derive(Clone, Copy, Debug, PartialEq, Eq)]
 pub enum CommandFault {
-    /// A system exclusive message has more than 5000 bytes, so many.
+    /// A SysEx message has more than 5000 bytes, so many.
     TooLong { length: u32 },
     /// Its bytes have this fault.
     Frame(FrameFault),
@@ -31,8 +32,8 @@ pub enum CommandFault {
 }
 
 /// The command of a message, whose fields are in the ranges of those that a reader answers, with the
-/// bytes of a system exclusive one. The velocity of a note-on goes through the map. None where the
-/// message is passed over: pressures, controls that don't act, messages of another maker and other
+/// bytes of a SysEx one. The velocity of a note-on goes through the map. None where the
+/// message is passed over: pressures, controls that don't act, messages of another manufacturer and other
 /// messages of the DX7.
 #[tactic(auto, unfolding(crate::specs::Message::command_of))]
 pub fn from_message(
@@ -89,7 +90,7 @@ fn control(channel: u8, number: u8, value: u8) -> Option<Command>
     }
 }
 
-/// The command of a system exclusive message.
+/// The command of a SysEx message.
 fn from_exclusive(alloc: Global, bytes: &[u8]) -> Result<Option<Command>, CommandFault>
     requires { length bytes.now ≤ 536870912 }
     ensures command { IfOk result (λ found. told_by_bytes (first_fault bytes.now) (reading bytes.now) ≡ told (option_map content found)) }

@@ -1,7 +1,7 @@
 //! A command read from its text.
 
 ghost use Rattle.std.specs.Prelude.{◌≡◌, ◌≢◌, [], ◌∷◌, option_map, IfOk};
-ghost use Rattle.plain_text.specs.Parts.{parts};
+ghost use Rattle.plain_text.specs.Split.{split};
 ghost use Rattle.command_set.specs.Command.{CommandData, IsInRange, content};
 ghost use Rattle.command_set.specs.Words.{AreWordsOf, AreWordsOfNone, AreWordsOfSome};
 ghost use Rattle.command_set.specs.Unique.{TextsAreUnique};
@@ -10,7 +10,7 @@ ghost use Rattle.command_set.specs.declared.read.TextFault.TheVariants.{Memory, 
 use crate::command::Command;
 use crate::read_bytes::{read_cartridge, read_voice};
 use crate::read_numbers::{read_more, read_store};
-use plain_text::{cut, is_word};
+use plain_text::{is_word, split_once};
 use std::alloc::Global;
 
 /// Why a text is no command: it is not the text of a command in range, or memory was wanting.
@@ -44,15 +44,15 @@ impl Command {
 
 /// The command in range whose words a text has.
 fn read_words(alloc: Global, text: &[u8]) -> Result<Command, TextFault>
-    ensures read { IfOk result (λ c. AreWordsOf (parts 32 text.now) (content c)) }
-    ensures refused { result ≡ Err NotCommand → AreWordsOfNone (parts 32 text.now) }
-    ensures memory { result ≡ Err Memory → AreWordsOfSome (parts 32 text.now) }
+    ensures read { IfOk result (λ c. AreWordsOf (split 32 text.now) (content c)) }
+    ensures refused { result ≡ Err NotCommand → AreWordsOfNone (split 32 text.now) }
+    ensures memory { result ≡ Err Memory → AreWordsOfSome (split 32 text.now) }
 {
-    let (kind, rest) = match cut(text, b' ') {
-        Some(cut) => cut,
+    let (kind, rest) = match split_once(text, b' ') {
+        Some(parts) => parts,
         None => return Err(TextFault::NotCommand),
     };
-    match cut(rest, b' ') {
+    match split_once(rest, b' ') {
         None => read_one(alloc, kind, rest),
         Some((first, rest)) => within_range(read_more(kind, first, rest)),
     }

@@ -2,12 +2,12 @@
 
 ghost use Rattle.std.specs.Prelude.{◌≡◌, ◌∷◌, option_map};
 ghost use Rattle.plain_text.specs.Number.{number};
-ghost use Rattle.plain_text.specs.Parts.{parts};
+ghost use Rattle.plain_text.specs.Split.{split};
 ghost use Rattle.command_set.specs.Command.{content};
 ghost use Rattle.command_set.specs.Words.{numbers_of, store_of, three_bytes_of, three_of, two_bytes_of, two_of};
 
 use crate::command::Command;
-use plain_text::{cut, is_word, number_in};
+use plain_text::{is_word, parse_number, split_once};
 
 /// `store` and a slot.
 #[tactic(auto, unfolding(crate::specs::Words::store_of))]
@@ -25,11 +25,11 @@ pub(crate) fn read_store(kind: &[u8], slot: &[u8]) -> Option<Command>
 
 /// A command of two or three numbers, in range or not.
 pub(crate) fn read_more(kind: &[u8], first: &[u8], rest: &[u8]) -> Option<Command>
-    ensures { option_map content result ≡ numbers_of (kind.now ∷ first.now ∷ parts 32 rest.now) }
+    ensures { option_map content result ≡ numbers_of (kind.now ∷ first.now ∷ split 32 rest.now) }
 {
-    match cut(rest, b' ') {
+    match split_once(rest, b' ') {
         None => read_two(kind, first, rest),
-        Some((second, third)) => match cut(third, b' ') {
+        Some((second, third)) => match split_once(third, b' ') {
             None => read_three(kind, first, second, third),
             Some(_) => None,
         },
@@ -45,7 +45,7 @@ fn read_two(kind: &[u8], first: &[u8], second: &[u8]) -> Option<Command>
         None => return None,
     };
     if is_word(kind, b"bend") {
-        return match number_in(second, 0, 16383) {
+        return match parse_number(second, 0, 16383) {
             Some(value) => Some(Command::Bend {
                 channel: first,
                 value: value as u16,
@@ -126,7 +126,7 @@ fn command_of_three(kind: &[u8], first: u8, second: u8, third: u8) -> Option<Com
 fn read_byte(word: &[u8]) -> Option<u8>
     ensures { result ≡ number 0 255 word.now }
 {
-    match number_in(word, 0, 255) {
+    match parse_number(word, 0, 255) {
         Some(number) => Some(number as u8),
         None => None,
     }

@@ -2,7 +2,7 @@
 
 ghost use Rattle.std.specs.Prelude.{◌≡◌, ◌+◌, ◌*◌, ◌≤◌, ◌++◌, [], ◌∷◌, decimal, length};
 ghost use Rattle.hex.specs.Hex.{encode_lower};
-ghost use Rattle.plain_text.specs.Parts.{spaced};
+ghost use Rattle.plain_text.specs.Split.{spaced};
 
 use crate::command::Command;
 use plain_text::{LineText, push_number, push_text};
@@ -48,7 +48,7 @@ impl Command {
     }
 }
 
-/// Adds a word and a number behind it.
+/// Adds a word and a number after it.
 fn write_one(into: &mut LineText, kind: &[u8], number: u8)
     requires room { length into.old.items ≤ 54 }
     requires kind { length kind.now ≤ 9 }
@@ -59,7 +59,7 @@ fn write_one(into: &mut LineText, kind: &[u8], number: u8)
     push_next(into, u32::from(number));
 }
 
-/// Adds a word and two numbers behind it.
+/// Adds a word and two numbers after it.
 fn write_two(into: &mut LineText, kind: &[u8], first: u8, second: u16)
     requires room { length into.old.items ≤ 54 }
     requires kind { length kind.now ≤ 9 }
@@ -71,7 +71,7 @@ fn write_two(into: &mut LineText, kind: &[u8], first: u8, second: u16)
     push_next(into, u32::from(second));
 }
 
-/// Adds a word and three numbers behind it.
+/// Adds a word and three numbers after it.
 fn write_three(into: &mut LineText, kind: &[u8], first: u8, second: u8, third: u8)
     requires room { length into.old.items ≤ 54 }
     requires kind { length kind.now ≤ 9 }
@@ -84,7 +84,7 @@ fn write_three(into: &mut LineText, kind: &[u8], first: u8, second: u8, third: u
     push_next(into, u32::from(third));
 }
 
-/// Adds a word and bytes in hex behind it.
+/// Adds a word and bytes in hex after it.
 #[tactic(auto, using(crate::proofs::Writing::encode_count))]
 fn write_bytes(into: &mut LineText, kind: &[u8], bytes: &[u8])
     requires room { length into.old.items ≤ 54 }

@@ -1,9 +1,10 @@
--- The text of a fault of a system exclusive message.
+-- The text of a fault of a SysEx message.
 use Rattle.std.specs.Prelude.{ℕ, List, ◌∷◌, ◌++◌, codes, decimal}
 use Rattle.sysex_frame.specs.declared.frame.FrameFault.{FrameFault}
-use Rattle.sysex_frame.specs.declared.frame.FrameFault.TheVariants.{NotFramed, NotYamaha, DataByte, Short, UnknownSubstatus, UnknownFormat, CountBytes, Length, Checksum, ParamValue}
+use Rattle.sysex_frame.specs.declared.frame.FrameFault.TheVariants.{NotFramed, NotYamaha, DataByte, Short, UnknownSubstatus}
+use Rattle.sysex_frame.specs.declared.frame.FrameFault.TheVariants.{UnknownFormat, CountBytes, Length, Checksum, ParamValue}
 
--- its name, and its numbers behind their words
+-- its name, and its numbers after their words
 unfoldable pub frame_text : FrameFault → List ℕ
 frame_text NotFramed = codes "not framed"
 frame_text NotYamaha = codes "not yamaha"

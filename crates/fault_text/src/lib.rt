@@ -1,4 +1,4 @@
-//! The text of what is wrong with a system exclusive message.
+//! The text of what is wrong with a SysEx message.
 #![tactic(auto)]
 
 ghost use Rattle.std.specs.Prelude.{◌≡◌, ◌+◌, ◌≤◌, ◌++◌, decimal, length};
@@ -48,7 +48,7 @@ pub fn push_frame_text(fault: &FrameFault, into: &mut LineText)
     }
 }
 
-/// Adds a word and a number behind it.
+/// Adds a word and a number after it.
 fn push_one(into: &mut LineText, word: &[u8], number: u32)
     requires { length into.old.items + length word.now ≤ 8246 }
     ensures text { into.new.items ≡ into.old.items ++ (word.now ++ decimal number) }

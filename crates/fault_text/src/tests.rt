@@ -1,3 +1,5 @@
+//! The text of each fault.
+
 use super::*;
 
 #[test]

@@ -2,7 +2,7 @@
 use Rattle.std.proofs.Common.{◌≡◌, ℕ, ◌+◌, List, [], ◌∷◌, ◌++◌, sym, ◌∙◌, ap}
 use Rattle.std.specs.Prelude.{codes, decimal}
 use Rattle.std.specs.List.{range_with_len, flat_map}
-use Rattle.plain_text.specs.Parts.{spaced}
+use Rattle.plain_text.specs.Split.{spaced}
 use Rattle.command_set.specs.Command.{CommandData}
 use Rattle.command_set.specs.Text.{text}
 use Rattle.generator.specs.Drawn.{due, command, line}

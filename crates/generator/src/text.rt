@@ -1,5 +1,5 @@
 ghost use Rattle.std.specs.Prelude.{◌≡◌, ◌≤◌, ◌<◌, ◌++◌, [], ◌∷◌, IfOk, decimal, length};
-ghost use Rattle.plain_text.specs.Parts.{spaced};
+ghost use Rattle.plain_text.specs.Split.{spaced};
 ghost use Rattle.command_set.specs.Command.{IsInRange, content};
 ghost use Rattle.command_set.specs.Text.{text};
 ghost use Rattle.generator.specs.Drawn.{generated_text};

@@ -1,14 +1,14 @@
 -- Slots whose blocks begin and end, up to a place.
 use Rattle.std.proofs.Common.{zero, suc, false, ap, refl, ◌+ℤ◌, ℕ, Option, Some, None, List, length, get_or, set, ◌+◌, ◌<◌, ◌≤◌, ◌≢◌, ◌≡◌, ℤ, arith, below_more, get_or-set_other, get_or-set_same}
 use Rattle.algorithm_bus.specs.declared.note_block.NoteBlock.{NoteBlock}
-use Rattle.operator_kernel.specs.Operator.{memory_of}
-use Rattle.algorithm_bus.specs.Signals.{memory_left, note_output}
+use Rattle.operator_kernel.specs.Operator.{feedback_state_of}
+use Rattle.algorithm_bus.specs.Signals.{feedback_state_left, note_output}
 use Rattle.algorithm_bus.specs.NoteBlocks.{block_patch}
 use Rattle.note_voice.specs.declared.note.Note.{Note}
 use Rattle.note_voice.specs.Modulation.{Modulation}
-use Rattle.note_voice.specs.Note.{NoteData, heard, memory_before}
+use Rattle.note_voice.specs.Note.{NoteData, after_block, feedback_state_before}
 use Rattle.note_voice.specs.Running.{IsNote, IsNoteBegun}
-use Rattle.note_voice.proofs.Blocks.{memory_heard, sample_is}
+use Rattle.note_voice.proofs.Blocks.{state_after_block, sample_is}
 use Rattle.instrument.specs.Groups.{AreOutputs, sum_to}
 use Rattle.instrument.specs.declared.slot.Slot.{Slot}
 use Rattle.instrument.specs.State.{SlotData, mix_of, slot_later, slot_sample}
@@ -51,12 +51,12 @@ pub ended_all : (i : ℕ) (m : Modulation) (ws : ℕ → Option SlotData) (bs : 
 ended_all i m ws bs vs le a = λ k d lt. a.done k d (omega arith)
 
 -- a slot whose block was run
-pub slot_ended : (v : Slot) (note' : Note) (b : NoteBlock) (m : Modulation) (memory : List ℤ) (w : Option SlotData) → (IsNote v.note None → IsNote note' None) → ((n : NoteData) → IsNoteBegun v.note n → memory_of memory ≡ memory_before n (length n.past) → IsNote note' (Some n)) → IsSlotBegun v b m w → memory_of memory ≡ memory_left (block_patch b) → IsSlot (record { channel = v.channel; key = v.key; note = note'; is_down = v.is_down; is_held = v.is_held }) (slot_later m w)
+pub slot_ended : (v : Slot) (note' : Note) (b : NoteBlock) (m : Modulation) (memory : List ℤ) (w : Option SlotData) → (IsNote v.note None → IsNote note' None) → ((n : NoteData) → IsNoteBegun v.note n → feedback_state_of memory ≡ feedback_state_before n (length n.past) → IsNote note' (Some n)) → IsSlotBegun v b m w → feedback_state_of memory ≡ feedback_state_left (block_patch b) → IsSlot (record { channel = v.channel; key = v.key; note = note'; is_down = v.is_down; is_held = v.is_held }) (slot_later m w)
 slot_ended v note' b m memory None idle ended h q = record { note_is = idle h.empty.note_is; is_down_is = h.empty.is_down_is; is_held_is = h.empty.is_held_is }
 slot_ended v note' b m memory (Some w) idle ended h q = record {
   channel_is = h.channel_is;
   key_is = h.key_is;
-  note_is = ended (heard w.note m) h.note_is (memory_heard w.note m (block_patch b) memory h.block_is q);
+  note_is = ended (after_block w.note m) h.note_is (state_after_block w.note m (block_patch b) memory h.block_is q);
   is_down_is = h.is_down_is;
   is_held_is = h.is_held_is;
 }
@@ -64,7 +64,7 @@ slot_ended v note' b m memory (Some w) idle ended h q = record {
 -- what is run of a slot is what it sounds like
 slot_output : (v : Slot) (b : NoteBlock) (m : Modulation) (w : Option SlotData) (j : ℕ) → IsSlotBegun v b m w → note_output (block_patch b) j ≡ slot_sample m w j
 slot_output v b m None j h = h.silent j
-slot_output v b m (Some w) j h = sample_is (heard w.note m) (length w.note.past) j (block_patch b) h.block_is
+slot_output v b m (Some w) j h = sample_is (after_block w.note m) (length w.note.past) j (block_patch b) h.block_is
 
 no_slot : Slot
 no_slot = record { channel = 0; key = 0; note = record { sounding = None }; is_down = false; is_held = false }

@@ -3,9 +3,9 @@ use Rattle.std.proofs.Common.{ℕ, zero, suc, ℤ, pos, ◌+ℤ◌, Bool, true, 
 use Rattle.std.proofs.lemmas.Bool.{cases_eq}
 use Rattle.std.proofs.lemmas.Int.{ints}
 use Rattle.std.proofs.lemmas.List.{get_or_default}
-use Rattle.operator_kernel.specs.Operator.{memory_of}
+use Rattle.operator_kernel.specs.Operator.{feedback_state_of}
 use Rattle.algorithm_bus.specs.declared.note_block.NoteBlock.{NoteBlock}
-use Rattle.algorithm_bus.specs.Signals.{Patch, memory_left, note_output}
+use Rattle.algorithm_bus.specs.Signals.{Patch, feedback_state_left, note_output}
 use Rattle.algorithm_bus.specs.NoteBlocks.{block_patch}
 use Rattle.note_voice.specs.Mix.{IsAdded}
 use Rattle.instrument.specs.Groups.{AreLeft, AreMarked, AreOutputs, AreRun, is_done, sum_to, sum_where}
@@ -84,16 +84,16 @@ done_stays done i x len lt t =
       | inr ne ↦ other done i x ne ∙ t
     ]
 
-pub marked_next : (done : List Bool) (bs new : List NoteBlock) (i : ℕ) (b : NoteBlock) → AreMarked done bs new → i < 16 → ((e : NoteBlock) → memory_of b.memory ≡ memory_left (block_patch (get_or bs i e))) → AreMarked (set done i true) bs (set new i b)
+pub marked_next : (done : List Bool) (bs new : List NoteBlock) (i : ℕ) (b : NoteBlock) → AreMarked done bs new → i < 16 → ((e : NoteBlock) → feedback_state_of b.feedback_state ≡ feedback_state_left (block_patch (get_or bs i e))) → AreMarked (set done i true) bs (set new i b)
 marked_next done bs new i b m lt h = record {
   done_len = simp length-set m.done_len;
   len = simp length-set m.len;
   run = λ x d e l t. elim (cases_eq x i) [
     | inl s ↦
         let k : i < length new = rw m.len lt in
-        let P : ℕ → Type 0 = λ x. memory_of (get_or (set new i b) x d).memory ≡ memory_left (block_patch (get_or bs x e)) in
-        subst P (sym s) (ap (λ (n : NoteBlock). memory_of n.memory) (get_or-set_same new i b d k) ∙ h e)
-    | inr ne ↦ ap (λ (n : NoteBlock). memory_of n.memory) (get_or-set_other new i x b d ne) ∙ m.run x d e l (sym (other done i x ne) ∙ t)
+        let P : ℕ → Type 0 = λ x. feedback_state_of (get_or (set new i b) x d).feedback_state ≡ feedback_state_left (block_patch (get_or bs x e)) in
+        subst P (sym s) (ap (λ (n : NoteBlock). feedback_state_of n.feedback_state) (get_or-set_same new i b d k) ∙ h e)
+    | inr ne ↦ ap (λ (n : NoteBlock). feedback_state_of n.feedback_state) (get_or-set_other new i x b d ne) ∙ m.run x d e l (sym (other done i x ne) ∙ t)
   ];
   same = λ x d e l f. elim (cases_eq x i) [
     | inl s ↦

@@ -3,9 +3,9 @@ use Rattle.std.proofs.Common.{ℕ, Option, Some, None, true, false, Result, Ok, 
 use Rattle.std.proofs.lemmas.Bool.{ne_eqb}
 use Rattle.voice_record.specs.Voice.{greatest_value}
 use Rattle.command_set.specs.Command.{StartsNote, SetsNumber}
-use Rattle.block_rates.specs.declared.oscillator.Lfo.{Lfo}
-use Rattle.block_rates.specs.Oscillators.{oscillator_settings, assigned, key_pressed}
-use Rattle.block_rates.specs.OscillatorStates.{IsOscillator}
+use Rattle.block_rates.specs.declared.lfo.Lfo.{Lfo}
+use Rattle.block_rates.specs.Lfos.{lfo_settings, assigned, key_pressed}
+use Rattle.block_rates.specs.LfoStates.{IsLfo}
 use Rattle.note_voice.specs.Note.{begun}
 use Rattle.instrument.specs.declared.slot.Slot.{Slot}
 use Rattle.instrument.specs.Running.{AreSlots}
@@ -26,8 +26,8 @@ fresh_slots vs s voice switch channel key velocity f vo sw h =
     let Q : ℕ → Type 0 = λ t. AreSlots vs (λ i. cond (eqb i f) (Some (record { channel = channel; note = begun voice t key velocity; is_down = true; is_held = false })) (s.slots i)) in
     subst P vo (subst Q sw h)
 
--- the oscillator takes the settings of the voice, and a key goes down
-pub pressed_is : (l : Lfo) (s : State) (voice : List ℕ) → voice ≡ s.voice → IsOscillator l (key_pressed (assigned (oscillator_settings voice) s.oscillation s.steps) 0) 0 → IsOscillator l (key_pressed (assigned (oscillator_settings s.voice) s.oscillation s.steps) 0) 0
+-- the LFO takes the settings of the voice, and a key goes down
+pub pressed_is : (l : Lfo) (s : State) (voice : List ℕ) → voice ≡ s.voice → IsLfo l (key_pressed (assigned (lfo_settings voice) s.oscillation s.steps) 0) 0 → IsLfo l (key_pressed (assigned (lfo_settings s.voice) s.oscillation s.steps) 0) 0
 pressed_is l s voice vo h = rw (← vo) h
 
 pub none_is : (o : Option ℕ) → ((x : ℕ) → o ≡ Some x → ⊥) → o ≡ None

@@ -1,6 +1,6 @@
 -- The state that a running instrument is in.
 use Rattle.std.specs.Prelude.{◌≡◌}
-use Rattle.block_rates.specs.OscillatorStates.{IsOscillator}
+use Rattle.block_rates.specs.LfoStates.{IsLfo}
 use Rattle.instrument.specs.declared.instrument.Instrument.{Instrument}
 use Rattle.instrument.specs.State.{State}
 use Rattle.instrument.specs.Running.{AreSlots}
@@ -14,5 +14,5 @@ pub record IsIn (i : Instrument) (s : State) : Type 0 where
   pub wheel : i.wheel ≡ s.wheel
   pub pedal : i.is_pedal_down ≡ s.is_pedal_down
   pub next : i.next ≡ s.next
-  pub oscillator : IsOscillator i.lfo s.oscillation s.steps
+  pub oscillator : IsLfo i.lfo s.oscillation s.steps
   pub slots : AreSlots i.slots s.slots

@@ -5,14 +5,14 @@ use Rattle.algorithm_bus.specs.Signals.{note_output}
 use Rattle.algorithm_bus.specs.NoteBlocks.{block_patch}
 use Rattle.note_voice.specs.declared.note.Note.{Note}
 use Rattle.note_voice.specs.Modulation.{Modulation}
-use Rattle.note_voice.specs.Note.{heard, note_patch}
+use Rattle.note_voice.specs.Note.{after_block, note_patch}
 use Rattle.note_voice.specs.Running.{IsNote, IsNoteBegun}
-use Rattle.instrument.specs.declared.movement.Movement.{Movement}
+use Rattle.instrument.specs.declared.modulation.BlockModulation.{BlockModulation}
 use Rattle.instrument.specs.declared.slot.Slot.{Slot}
 use Rattle.instrument.specs.State.{SlotData}
 
 -- what moves the notes in a block, as plain data
-abbrev pub modulation_of : Movement → Modulation
+abbrev pub modulation_of : BlockModulation → Modulation
 modulation_of m = record { lfo = m.lfo; delay = unsigned_abs m.delay; bend = m.bend; wheel = m.wheel }
 
 -- what is kept of an empty slot: an idle note, with its key up
@@ -38,8 +38,8 @@ IsSlot v (Some w) = IsTaken v.channel v.key v.note v.is_down v.is_held w
 pub record IsTakenBegun (channel key : ℕ) (note : Note) (is_down is_held : Bool) (b : NoteBlock) (m : Modulation) (w : SlotData) : Type 0 where
   pub channel_is : channel ≡ w.channel
   pub key_is : key ≡ w.note.key
-  pub note_is : IsNoteBegun note (heard w.note m)
-  pub block_is : block_patch b ≡ note_patch (heard w.note m) (length w.note.past)
+  pub note_is : IsNoteBegun note (after_block w.note m)
+  pub block_is : block_patch b ≡ note_patch (after_block w.note m) (length w.note.past)
   pub is_down_is : is_down ≡ w.is_down
   pub is_held_is : is_held ≡ w.is_held
 

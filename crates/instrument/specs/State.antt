@@ -6,9 +6,9 @@ use Rattle.std.specs.Option.{option_map_or}
 use Rattle.voice_record.specs.Voice.{opening_voice}
 use Rattle.cartridge.specs.Cartridge.{voice_at}
 use Rattle.command_set.specs.Command.{CommandData, StartsNote, EndsNote, Bends, Controls, PicksProgram, SetsNumber, StoresVoice, TakesVoice, TakesCartridge}
-use Rattle.block_rates.specs.Oscillators.{Oscillation, opening_oscillation, oscillator_settings, assigned, key_pressed, oscillator_value, oscillator_delay}
+use Rattle.block_rates.specs.Lfos.{LfoState, opening_lfo, lfo_settings, assigned, key_pressed, lfo_value, lfo_depth}
 use Rattle.note_voice.specs.Modulation.{Modulation}
-use Rattle.note_voice.specs.Note.{NoteData, begun, let_go, heard, note_sample}
+use Rattle.note_voice.specs.Note.{NoteData, begun, note_released, after_block, note_sample}
 
 -- a note that has a slot, with its channel, whether its key is down, and whether the pedal holds it
 pub record SlotData : Type 0 where
@@ -18,7 +18,7 @@ pub record SlotData : Type 0 where
   pub is_held : Bool
 
 -- The cartridge's 32 voices, the voice and its operator switch, bend, wheel and pedal of all channels, the slot that the next note is looked for from,
--- the oscillator with its steps since it took settings or a key went down, and what is in each slot from 0 to 15.
+-- the LFO with its steps since it took settings or a key went down, and what is in each slot from 0 to 15.
 pub record State : Type 0 where
   pub bank : List (List ℕ)
   pub voice : List ℕ
@@ -27,7 +27,7 @@ pub record State : Type 0 where
   pub wheel : ℕ
   pub is_pedal_down : Bool
   pub next : ℕ
-  pub oscillation : Oscillation
+  pub oscillation : LfoState
   pub steps : ℕ
   pub slots : ℕ → Option SlotData
 
@@ -41,7 +41,7 @@ opening = record {
   wheel = 0;
   is_pedal_down = false;
   next = 0;
-  oscillation = opening_oscillation;
+  oscillation = opening_lfo;
   steps = 0;
   slots = λ _. None;
 }
@@ -67,33 +67,33 @@ free_slot s = option_map (round_from s.next) (first_that (λ k. is_up (s.slots (
 abbrev pub fresh : State → ℕ → ℕ → ℕ → SlotData
 fresh s channel key velocity = record { channel = channel; note = begun s.voice s.switch key velocity; is_down = true; is_held = false }
 
--- The note takes the slot, and the round goes on behind it. The oscillator takes the settings of the voice, and a key goes down.
+-- The note takes the slot, and the round goes on behind it. The LFO takes the settings of the voice, and a key goes down.
 abbrev pub taken : State → SlotData → ℕ → State
 taken s w f = record s {
   next = (f + 1) % 16;
-  oscillation = key_pressed (assigned (oscillator_settings s.voice) s.oscillation s.steps) 0;
+  oscillation = key_pressed (assigned (lfo_settings s.voice) s.oscillation s.steps) 0;
   steps = 0;
   slots = λ i. if i == f then Some w else s.slots i;
 }
 
--- the slot with its key let go, and no pedal that holds it
+-- the slot with its key released, and no pedal that holds it
 abbrev pub released : SlotData → SlotData
-released w = record { channel = w.channel; note = let_go w.note; is_down = false; is_held = false }
+released w = record { channel = w.channel; note = note_released w.note; is_down = false; is_held = false }
 
 -- the slot with its key up, held by the pedal
 abbrev pub held : SlotData → SlotData
 held w = record { channel = w.channel; note = w.note; is_down = false; is_held = true }
 
 -- a slot whose key is down with this channel and key: its key goes up
-abbrev pub lifted : Bool → ℕ → ℕ → Option SlotData → Option SlotData
-lifted is_pedal_down channel key None = None
-lifted is_pedal_down channel key (Some w) =
+abbrev pub key_up : Bool → ℕ → ℕ → Option SlotData → Option SlotData
+key_up is_pedal_down channel key None = None
+key_up is_pedal_down channel key (Some w) =
     if w.is_down && (w.channel == channel && w.note.key == key) then Some (if is_pedal_down then held w else released w) else Some w
 
 -- a slot that the pedal held
-abbrev pub unheld : Option SlotData → Option SlotData
-unheld None = None
-unheld (Some w) = if w.is_held then Some (released w) else Some w
+abbrev pub pedal_up : Option SlotData → Option SlotData
+pedal_up None = None
+pedal_up (Some w) = if w.is_held then Some (released w) else Some w
 
 -- a slot whose key was down or that the pedal held
 abbrev pub silenced : Option SlotData → Option SlotData
@@ -102,7 +102,7 @@ silenced (Some w) = if w.is_down || w.is_held then Some (released w) else Some w
 
 -- the pedal, which is down from 64 on
 abbrev pub pedal : State → ℕ → State
-pedal s value = if nat_lt value 64 then record s { is_pedal_down = false; slots = λ i. unheld (s.slots i) } else record s { is_pedal_down = true }
+pedal s value = if nat_lt value 64 then record s { is_pedal_down = false; slots = λ i. pedal_up (s.slots i) } else record s { is_pedal_down = true }
 
 -- modulation wheel (1), hold pedal (64), all notes off (123)
 abbrev pub controlled : State → ℕ → ℕ → State
@@ -122,7 +122,7 @@ numbered s number value = if number == 155 then record s { switch = value } else
 -- what a command does
 unfoldable pub apply : State → CommandData → State
 apply s (StartsNote channel key velocity) = option_map_or (taken s (fresh s channel key velocity)) (free_slot s) s
-apply s (EndsNote channel key) = record s { slots = λ i. lifted s.is_pedal_down channel key (s.slots i) }
+apply s (EndsNote channel key) = record s { slots = λ i. key_up s.is_pedal_down channel key (s.slots i) }
 apply s (Bends channel value) = record s { bend = value }
 apply s (Controls channel number value) = controlled s number value
 apply s (PicksProgram channel number) = voiced s (voice_at s.bank (number % 32))
@@ -131,11 +131,11 @@ apply s (StoresVoice slot) = record s { bank = slice_set s.bank slot s.voice }
 apply s (TakesVoice voice) = voiced s voice
 apply s (TakesCartridge voices) = record s { bank = voices }
 
--- what moves the notes in the next block: the oscillator's next step, the bend and the wheel
+-- what moves the notes in the next block: the LFO's next step, the bend and the wheel
 abbrev pub modulation : State → Modulation
 modulation s = record {
-  lfo = oscillator_value s.oscillation (s.steps + 1);
-  delay = oscillator_delay s.oscillation (s.steps + 1);
+  lfo = lfo_value s.oscillation (s.steps + 1);
+  delay = lfo_depth s.oscillation (s.steps + 1);
   bend = s.bend;
   wheel = s.wheel;
 }
@@ -143,7 +143,7 @@ modulation s = record {
 -- a slot one block later
 abbrev pub slot_later : Modulation → Option SlotData → Option SlotData
 slot_later m None = None
-slot_later m (Some w) = Some (record { channel = w.channel; note = heard w.note m; is_down = w.is_down; is_held = w.is_held })
+slot_later m (Some w) = Some (record { channel = w.channel; note = after_block w.note m; is_down = w.is_down; is_held = w.is_held })
 
 -- the state one block later
 unfoldable pub passed : State → State
@@ -152,7 +152,7 @@ passed s = record s { steps = s.steps + 1; slots = λ i. slot_later (modulation 
 -- sample j of the next block of a slot
 abbrev pub slot_sample : Modulation → Option SlotData → ℕ → ℤ
 slot_sample m None j = pos 0
-slot_sample m (Some w) j = note_sample (heard w.note m) (length w.note.past) j
+slot_sample m (Some w) j = note_sample (after_block w.note m) (length w.note.past) j
 
 -- sample j of the first i slots together
 unfoldable pub mix_of : Modulation → (ℕ → Option SlotData) → ℕ → ℕ → ℤ

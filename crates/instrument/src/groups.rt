@@ -23,7 +23,7 @@ fn next_alike(
         if !done[x]
             && blocks[x].algorithm == algorithm
             && blocks[x].feedback == feedback
-            && blocks[x].is_heard()
+            && blocks[x].is_audible()
         {
             return Some(x);
         }
@@ -37,7 +37,7 @@ fn group_of(blocks: &[NoteBlock; 16], done: &[bool; 16], i: usize) -> Option<(us
     ensures { IfSome result (λ g. IsGroup blocks.now done.now i g.0 g.1 g.2) }
 {
     let block = blocks[i];
-    if !block.is_heard() {
+    if !block.is_audible() {
         return None;
     }
     let second = next_alike(blocks, done, i + 1, block.algorithm, block.feedback)?;

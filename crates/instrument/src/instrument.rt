@@ -5,9 +5,9 @@ ghost use Rattle.command_set.specs.Command.{IsInRange, StartsNote, EndsNote, Set
 ghost use Rattle.instrument.specs.State.{State, apply, controlled, free_slot, modulation, opening, passed, pedal, samples, voiced};
 
 use crate::mix::{output, silence};
-use crate::movement::Movement;
+use crate::modulation::BlockModulation;
 use crate::slot::Slot;
-use crate::slots::{lift_all, silence_all, sound_all, start_at, unhold_all};
+use crate::slots::{key_up_all, silence_all, sound_all, start_at, pedal_up_all};
 use block_rates::Lfo;
 use cartridge::Cartridge;
 use command_set::Command;
@@ -91,9 +91,9 @@ impl Instrument {
         ensures samples { (s : State) → IsIn self.old s → out.new ≡ samples s }
         ensures passed { (s : State) → IsIn self.old s → IsIn self.new (passed s) }
     {
-        let movement = self.next_movement();
+        let modulation = self.next_modulation();
         let mut mix = silence();
-        sound_all(&mut self.slots, &self.tables, &movement, &mut mix);
+        sound_all(&mut self.slots, &self.tables, &modulation, &mut mix);
         for j in 0..64usize {
             out[j] = output(mix[j]);
         }
@@ -148,7 +148,7 @@ impl Instrument {
     fn note_off(&mut self, channel: u8, key: u8)
         ensures { (s : State) → IsIn self.old s → IsIn self.new (apply s (EndsNote channel key)) }
     {
-        lift_all(&mut self.slots, self.is_pedal_down, channel, key);
+        key_up_all(&mut self.slots, self.is_pedal_down, channel, key);
     }
 
     /// The pitch bend, 0 to 16383.
@@ -178,7 +178,7 @@ impl Instrument {
     {
         if value < 64 {
             self.is_pedal_down = false;
-            unhold_all(&mut self.slots);
+            pedal_up_all(&mut self.slots);
         } else {
             self.is_pedal_down = true;
         }
@@ -244,13 +244,13 @@ impl Instrument {
         None
     }
 
-    /// What moves the notes in the next block, for which the oscillator steps.
-    fn next_movement(&mut self) -> Movement
+    /// What moves the notes in the next block, for which the LFO steps.
+    fn next_modulation(&mut self) -> BlockModulation
         ensures value { (s : State) → IsIn self.old s → modulation_of result ≡ modulation s }
         ensures stepped { (s : State) → IsIn self.old s → IsIn self.new (record s { steps = s.steps + 1 }) }
     {
         let (lfo, delay) = self.lfo.step(&self.tables);
-        Movement {
+        BlockModulation {
             lfo,
             delay,
             bend: self.bend,

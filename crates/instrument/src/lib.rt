@@ -4,7 +4,7 @@
 mod groups;
 mod instrument;
 mod mix;
-mod movement;
+mod modulation;
 mod slot;
 mod slots;
 

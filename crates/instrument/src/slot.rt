@@ -1,19 +1,19 @@
 ghost use Rattle.std.specs.Prelude.{◌≡◌, ◌≤◌, ◌+◌, ◌^◌, ℕ, true, false, Option, Some, None};
-ghost use Rattle.operator_kernel.specs.Operator.{memory_of};
+ghost use Rattle.operator_kernel.specs.Operator.{feedback_state_of};
 ghost use Rattle.algorithm_bus.specs.declared.note_block.NoteBlock.{NoteBlock};
-ghost use Rattle.algorithm_bus.specs.Signals.{memory_left};
+ghost use Rattle.algorithm_bus.specs.Signals.{feedback_state_left};
 ghost use Rattle.algorithm_bus.specs.NoteBlocks.{block_patch};
 ghost use Rattle.note_voice.specs.Modulation.{Modulation};
 ghost use Rattle.note_voice.specs.Note.{begun};
-ghost use Rattle.instrument.specs.State.{SlotData, held, is_up, lifted, released, silenced, slot_later, unheld};
+ghost use Rattle.instrument.specs.State.{SlotData, held, is_up, key_up, released, silenced, slot_later, pedal_up};
 
-use crate::movement::Movement;
+use crate::modulation::BlockModulation;
 use algorithm_bus::NoteBlock;
 use dx_tables::Tables;
 use note_voice::Note;
 use voice_record::Voice;
 
-/// A place for a note. A note keeps its slot after its key was let go, until another note takes it.
+/// A place for a note. A note keeps its slot after its key was released, until another note takes it.
 #[derive(Clone, Copy)]
 pub(crate) struct Slot {
     channel: u8,
@@ -68,7 +68,7 @@ impl Slot {
         !self.is_down
     }
 
-    /// Lets the note go.
+    /// Releases the note.
     fn release(&mut self)
         ensures { (w : SlotData) → IsSlot self.old (Some w) → IsSlot self.new (Some (released w)) }
     {
@@ -77,9 +77,9 @@ impl Slot {
         self.is_held = false;
     }
 
-    /// Where this key is down, it goes up; the note is let go, or held by a pedal that is down.
-    pub(crate) fn lift(&mut self, is_pedal_down: bool, channel: u8, key: u8)
-        ensures { (w : Option SlotData) → IsSlot self.old w → IsSlot self.new (lifted is_pedal_down channel key w) }
+    /// Where this key is down, it goes up; the note is released, or held by a pedal that is down.
+    pub(crate) fn key_up(&mut self, is_pedal_down: bool, channel: u8, key: u8)
+        ensures { (w : Option SlotData) → IsSlot self.old w → IsSlot self.new (key_up is_pedal_down channel key w) }
     {
         if self.is_down && self.channel == channel && self.key == key {
             if is_pedal_down {
@@ -92,15 +92,15 @@ impl Slot {
     }
 
     /// The pedal goes up.
-    pub(crate) fn unhold(&mut self)
-        ensures { (w : Option SlotData) → IsSlot self.old w → IsSlot self.new (unheld w) }
+    pub(crate) fn pedal_up(&mut self)
+        ensures { (w : Option SlotData) → IsSlot self.old w → IsSlot self.new (pedal_up w) }
     {
         if self.is_held {
             self.release();
         }
     }
 
-    /// All notes are let go.
+    /// All notes are released.
     pub(crate) fn silence(&mut self)
         ensures { (w : Option SlotData) → IsSlot self.old w → IsSlot self.new (silenced w) }
     {
@@ -110,21 +110,21 @@ impl Slot {
     }
 
     /// What is to be run of the slot's note in the next block; of an empty slot a block with no sound.
-    pub(crate) fn begin_block(&mut self, tables: &Tables, movement: &Movement) -> NoteBlock
-        ensures { (w : Option SlotData) → IsSlot self.old w → IsSlotBegun self.new result (modulation_of movement.now) w }
+    pub(crate) fn begin_block(&mut self, tables: &Tables, modulation: &BlockModulation) -> NoteBlock
+        ensures { (w : Option SlotData) → IsSlot self.old w → IsSlotBegun self.new result (modulation_of modulation.now) w }
     {
         self.note.begin_block(
             tables,
-            movement.lfo,
-            movement.delay,
-            movement.bend,
-            movement.wheel,
+            modulation.lfo,
+            modulation.delay,
+            modulation.bend,
+            modulation.wheel,
         )
     }
 
     /// Ends a block that was run, with the two samples that it left.
     pub(crate) fn end_block(&mut self, memory: [i32; 2])
-        ensures { (b : NoteBlock) (m : Modulation) (w : Option SlotData) → IsSlotBegun self.old b m w → memory_of memory ≡ memory_left (block_patch b) → IsSlot self.new (slot_later m w) }
+        ensures { (b : NoteBlock) (m : Modulation) (w : Option SlotData) → IsSlotBegun self.old b m w → feedback_state_of memory ≡ feedback_state_left (block_patch b) → IsSlot self.new (slot_later m w) }
     {
         self.note.end_block(memory);
     }

@@ -8,10 +8,10 @@ ghost use Rattle.note_voice.specs.Mix.{IsAdded};
 ghost use Rattle.instrument.specs.Mix.{AreZeros};
 ghost use Rattle.instrument.specs.Running.{AreSlots, AreSlotsBegun, modulation_of};
 ghost use Rattle.instrument.specs.Groups.{AreLeft};
-ghost use Rattle.instrument.specs.State.{SlotData, lifted, mix_of, silenced, slot_later, unheld};
+ghost use Rattle.instrument.specs.State.{SlotData, key_up, mix_of, silenced, slot_later, pedal_up};
 
 use crate::groups::run_all;
-use crate::movement::Movement;
+use crate::modulation::BlockModulation;
 use crate::slot::Slot;
 use algorithm_bus::NoteBlock;
 use dx_tables::Tables;
@@ -38,24 +38,24 @@ pub(crate) fn start_at(
 }
 
 /// A key goes up in each slot where it is down.
-pub(crate) fn lift_all(slots: &mut [Slot; 16], is_pedal_down: bool, channel: u8, key: u8)
-    ensures { (ws : ℕ → Option SlotData) → AreSlots slots.old ws → AreSlots slots.new (λ i. lifted is_pedal_down channel key (ws i)) }
+pub(crate) fn key_up_all(slots: &mut [Slot; 16], is_pedal_down: bool, channel: u8, key: u8)
+    ensures { (ws : ℕ → Option SlotData) → AreSlots slots.old ws → AreSlots slots.new (λ i. key_up is_pedal_down channel key (ws i)) }
 {
     for i in 0..16usize {
-        slots[i].lift(is_pedal_down, channel, key);
+        slots[i].key_up(is_pedal_down, channel, key);
     }
 }
 
 /// The pedal goes up.
-pub(crate) fn unhold_all(slots: &mut [Slot; 16])
-    ensures { (ws : ℕ → Option SlotData) → AreSlots slots.old ws → AreSlots slots.new (λ i. unheld (ws i)) }
+pub(crate) fn pedal_up_all(slots: &mut [Slot; 16])
+    ensures { (ws : ℕ → Option SlotData) → AreSlots slots.old ws → AreSlots slots.new (λ i. pedal_up (ws i)) }
 {
     for i in 0..16usize {
-        slots[i].unhold();
+        slots[i].pedal_up();
     }
 }
 
-/// All notes are let go.
+/// All notes are released.
 pub(crate) fn silence_all(slots: &mut [Slot; 16])
     ensures { (ws : ℕ → Option SlotData) → AreSlots slots.old ws → AreSlots slots.new (λ i. silenced (ws i)) }
 {
@@ -65,12 +65,12 @@ pub(crate) fn silence_all(slots: &mut [Slot; 16])
 }
 
 /// What is to be run in the next block, slot by slot.
-fn begin_all(slots: &mut [Slot; 16], tables: &Tables, movement: &Movement) -> [NoteBlock; 16]
-    ensures { (ws : ℕ → Option SlotData) → AreSlots slots.old ws → AreSlotsBegun slots.new result (modulation_of movement.now) ws }
+fn begin_all(slots: &mut [Slot; 16], tables: &Tables, modulation: &BlockModulation) -> [NoteBlock; 16]
+    ensures { (ws : ℕ → Option SlotData) → AreSlots slots.old ws → AreSlotsBegun slots.new result (modulation_of modulation.now) ws }
 {
     let mut blocks = [NoteBlock::silent(); 16];
     for i in 0..16usize {
-        blocks[i] = slots[i].begin_block(tables, movement);
+        blocks[i] = slots[i].begin_block(tables, modulation);
     }
     blocks
 }
@@ -80,7 +80,7 @@ fn end_all(slots: &mut [Slot; 16], blocks: &[NoteBlock; 16])
     ensures { (bs : List NoteBlock) (m : Modulation) (ws : ℕ → Option SlotData) → AreSlotsBegun slots.old bs m ws → AreLeft bs blocks.now → AreSlots slots.new (λ i. slot_later m (ws i)) }
 {
     for i in 0..16usize {
-        let memory = blocks[i].memory;
+        let memory = blocks[i].feedback_state;
         slots[i].end_block(memory);
     }
 }
@@ -89,14 +89,14 @@ fn end_all(slots: &mut [Slot; 16], blocks: &[NoteBlock; 16])
 pub(crate) fn sound_all(
     slots: &mut [Slot; 16],
     tables: &Tables,
-    movement: &Movement,
+    modulation: &BlockModulation,
     mix: &mut [i64; 64],
 )
     requires { AreZeros mix.old }
-    ensures samples { (ws : ℕ → Option SlotData) → AreSlots slots.old ws → IsAdded (mix_of (modulation_of movement.now) ws 16) mix.old mix.new }
-    ensures passed { (ws : ℕ → Option SlotData) → AreSlots slots.old ws → AreSlots slots.new (λ i. slot_later (modulation_of movement.now) (ws i)) }
+    ensures samples { (ws : ℕ → Option SlotData) → AreSlots slots.old ws → IsAdded (mix_of (modulation_of modulation.now) ws 16) mix.old mix.new }
+    ensures passed { (ws : ℕ → Option SlotData) → AreSlots slots.old ws → AreSlots slots.new (λ i. slot_later (modulation_of modulation.now) (ws i)) }
 {
-    let mut blocks = begin_all(slots, tables, movement);
+    let mut blocks = begin_all(slots, tables, modulation);
     run_all(tables, &mut blocks, mix);
     end_all(slots, &blocks);
 }

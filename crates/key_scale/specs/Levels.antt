@@ -1,8 +1,10 @@
 -- Output level, key scaling and rate scaling of an operator.
-use Rattle.std.specs.Prelude.{ℕ, ◌+◌, ◌-◌, ◌*◌, ◌/◌, ◌^◌, ◌==◌, ◌||◌, min, nat_lt, if◌then◌else◌, List, ℤ, pos, negsuc, neg_ℤ, ◌+ℤ◌, ◌-ℤ◌, ◌*ℤ◌, unsigned_abs}
+use Rattle.std.specs.Prelude.{ℕ, ◌+◌, ◌-◌, ◌*◌, ◌/◌, ◌^◌, ◌==◌, ◌||◌, min, nat_lt, if◌then◌else◌, List, ℤ, pos, negsuc, neg_ℤ, ◌+ℤ◌}
+use Rattle.std.specs.Prelude.{◌-ℤ◌, ◌*ℤ◌, unsigned_abs}
 use Rattle.std.specs.Int.{int_shr, int_min, int_max}
 use Rattle.dx_tables.specs.Constants.{level, velocity_entry, exponential_scaling}
-use Rattle.key_scale.specs.Operator.{break_point, left_depth, right_depth, left_curve, right_curve, rate_scaling, velocity_sensitivity, output_setting}
+use Rattle.key_scale.specs.Operator.{break_point, left_depth, right_depth, left_curve, right_curve, rate_scaling, velocity_sensitivity}
+use Rattle.key_scale.specs.Operator.{output_setting}
 
 -- how many keys a note lies above the break point; break point 0 is key 17
 abbrev pub key_distance : ℤ → ℕ → ℤ

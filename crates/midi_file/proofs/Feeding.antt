@@ -4,7 +4,7 @@ use Rattle.std.specs.Prelude.{Some, None, IfSome}
 use Rattle.std.proofs.lemmas.List.{map-append, take-append-drop}
 use Rattle.sysex_frame.specs.declared.frame.FrameFault.{FrameFault}
 use Rattle.midi_stream.specs.declared.message.MidiMessage.{MidiMessage}
-use Rattle.midi_stream.specs.Messages.{messages, last_exclusive}
+use Rattle.midi_stream.specs.Messages.{messages, last_sysex}
 use Rattle.midi_stream.specs.Ranges.{InRange}
 use Rattle.midi_stream.specs.Standing.{Answers, HasBytes}
 use Rattle.velocity_map.specs.declared.curve.Curve.TheVariants.{Linear}
@@ -65,11 +65,11 @@ fault_faulty why es tick at fault told is refused = by_told why es tick at (kind
 -- ---- one more byte
 
 pub told_is_heard : (m : MidiMessage) (before : List ℕ) (byte : ℕ) (sysex : List ℕ) (tick at : ℕ)
-    → Answers (Some m) (messages before) (messages (before ++ byte ∷ [])) → InRange m → HasBytes m (last_exclusive (before ++ byte ∷ []))
-    → IfSome (last_exclusive (before ++ byte ∷ [])) (λ text. length text ≤ 5000 → sysex ≡ text)
+    → Answers (Some m) (messages before) (messages (before ++ byte ∷ [])) → InRange m → HasBytes m (last_sysex (before ++ byte ∷ []))
+    → IfSome (last_sysex (before ++ byte ∷ [])) (λ text. length text ≤ 5000 → sysex ≡ text)
     → told_happens tick at (command_of m sysex Linear) ≡ heard_happens tick at (heard_with before byte)
 told_is_heard m before byte sysex tick at answers range has same =
-    ap (told_happens tick at) (told_same m (last_exclusive (before ++ byte ∷ [])) sysex Linear range has same)
+    ap (told_happens tick at) (told_same m (last_sysex (before ++ byte ∷ [])) sysex Linear range has same)
     ∙ ap (heard_happens tick at) (sym (heard_is (Some m) before byte answers))
 
 pub none_heard : (before : List ℕ) (byte tick at : ℕ) → Answers None (messages before) (messages (before ++ byte ∷ [])) → heard_happens tick at (heard_with before byte) ≡ []

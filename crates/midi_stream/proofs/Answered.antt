@@ -4,12 +4,12 @@ use Rattle.std.specs.Prelude.{Option, Some, None}
 use Rattle.midi_stream.specs.declared.message.MidiMessage.{MidiMessage}
 use Rattle.midi_stream.specs.Standing.{Answers}
 
-longer : (front : List MidiMessage) (m : MidiMessage) → front ≢ front ++ m ∷ []
-longer front m = λ e. omega (arith, length-append front (m ∷ []), ap length e)
+longer : (prefix : List MidiMessage) (m : MidiMessage) → prefix ≢ prefix ++ m ∷ []
+longer prefix m = λ e. omega (arith, length-append prefix (m ∷ []), ap length e)
 
-same_last : (front : List MidiMessage) (x y : MidiMessage) → front ++ x ∷ [] ≡ front ++ y ∷ [] → x ≡ y
+same_last : (prefix : List MidiMessage) (x y : MidiMessage) → prefix ++ x ∷ [] ≡ prefix ++ y ∷ [] → x ≡ y
 same_last [] x y e = cc
-same_last (a ∷ front) x y e = let t : front ++ x ∷ [] ≡ front ++ y ∷ [] = cc in same_last front x y t
+same_last (a ∷ prefix) x y e = let t : prefix ++ x ∷ [] ≡ prefix ++ y ∷ [] = cc in same_last prefix x y t
 
 same_in : (x y : MidiMessage) (p q : Option MidiMessage) → p ≡ Some x → q ≡ Some y → p ≡ q → x ≡ y
 same_in x y p q a b e = cc

@@ -1,6 +1,7 @@
 -- What one more byte does to the segments of a stream.
 use Rattle.std.proofs.Common.{◌≡◌, ℕ, Bool, true, false, List, [], ◌∷◌, ◌++◌, refl, ap, ◌∙◌, nat_lt, if◌then◌else◌}
-use Rattle.midi_stream.specs.Segments.{clean, is_data, Segment, leading_data, segments, extended, begun, with_status, with_byte}
+use Rattle.midi_stream.specs.Segments.{clean, is_data, Segment, leading_data, segments}
+use Rattle.midi_stream.specs.Growth.{extended, begun, with_status, with_byte}
 
 leading_status : (xs : List ℕ) (b : ℕ) → is_data b ≡ false → leading_data (xs ++ b ∷ []) ≡ leading_data xs
 leading_status [] b f = rw f

@@ -1,10 +1,11 @@
--- Messages, last segment and last system exclusive message where one more byte comes.
+-- Messages, last segment and last SysEx message where one more byte comes.
 use Rattle.std.proofs.Common.{◌≡◌, ℕ, ◌≤◌, Bool, true, false, ◌&&◌, List, [], ◌∷◌, ◌++◌, refl, ap, sym, ◌∙◌, arith, append_assoc, nat_lt, nat_eq, if◌then◌else◌}
 use Rattle.std.proofs.Common.{append-nil}
 use Rattle.std.specs.Prelude.{Option, Some, None}
 use Rattle.midi_stream.specs.declared.message.MidiMessage.{MidiMessage}
-use Rattle.midi_stream.specs.Segments.{Segment, last_segment, grown, extended, begun, with_status}
-use Rattle.midi_stream.specs.Messages.{segment_messages, takes_one, messages_of, ended_by, exclusive_at_end}
+use Rattle.midi_stream.specs.Segments.{Segment, last_segment}
+use Rattle.midi_stream.specs.Growth.{grown, extended, begun, with_status}
+use Rattle.midi_stream.specs.Messages.{segment_messages, takes_one, messages_of, ended_by, sysex_at_end}
 use Rattle.midi_stream.specs.Standing.{Answers}
 
 -- the messages before the last segment, as the later ones leave them
@@ -49,14 +50,14 @@ last_extended (s ∷ []) b h = refl
 last_extended (s ∷ t ∷ []) b h = refl
 last_extended (s ∷ t ∷ u ∷ later) b h = last_extended (t ∷ u ∷ later) b h
 
-pub end_extended : (parts : List Segment) (b : ℕ) → exclusive_at_end (extended parts b) ≡ exclusive_at_end parts
+pub end_extended : (parts : List Segment) (b : ℕ) → sysex_at_end (extended parts b) ≡ sysex_at_end parts
 end_extended [] b = refl
 end_extended (s ∷ []) b = refl
 end_extended (s ∷ t ∷ []) b = refl
 end_extended (s ∷ t ∷ u ∷ []) b = refl
 end_extended (s ∷ t ∷ u ∷ v ∷ later) b = end_extended (t ∷ u ∷ v ∷ later) b
 
-pub end_status : (parts : List Segment) (b : ℕ) → exclusive_at_end (with_status parts b) ≡ ended_by (last_segment parts) (begun b)
+pub end_status : (parts : List Segment) (b : ℕ) → sysex_at_end (with_status parts b) ≡ ended_by (last_segment parts) (begun b)
 end_status [] b = refl
 end_status (s ∷ []) b = refl
 end_status (s ∷ t ∷ []) b = refl
@@ -75,9 +76,9 @@ none_begun_by false one xs e = e
 pub none_begun : (b : ℕ) → segment_messages (begun b) 0 ≡ []
 none_begun b = none_begun_by (nat_lt b 240) (takes_one b) _ (none_by_none (nat_eq b 240) false _ refl)
 
-joined : (front before now : List MidiMessage) (answer : Option MidiMessage) → Answers answer before now → Answers answer (front ++ before) (front ++ now)
-joined front before now None h = ap (λ (l : List MidiMessage). front ++ l) h
-joined front before now (Some m) h = ap (λ (l : List MidiMessage). front ++ l) h ∙ sym (append_assoc front before (m ∷ []))
+joined : (prefix before now : List MidiMessage) (answer : Option MidiMessage) → Answers answer before now → Answers answer (prefix ++ before) (prefix ++ now)
+joined prefix before now None h = ap (λ (l : List MidiMessage). prefix ++ l) h
+joined prefix before now (Some m) h = ap (λ (l : List MidiMessage). prefix ++ l) h ∙ sym (append_assoc prefix before (m ∷ []))
 
 answers_at : (answer : Option MidiMessage) (a b c d : List MidiMessage) → a ≡ b → c ≡ d → Answers answer b d → Answers answer a c
 answers_at answer a b c d p q h = rw (p, q) h

@@ -1,13 +1,13 @@
--- What a place in a message says of the end of the stream.
+-- What a state in a message says of the end of the stream.
 use Rattle.std.proofs.Common.{◌≡◌, ◌≢◌, ℕ, ◌<◌, ◌≤◌, ◌⊎◌, inl, inr, Bool, true, false, ◌&&◌, ◌||◌, not, List, [], ◌∷◌, ◌++◌, length, take, refl, sym, subst, ◌∙◌, arith, nat_eq, length-append}
 use Rattle.std.specs.Prelude.{Option, None, IfSome}
 use Rattle.std.proofs.lemmas.List.{take_all, take-append-le}
 use Rattle.std.proofs.lemmas.Bool.{lt-ltb, le-ltb, le-leb, ne_eqb}
-use Rattle.midi_stream.specs.declared.place.Place.{Place}
-use Rattle.midi_stream.specs.declared.place.Place.TheVariants.{Between, Begun, Running, Half, Exclusive}
+use Rattle.midi_stream.specs.declared.state.ParserState.{ParserState}
+use Rattle.midi_stream.specs.declared.state.ParserState.TheVariants.{Between, Begun, Running, Half, InSysEx}
 use Rattle.midi_stream.specs.Segments.{Segment, last_segment}
-use Rattle.midi_stream.specs.Messages.{unused_data, is_empty, is_open, exclusive_at_end}
-use Rattle.midi_stream.specs.Place.{rests}
+use Rattle.midi_stream.specs.Messages.{unused_data, is_empty, is_open, sysex_at_end}
+use Rattle.midi_stream.specs.ParserState.{rests}
 use Rattle.midi_stream.specs.Standing.{IsChannel, StandsAt}
 
 -- whether a channel segment is open
@@ -35,28 +35,28 @@ closed_not_open parts (inr h) =
     let n : nat_eq (last_segment parts).status 240 ≡ false = ne_eqb (last_segment parts).status 240 (λ q. omega (arith, q, h)) in
     rw (n, le-leb 128 (last_segment parts).status low, le-ltb (last_segment parts).status 240 le)
 
-exclusive_open : (segment : Segment) → segment.status ≡ 240 → is_open segment ≡ true
-exclusive_open segment e = rw e
+sysex_open : (segment : Segment) → segment.status ≡ 240 → is_open segment ≡ true
+sysex_open segment e = rw e
 
-pub rests_is : (place : Place) (kept : List ℕ) (parts : List Segment) → StandsAt place kept parts → rests place ≡ not (is_open (last_segment parts))
+pub rests_is : (state : ParserState) (kept : List ℕ) (parts : List Segment) → StandsAt state kept parts → rests state ≡ not (is_open (last_segment parts))
 rests_is Between kept parts h = rw (closed_not_open parts h.closed)
 rests_is (Begun status) kept parts h = rw (channel_open status (last_segment parts) h.channel, h.none)
 rests_is (Running status) kept parts h = rw (channel_open status (last_segment parts) h.channel, empty_not (last_segment parts).data_bytes h.some, h.unused)
 rests_is (Half status first) kept parts h = rw (channel_open status (last_segment parts) h.channel, h.unused, or_true (is_empty (last_segment parts).data_bytes))
-rests_is (Exclusive count) kept parts h = rw (exclusive_open (last_segment parts) h.status)
+rests_is (InSysEx count) kept parts h = rw (sysex_open (last_segment parts) h.status)
 
 both_not : (a b : Bool) → b ≡ false → (a && b) ≡ false
 both_not true b h = h
 both_not false b h = refl
 
-none_at_end : (parts : List Segment) → (last_segment parts).status ≢ 247 → exclusive_at_end parts ≡ None
+none_at_end : (parts : List Segment) → (last_segment parts).status ≢ 247 → sysex_at_end parts ≡ None
 none_at_end [] h = refl
 none_at_end (s ∷ []) h = refl
 none_at_end (s ∷ t ∷ []) h = rw (both_not (nat_eq s.status 240) (nat_eq t.status 247) (ne_eqb t.status 247 h))
 none_at_end (s ∷ t ∷ u ∷ later) h = none_at_end (t ∷ u ∷ later) h
 
 abbrev HasText : List ℕ → List Segment → Type 0
-HasText kept parts = IfSome (exclusive_at_end parts) (λ text. length text ≤ 5000 → kept ≡ text)
+HasText kept parts = IfSome (sysex_at_end parts) (λ text. length text ≤ 5000 → kept ≡ text)
 
 no_text : (kept : List ℕ) (parts : List Segment) → (last_segment parts).status ≢ 247 → HasText kept parts
 no_text kept parts h = subst (λ (o : Option (List ℕ)). IfSome o (λ text. length text ≤ 5000 → kept ≡ text)) (sym (none_at_end parts h)) tt
@@ -65,12 +65,12 @@ channel_no_text : (status : ℕ) (kept : List ℕ) (parts : List Segment) → Is
 channel_no_text status kept parts h = no_text kept parts (λ e. let s = h.same in let high = h.high in omega arith)
 
 -- the bytes that are kept are those of the message that ended
-pub text_is : (place : Place) (kept : List ℕ) (parts : List Segment) → StandsAt place kept parts → HasText kept parts
+pub text_is : (state : ParserState) (kept : List ℕ) (parts : List Segment) → StandsAt state kept parts → HasText kept parts
 text_is Between kept parts h = h.text
 text_is (Begun status) kept parts h = channel_no_text status kept parts h.channel
 text_is (Running status) kept parts h = channel_no_text status kept parts h.channel
 text_is (Half status first) kept parts h = channel_no_text status kept parts h.channel
-text_is (Exclusive count) kept parts h = no_text kept parts (λ e. let s = h.status in omega arith)
+text_is (InSysEx count) kept parts h = no_text kept parts (λ e. let s = h.status in omega arith)
 
 pub kept_all : (xs : List ℕ) (b : ℕ) → length xs < 5000 → take 5000 (xs ++ b ∷ []) ≡ xs ++ b ∷ []
 kept_all xs b lt = take_all 5000 (xs ++ b ∷ []) (omega (arith, length-append xs (b ∷ [])))

@@ -1,14 +1,17 @@
--- What one more byte does at each place in a message.
+-- What one more byte does at each state in a message.
 use Rattle.std.proofs.Common.{◌≡◌, ◌≢◌, ℕ, zero, suc, ◌+◌, ◌-◌, ◌^◌, ◌<◌, ◌≤◌, ◌⊎◌, inl, inr, Bool, true, false, ◌&&◌, List, [], ◌∷◌, ◌++◌, length, take, min, refl, ap, sym, subst, ◌∙◌, arith, map, nat_eq, length-append, lit<}
 use Rattle.std.specs.Prelude.{Option, Some, None, IfSome}
 use Rattle.std.proofs.lemmas.List.{take_all}
 use Rattle.std.proofs.lemmas.Bool.{le-ltb, ne_eqb, eqb-true}
 use Rattle.midi_stream.specs.declared.message.MidiMessage.{MidiMessage}
-use Rattle.midi_stream.specs.declared.place.Place.{Place}
-use Rattle.midi_stream.specs.declared.place.Place.TheVariants.{Between, Begun, Running, Half, Exclusive}
-use Rattle.midi_stream.specs.Segments.{Segment, last_segment, grown, extended, begun, with_status}
-use Rattle.midi_stream.specs.Messages.{message_of_one, message_of_two, takes_one, by_twos, after_twos, channel_messages, unused_data, exclusive_message, segment_messages, messages_of, ended_by, exclusive_at_end}
-use Rattle.midi_stream.specs.Standing.{IsBetween, IsChannel, IsBegun, IsRunning, IsHalf, IsExclusive, EndsNone, StandsAt, kept_with}
+use Rattle.midi_stream.specs.declared.state.ParserState.{ParserState}
+use Rattle.midi_stream.specs.declared.state.ParserState.TheVariants.{Between, Begun, Running, Half, InSysEx}
+use Rattle.midi_stream.specs.Segments.{Segment, last_segment}
+use Rattle.midi_stream.specs.Growth.{grown, extended, begun, with_status}
+use Rattle.midi_stream.specs.Messages.{message_of_one, message_of_two, takes_one, by_twos, after_twos, channel_messages, unused_data, sysex_message, segment_messages, messages_of, ended_by, sysex_at_end}
+use Rattle.midi_stream.specs.declared.step.Step.{Step}
+use Rattle.midi_stream.specs.Steps.{Advances}
+use Rattle.midi_stream.specs.Standing.{Answers, HasBytes, IsBetween, IsChannel, IsBegun, IsRunning, IsHalf, IsSysEx, EndsNone, StandsAt, kept_with}
 use Rattle.midi_stream.proofs.Ends.{last_status, same_status, last_extended, end_extended, end_status, answer_data, answer_status}
 use Rattle.midi_stream.proofs.Groups.{first_of_two, second_of_two, one_more, not_empty, channel_segment}
 
@@ -32,6 +35,9 @@ twos status bytes t = rw t
 
 unused_two : (status : ℕ) (bytes : List ℕ) → takes_one status ≡ false → unused_data status bytes ≡ after_twos bytes
 unused_two status bytes t = rw t
+
+pub unused_begun : (status : ℕ) (parts : List Segment) → takes_one status ≡ false → IsBegun status (last_segment parts) → unused_data status (last_segment parts).data_bytes ≡ []
+unused_begun status parts t h = unused_two status (last_segment parts).data_bytes t ∙ ap after_twos h.none
 
 -- what a channel segment gives where one more data byte comes
 grown_messages : (status : ℕ) (parts : List Segment) (b : ℕ) → IsChannel status (last_segment parts) → segment_messages (last_segment (extended parts b)) 0 ≡ channel_messages status ((last_segment parts).data_bytes ++ b ∷ [])
@@ -79,10 +85,10 @@ answer_second status first parts b h =
     let now : segment_messages (last_segment (extended parts b)) 0 ≡ by_twos status bytes ++ m = grown_messages status parts b h.channel ∙ twos status (bytes ++ b ∷ []) h.two ∙ g.more in
     answer_data parts b (Some (message_of_two status first b)) (now ∙ ap (λ (l : List MidiMessage). l ++ m) (sym before))
 
-not_exclusive : (b : ℕ) → b < 128 → nat_eq b 240 ≡ false
-not_exclusive b lt = ne_eqb b 240 (λ e. omega arith)
+not_sysex : (b : ℕ) → b < 128 → nat_eq b 240 ≡ false
+not_sysex b lt = ne_eqb b 240 (λ e. omega arith)
 
--- a system segment other than a system exclusive one gives nothing
+-- a system segment other than a SysEx one gives nothing
 system_none : (segment : Segment) (next : ℕ) → 240 < segment.status → segment_messages segment next ≡ []
 system_none segment next h =
     let le : 240 ≤ segment.status = omega arith in
@@ -96,11 +102,11 @@ closed_data parts b (inr h) = inr (rw (same_status parts b) h)
 
 between_data : (kept : List ℕ) (parts : List Segment) (b : ℕ) → b < 128 → StandsAt Between kept parts → StandsAt Between (kept_with Between kept b) (extended parts b)
 between_data kept parts b lt h =
-    let e = not_exclusive b lt in
+    let e = not_sysex b lt in
     let k : kept_with Between kept b ≡ kept = rw e in
     record {
       closed = closed_data parts b h.closed;
-      text = subst (λ (o : Option (List ℕ)). IfSome o (λ text. length text ≤ 5000 → kept_with Between kept b ≡ text)) (sym (end_extended parts b)) (subst (λ (l : List ℕ). IfSome (exclusive_at_end parts) (λ text. length text ≤ 5000 → l ≡ text)) (sym k) h.text);
+      text = subst (λ (o : Option (List ℕ)). IfSome o (λ text. length text ≤ 5000 → kept_with Between kept b ≡ text)) (sym (end_extended parts b)) (subst (λ (l : List ℕ). IfSome (sysex_at_end parts) (λ text. length text ≤ 5000 → l ≡ text)) (sym k) h.text);
     }
 
 between_same : (parts : List Segment) (b : ℕ) → (parts ≡ []) ⊎ (240 < (last_segment parts).status) → messages_of (extended parts b) ≡ messages_of parts
@@ -109,12 +115,12 @@ between_same parts b (inr h) =
     let more : 240 < (last_segment (extended parts b)).status = rw (same_status parts b) h in
     answer_data parts b None (system_none (last_segment (extended parts b)) 0 more ∙ sym (system_none (last_segment parts) 0 h))
 
-pub stands_between_data : (place : Place) (kept : List ℕ) (parts : List Segment) (b : ℕ) → place ≡ Between → b < 128 → StandsAt place kept parts → StandsAt place (kept_with place kept b) (extended parts b)
-stands_between_data place kept parts b e lt = subst (λ (p : Place). StandsAt p kept parts → StandsAt p (kept_with p kept b) (extended parts b)) (sym e) (between_data kept parts b lt)
+pub stands_between_data : (state : ParserState) (kept : List ℕ) (parts : List Segment) (b : ℕ) → state ≡ Between → b < 128 → StandsAt state kept parts → StandsAt state (kept_with state kept b) (extended parts b)
+stands_between_data state kept parts b e lt = subst (λ (p : ParserState). StandsAt p kept parts → StandsAt p (kept_with p kept b) (extended parts b)) (sym e) (between_data kept parts b lt)
 
-pub answer_between_data : (place : Place) (kept : List ℕ) (parts : List Segment) (b : ℕ) → place ≡ Between → StandsAt place kept parts → messages_of (extended parts b) ≡ messages_of parts
-answer_between_data place kept parts b e h =
-    let at : StandsAt Between kept parts = subst (λ (p : Place). StandsAt p kept parts) e h in
+pub answer_between_data : (state : ParserState) (kept : List ℕ) (parts : List Segment) (b : ℕ) → state ≡ Between → StandsAt state kept parts → messages_of (extended parts b) ≡ messages_of parts
+answer_between_data state kept parts b e h =
+    let at : StandsAt Between kept parts = subst (λ (p : ParserState). StandsAt p kept parts) e h in
     between_same parts b at.closed
 
 take_again : (n : ℕ) (xs : List ℕ) (b : ℕ) → take n (take n xs ++ b ∷ []) ≡ take n (xs ++ b ∷ [])
@@ -122,32 +128,32 @@ take_again zero xs b = refl
 take_again (suc n) [] b = refl
 take_again (suc n) (x ∷ xs) b = ap (λ (l : List ℕ). x ∷ l) (take_again n xs b)
 
--- a data byte of a system exclusive message
-exclusive_status : (count : ℕ) (kept : List ℕ) (segment : Segment) → IsExclusive count kept segment → 128 ≤ segment.status
-exclusive_status count kept segment h = let e = h.status in omega arith
+-- a data byte of a SysEx message
+sysex_status : (count : ℕ) (kept : List ℕ) (segment : Segment) → IsSysEx count kept segment → 128 ≤ segment.status
+sysex_status count kept segment h = let e = h.status in omega arith
 
-exclusive_data : (count more : ℕ) (kept : List ℕ) (parts : List Segment) (b : ℕ) → b < 128 → more ≡ min (count + 1) (2 ^ 32 - 1) → StandsAt (Exclusive count) kept parts → IsExclusive more (kept_with (Exclusive count) kept b) (last_segment (extended parts b))
-exclusive_data count more kept parts b lt m h =
+sysex_data : (count more : ℕ) (kept : List ℕ) (parts : List Segment) (b : ℕ) → b < 128 → more ≡ min (count + 1) (2 ^ 32 - 1) → StandsAt (InSysEx count) kept parts → IsSysEx more (kept_with (InSysEx count) kept b) (last_segment (extended parts b))
+sysex_data count more kept parts b lt m h =
     let bytes = (last_segment parts).data_bytes in
-    let e = not_exclusive b lt in
-    let k : kept_with (Exclusive count) kept b ≡ take 5000 (240 ∷ (bytes ++ b ∷ [])) = rw (e, h.first) (take_again 5000 (240 ∷ bytes) b) in
+    let e = not_sysex b lt in
+    let k : kept_with (InSysEx count) kept b ≡ take 5000 (240 ∷ (bytes ++ b ∷ [])) = rw (e, h.first) (take_again 5000 (240 ∷ bytes) b) in
     let c = h.so_many in
     let l : length (bytes ++ b ∷ []) ≡ length bytes + 1 = length-append bytes (b ∷ []) in
-    subst (IsExclusive more (kept_with (Exclusive count) kept b)) (sym (last_extended parts b (exclusive_status _ _ _ h)))
+    subst (IsSysEx more (kept_with (InSysEx count) kept b)) (sym (last_extended parts b (sysex_status _ _ _ h)))
     (record { status = h.status; so_many = omega arith; first = k })
 
-exclusive_none : (segment : Segment) → segment.status ≡ 240 → segment_messages segment 0 ≡ []
-exclusive_none segment e = rw e
+sysex_none : (segment : Segment) → segment.status ≡ 240 → segment_messages segment 0 ≡ []
+sysex_none segment e = rw e
 
-exclusive_same : (count : ℕ) (kept : List ℕ) (parts : List Segment) (b : ℕ) → IsExclusive count kept (last_segment parts) → messages_of (extended parts b) ≡ messages_of parts
-exclusive_same count kept parts b h =
-    answer_data parts b None (exclusive_none (last_segment (extended parts b)) (same_status parts b ∙ h.status) ∙ sym (exclusive_none (last_segment parts) h.status))
+sysex_same : (count : ℕ) (kept : List ℕ) (parts : List Segment) (b : ℕ) → IsSysEx count kept (last_segment parts) → messages_of (extended parts b) ≡ messages_of parts
+sysex_same count kept parts b h =
+    answer_data parts b None (sysex_none (last_segment (extended parts b)) (same_status parts b ∙ h.status) ∙ sym (sysex_none (last_segment parts) h.status))
 
-pub stands_exclusive_data : (place : Place) (count more : ℕ) (kept : List ℕ) (parts : List Segment) (b : ℕ) → place ≡ Exclusive count → b < 128 → more ≡ min (count + 1) (2 ^ 32 - 1) → StandsAt place kept parts → IsExclusive more (kept_with place kept b) (last_segment (extended parts b))
-stands_exclusive_data place count more kept parts b e lt m = subst (λ (p : Place). StandsAt p kept parts → IsExclusive more (kept_with p kept b) (last_segment (extended parts b))) (sym e) (exclusive_data count more kept parts b lt m)
+pub stands_sysex_data : (state : ParserState) (count more : ℕ) (kept : List ℕ) (parts : List Segment) (b : ℕ) → state ≡ InSysEx count → b < 128 → more ≡ min (count + 1) (2 ^ 32 - 1) → StandsAt state kept parts → IsSysEx more (kept_with state kept b) (last_segment (extended parts b))
+stands_sysex_data state count more kept parts b e lt m = subst (λ (p : ParserState). StandsAt p kept parts → IsSysEx more (kept_with p kept b) (last_segment (extended parts b))) (sym e) (sysex_data count more kept parts b lt m)
 
-pub answer_exclusive_data : (place : Place) (count : ℕ) (kept : List ℕ) (parts : List Segment) (b : ℕ) → place ≡ Exclusive count → StandsAt place kept parts → messages_of (extended parts b) ≡ messages_of parts
-answer_exclusive_data place count kept parts b e h = exclusive_same count kept parts b (subst (λ (p : Place). StandsAt p kept parts) e h)
+pub answer_sysex_data : (state : ParserState) (count : ℕ) (kept : List ℕ) (parts : List Segment) (b : ℕ) → state ≡ InSysEx count → StandsAt state kept parts → messages_of (extended parts b) ≡ messages_of parts
+answer_sysex_data state count kept parts b e h = sysex_same count kept parts b (subst (λ (p : ParserState). StandsAt p kept parts) e h)
 
 both_not : (a b : Bool) → (a ≡ true → b ≡ false) → (a && b) ≡ false
 both_not true b h = h refl
@@ -162,7 +168,7 @@ same_next segment next h =
     let z : (nat_eq segment.status 240 && false) ≡ false = both_not (nat_eq segment.status 240) false (λ t. refl) in
     rw (e, z)
 
--- a status byte that ends no system exclusive message gives none
+-- a status byte that ends no SysEx message gives none
 pub answer_none : (parts : List Segment) (b : ℕ) → EndsNone parts b → messages_of (with_status parts b) ≡ messages_of parts
 answer_none parts b h = answer_status parts b None (same_next (last_segment parts) b h)
 
@@ -172,9 +178,9 @@ none_ended segment b h = rw (not_ended segment b h)
 pub begun_channel : (parts : List Segment) (b : ℕ) → 128 ≤ b → b < 240 → IsBegun b (last_segment (with_status parts b))
 begun_channel parts b low high = subst (IsBegun b) (sym (last_status parts b)) (record { channel = record { same = refl; low = low; high = high }; none = refl })
 
-pub begun_exclusive : (place : Place) (kept : List ℕ) (parts : List Segment) (b : ℕ) → b ≡ 240 → IsExclusive 1 (kept_with place kept b) (last_segment (with_status parts b))
-begun_exclusive place kept parts b e = subst (λ (n : ℕ). IsExclusive 1 (kept_with place kept n) (last_segment (with_status parts n))) (sym e)
-    (subst (IsExclusive 1 (240 ∷ [])) (sym (last_status parts 240)) (record { status = refl; so_many = refl; first = refl }))
+pub begun_sysex : (state : ParserState) (kept : List ℕ) (parts : List Segment) (b : ℕ) → b ≡ 240 → IsSysEx 1 (kept_with state kept b) (last_segment (with_status parts b))
+begun_sysex state kept parts b e = subst (λ (n : ℕ). IsSysEx 1 (kept_with state kept n) (last_segment (with_status parts n))) (sym e)
+    (subst (IsSysEx 1 (240 ∷ [])) (sym (last_status parts 240)) (record { status = refl; so_many = refl; first = refl }))
 
 pub begun_other : (kept : List ℕ) (parts : List Segment) (b : ℕ) → 240 < b → EndsNone parts b → IsBetween kept (with_status parts b)
 begun_other kept parts b high h = record {
@@ -188,38 +194,50 @@ some_ended segment e = rw e
 kept_whole : (kept bytes : List ℕ) → kept ≡ take 5000 (240 ∷ bytes) → length (240 ∷ bytes ++ 247 ∷ []) ≤ 5000 → take 5000 (kept ++ 247 ∷ []) ≡ 240 ∷ bytes ++ 247 ∷ []
 kept_whole kept bytes e small = rw e (take_again 5000 (240 ∷ bytes) 247 ∙ take_all 5000 (240 ∷ bytes ++ 247 ∷ []) small)
 
--- the end of a system exclusive message
-pub stands_end : (count : ℕ) (kept : List ℕ) (parts : List Segment) (b : ℕ) → b ≡ 247 → IsExclusive count kept (last_segment parts) → IsBetween (kept_with (Exclusive count) kept b) (with_status parts b)
-stands_end count kept parts b e h = subst (λ (n : ℕ). IsBetween (kept_with (Exclusive count) kept n) (with_status parts n)) (sym e)
+-- the end of a SysEx message
+pub stands_end : (count : ℕ) (kept : List ℕ) (parts : List Segment) (b : ℕ) → b ≡ 247 → IsSysEx count kept (last_segment parts) → IsBetween (kept_with (InSysEx count) kept b) (with_status parts b)
+stands_end count kept parts b e h = subst (λ (n : ℕ). IsBetween (kept_with (InSysEx count) kept n) (with_status parts n)) (sym e)
     (record {
       closed = inr (rw (last_status parts 247) (lit< tt));
-      text = subst (λ (o : Option (List ℕ)). IfSome o (λ text. length text ≤ 5000 → kept_with (Exclusive count) kept 247 ≡ text)) (sym (end_status parts 247 ∙ some_ended (last_segment parts) h.status)) (kept_whole kept (last_segment parts).data_bytes h.first);
+      text = subst (λ (o : Option (List ℕ)). IfSome o (λ text. length text ≤ 5000 → kept_with (InSysEx count) kept 247 ≡ text)) (sym (end_status parts 247 ∙ some_ended (last_segment parts) h.status)) (kept_whole kept (last_segment parts).data_bytes h.first);
     })
 
-exclusive_at : (segment : Segment) → segment.status ≡ 240 → segment_messages segment 247 ≡ exclusive_message (length segment.data_bytes + 2) ∷ []
-exclusive_at segment e = rw e
+sysex_at : (segment : Segment) → segment.status ≡ 240 → segment_messages segment 247 ≡ sysex_message (length segment.data_bytes + 2) ∷ []
+sysex_at segment e = rw e
 
-pub answer_end : (count : ℕ) (kept : List ℕ) (parts : List Segment) (b : ℕ) → b ≡ 247 → IsExclusive count kept (last_segment parts) → messages_of (with_status parts b) ≡ messages_of parts ++ exclusive_message (length (last_segment parts).data_bytes + 2) ∷ []
-answer_end count kept parts b e h = subst (λ (n : ℕ). messages_of (with_status parts n) ≡ messages_of parts ++ exclusive_message (length (last_segment parts).data_bytes + 2) ∷ []) (sym e)
-    (let m : List MidiMessage = exclusive_message (length (last_segment parts).data_bytes + 2) ∷ [] in
-    answer_status parts 247 (Some (exclusive_message (length (last_segment parts).data_bytes + 2))) (exclusive_at (last_segment parts) h.status ∙ ap (λ (l : List MidiMessage). l ++ m) (sym (exclusive_none (last_segment parts) h.status))))
+pub answer_end : (count : ℕ) (kept : List ℕ) (parts : List Segment) (b : ℕ) → b ≡ 247 → IsSysEx count kept (last_segment parts) → messages_of (with_status parts b) ≡ messages_of parts ++ sysex_message (length (last_segment parts).data_bytes + 2) ∷ []
+answer_end count kept parts b e h = subst (λ (n : ℕ). messages_of (with_status parts n) ≡ messages_of parts ++ sysex_message (length (last_segment parts).data_bytes + 2) ∷ []) (sym e)
+    (let m : List MidiMessage = sysex_message (length (last_segment parts).data_bytes + 2) ∷ [] in
+    answer_status parts 247 (Some (sysex_message (length (last_segment parts).data_bytes + 2))) (sysex_at (last_segment parts) h.status ∙ ap (λ (l : List MidiMessage). l ++ m) (sym (sysex_none (last_segment parts) h.status))))
 
-pub count_at_end : (count more : ℕ) (kept : List ℕ) (segment : Segment) → IsExclusive count kept segment → more ≡ min (count + 1) (2 ^ 32 - 1) → more ≡ min (length segment.data_bytes + 2) (2 ^ 32 - 1)
+pub count_at_end : (count more : ℕ) (kept : List ℕ) (segment : Segment) → IsSysEx count kept segment → more ≡ min (count + 1) (2 ^ 32 - 1) → more ≡ min (length segment.data_bytes + 2) (2 ^ 32 - 1)
 count_at_end count more kept segment h e = let c = h.so_many in omega arith
 
--- outside a system exclusive message nothing ends one
-pub outside_none : (place : Place) (kept : List ℕ) (parts : List Segment) (b : ℕ) → ((count : ℕ) → place ≡ Exclusive count → ⊥) → StandsAt place kept parts → EndsNone parts b
+-- outside a SysEx message nothing ends one
+pub outside_none : (state : ParserState) (kept : List ℕ) (parts : List Segment) (b : ℕ) → ((count : ℕ) → state ≡ InSysEx count → ⊥) → StandsAt state kept parts → EndsNone parts b
 outside_none Between kept parts b n h = λ e f. elim h.closed [ inl g ↦ absurd (let z : (last_segment parts).status ≡ 0 = ap (λ (p : List Segment). (last_segment p).status) g in omega arith) | inr g ↦ absurd (omega arith) ]
 outside_none (Begun status) kept parts b n h = λ e f. absurd (let s = h.channel.same in let l = h.channel.high in omega arith)
 outside_none (Running status) kept parts b n h = λ e f. absurd (let s = h.channel.same in let l = h.channel.high in omega arith)
 outside_none (Half status first) kept parts b n h = λ e f. absurd (let s = h.channel.same in let l = h.channel.high in omega arith)
-outside_none (Exclusive count) kept parts b n h = absurd (n count refl)
+outside_none (InSysEx count) kept parts b n h = absurd (n count refl)
 
-pub text_at_end : (count : ℕ) (kept : List ℕ) (parts : List Segment) (b : ℕ) → b ≡ 247 → IsExclusive count kept (last_segment parts) → exclusive_at_end (with_status parts b) ≡ Some (240 ∷ (last_segment parts).data_bytes ++ 247 ∷ [])
+pub text_at_end : (count : ℕ) (kept : List ℕ) (parts : List Segment) (b : ℕ) → b ≡ 247 → IsSysEx count kept (last_segment parts) → sysex_at_end (with_status parts b) ≡ Some (240 ∷ (last_segment parts).data_bytes ++ 247 ∷ [])
 text_at_end count kept parts b e h = end_status parts b ∙ ap (λ (n : ℕ). ended_by (last_segment parts) (begun n)) e ∙ some_ended (last_segment parts) h.status
 
-pub length_at_end : (count more : ℕ) (kept : List ℕ) (segment : Segment) → IsExclusive count kept segment → more ≡ min (count + 1) (2 ^ 32 - 1) → more ≡ min (length (240 ∷ segment.data_bytes ++ 247 ∷ [])) (2 ^ 32 - 1)
+pub length_at_end : (count more : ℕ) (kept : List ℕ) (segment : Segment) → IsSysEx count kept segment → more ≡ min (count + 1) (2 ^ 32 - 1) → more ≡ min (length (240 ∷ segment.data_bytes ++ 247 ∷ [])) (2 ^ 32 - 1)
 length_at_end count more kept segment h e =
     let c = h.so_many in
     let l : length (240 ∷ segment.data_bytes ++ 247 ∷ []) ≡ length (240 ∷ segment.data_bytes) + 1 = length-append (240 ∷ segment.data_bytes) (247 ∷ []) in
     omega arith
+
+-- a step stays one where the segments grow alike
+pub advances_by :
+    (f g : List Segment → ℕ → List Segment) (before : ParserState) (b : ℕ) (step : Step) → ((parts : List Segment) → f parts b ≡ g parts b)
+    → Advances before b f step → Advances before b g step
+advances_by f g before b step e a = record {
+  stands = λ kept parts h. subst (λ (now : List Segment). StandsAt step.state (kept_with before kept b) now) (e parts) (a.stands kept parts h);
+  answer = λ kept parts h. subst (λ (now : List Segment). Answers step.message (messages_of parts) (messages_of now)) (e parts) (a.answer kept parts h);
+  bytes = λ kept parts h. subst (λ (now : List Segment). IfSome step.message (λ message. HasBytes message (sysex_at_end now))) (e parts) (a.bytes kept parts h);
+  range = a.range;
+  holds = a.holds;
+}

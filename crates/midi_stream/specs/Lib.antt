@@ -1,6 +1,8 @@
 pub mod Segments
 pub mod Messages
-pub mod Place
+pub mod ParserState
 pub mod Ranges
 pub mod Standing
 pub mod Reading
+pub mod Growth
+pub mod Steps

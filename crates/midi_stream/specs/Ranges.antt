@@ -1,7 +1,8 @@
 -- The ranges of the fields of messages.
 use Rattle.std.specs.Prelude.{◌<◌, ◌≤◌}
 use Rattle.midi_stream.specs.declared.message.MidiMessage.{MidiMessage}
-use Rattle.midi_stream.specs.declared.message.MidiMessage.TheVariants.{NoteOff, NoteOn, KeyPressure, Control, Program, ChannelPressure, Bend, SysEx, SysExTooLong}
+use Rattle.midi_stream.specs.declared.message.MidiMessage.TheVariants.{NoteOff, NoteOn, KeyPressure, Control, Program, ChannelPressure}
+use Rattle.midi_stream.specs.declared.message.MidiMessage.TheVariants.{Bend, SysEx, SysExTooLong}
 
 -- channels to 15, bends to 16383, other values to 127; a note-on has a velocity, and kept bytes are 2 to 5000
 abbrev pub InRange : MidiMessage → Type 0

@@ -1,4 +1,4 @@
--- A stream of MIDI bytes, cut into segments: a status byte with the data bytes behind it.
+-- A stream of MIDI bytes, cut into segments: a status byte with the data bytes after it.
 use Rattle.std.specs.Prelude.{ℕ, nat_lt, Bool, List, [], ◌∷◌, ◌++◌, filter, if◌then◌else◌}
 
 -- the stream without its real-time bytes, 248 to 255, which may stand anywhere
@@ -33,23 +33,3 @@ abbrev pub last_segment : List Segment → Segment
 last_segment [] = no_segment
 last_segment (segment ∷ []) = segment
 last_segment (segment ∷ next ∷ later) = last_segment (next ∷ later)
-
--- the segments where one more data byte comes
-abbrev pub grown : Segment → ℕ → Segment
-grown segment byte = record { status = segment.status; data_bytes = segment.data_bytes ++ byte ∷ [] }
-
-abbrev pub extended : List Segment → ℕ → List Segment
-extended [] byte = []
-extended (segment ∷ []) byte = grown segment byte ∷ []
-extended (segment ∷ next ∷ later) byte = segment ∷ extended (next ∷ later) byte
-
--- the segments where one more status byte comes
-abbrev pub begun : ℕ → Segment
-begun status = record { status = status; data_bytes = [] }
-
-abbrev pub with_status : List Segment → ℕ → List Segment
-with_status parts status = parts ++ begun status ∷ []
-
--- the segments where one more byte comes that is not a real-time byte
-abbrev pub with_byte : List Segment → ℕ → List Segment
-with_byte parts byte = if is_data byte then extended parts byte else with_status parts byte

@@ -4,8 +4,8 @@
 mod channel;
 mod kept;
 mod message;
-mod place;
 mod reader;
+mod state;
 mod step;
 
 pub use message::MidiMessage;

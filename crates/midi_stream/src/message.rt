@@ -1,3 +1,5 @@
+//! The messages of a stream.
+
 /// A message of a MIDI stream. Channels are 0 to 15, keys, numbers, velocities and values 0 to 127.
 #[derive(Clone, Copy, PartialEq, Eq, Debug, Drop)]
 pub enum MidiMessage {
@@ -15,7 +17,7 @@ pub enum MidiMessage {
     ChannelPressure { channel: u8, value: u8 },
     /// Status `E0`: 0 to 16383, 8192 in the middle.
     Bend { channel: u8, value: u16 },
-    /// A system exclusive message of so many bytes, from `F0` to `F7`.
+    /// A SysEx message of so many bytes, from `F0` to `F7`.
     SysEx { length: u32 },
     /// One above 5000 bytes; the length stops at 4294967295.
     SysExTooLong { length: u32 },

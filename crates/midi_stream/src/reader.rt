@@ -1,27 +1,27 @@
 //! The reader of a stream of MIDI bytes.
 
 ghost use Rattle.std.specs.Prelude.{◌≡◌, ◌≤◌, true, vec_len, vec_capacity};
-ghost use Rattle.midi_stream.specs.Place.{holds_data};
+ghost use Rattle.midi_stream.specs.ParserState.{holds_data};
 
 use crate::kept::{KEPT, keep};
 use crate::message::MidiMessage;
-use crate::place::Place;
+use crate::state::ParserState;
 use crate::step::next_step;
 use std::alloc::{AllocError, Global};
 
 /// A reader of a stream of MIDI bytes: it is fed byte by byte, and answers each message as it ends.
 #[derive(Drop)]
 pub struct MidiReader {
-    place: Place,
+    state: ParserState,
     kept: Vec<u8>,
     ghost room: { 5000 ≤ vec_capacity kept },
     ghost short: { vec_len kept ≤ 5000 },
-    ghost holds: { holds_data place ≡ true },
+    ghost holds: { holds_data state ≡ true },
 }
 
 impl MidiReader {
     ghost use Rattle.std.specs.Prelude.{ℕ, List, [], ◌∷◌, ◌++◌, ◌<◌, ◌↔◌, length, not, IfOk, IfSome};
-    ghost use Rattle.midi_stream.specs.Messages.{messages, is_unfinished, last_exclusive};
+    ghost use Rattle.midi_stream.specs.Messages.{messages, is_unfinished, last_sysex};
     ghost use Rattle.midi_stream.specs.declared.message.MidiMessage.{MidiMessage};
     ghost use Rattle.midi_stream.specs.Ranges.{InRange};
     ghost use Rattle.midi_stream.specs.Reading.{Reads};
@@ -35,7 +35,7 @@ impl MidiReader {
     {
         let kept = Vec::with_capacity(alloc, KEPT)?;
         Ok(MidiReader {
-            place: Place::Between,
+            state: ParserState::Between,
             kept,
         })
     }
@@ -45,23 +45,24 @@ impl MidiReader {
         ensures stands { (stream : List ℕ) → Reads self.old stream → Reads self.new (stream ++ byte ∷ []) }
         ensures answer { (stream : List ℕ) → Reads self.old stream → Answers result (messages stream) (messages (stream ++ byte ∷ [])) }
         ensures none { (stream : List ℕ) → Reads self.old stream → (result ≡ None) ↔ (messages (stream ++ byte ∷ []) ≡ messages stream) }
-        ensures some { (stream : List ℕ) (message : MidiMessage) → Reads self.old stream → (result ≡ Some message) ↔ (messages (stream ++ byte ∷ []) ≡ messages stream ++ message ∷ []) }
-        ensures bytes { (stream : List ℕ) → Reads self.old stream → IfSome result (λ message. HasBytes message (last_exclusive (stream ++ byte ∷ []))) }
+        ensures some { (stream : List ℕ) (message : MidiMessage) →
+            Reads self.old stream → (result ≡ Some message) ↔ (messages (stream ++ byte ∷ []) ≡ messages stream ++ message ∷ []) }
+        ensures bytes { (stream : List ℕ) → Reads self.old stream → IfSome result (λ message. HasBytes message (last_sysex (stream ++ byte ∷ []))) }
         ensures range { IfSome result InRange }
     {
         if byte >= 0xF8 {
             return None;
         }
-        let step = next_step(self.place, byte);
-        keep(&mut self.kept, self.place, byte);
-        self.place = step.place;
+        let step = next_step(self.state, byte);
+        keep(&mut self.kept, self.state, byte);
+        self.state = step.state;
         step.message
     }
 
-    /// The bytes of the system exclusive message that the last status byte ended, from `F0` to `F7`, if
+    /// The bytes of the SysEx message that the last status byte ended, from `F0` to `F7`, if
     /// they are at most 5000.
     pub fn sysex(&self) -> &[u8]
-        ensures text { (stream : List ℕ) → Reads self.now stream → IfSome (last_exclusive stream) (λ text. length text ≤ 5000 → result.now ≡ text) }
+        ensures text { (stream : List ℕ) → Reads self.now stream → IfSome (last_sysex stream) (λ text. length text ≤ 5000 → result.now ≡ text) }
         ensures bound { length result.now ≤ 5000 }
     {
         self.kept.as_slice()
@@ -71,6 +72,6 @@ impl MidiReader {
     pub fn at_rest(&self) -> bool
         ensures { (stream : List ℕ) → Reads self.now stream → result ≡ not (is_unfinished stream) }
     {
-        self.place.is_at_rest()
+        self.state.is_at_rest()
     }
 }

@@ -1,3 +1,5 @@
+//! Streams, byte by byte, and their messages.
+
 use crate::{MidiMessage, MidiReader};
 use std::alloc::{AllocError, Global};
 use std::test::Fail;
@@ -24,8 +26,8 @@ fn with_clocks(alloc: Global, stream: &[u8]) -> Result<Vec<u8>, AllocError> {
     Ok(bytes)
 }
 
-/// A system exclusive message of this many bytes.
-fn exclusive(alloc: Global, length: usize) -> Result<Vec<u8>, AllocError> {
+/// A SysEx message of this many bytes.
+fn sysex(alloc: Global, length: usize) -> Result<Vec<u8>, AllocError> {
     let mut bytes = Vec::new(alloc);
     bytes.push(0xF0)?;
     for _ in 2..length {
@@ -138,7 +140,7 @@ fn reads_streams(rt: HostRuntime) -> Result<(), Fail> {
 fn keeps_whole_messages(rt: HostRuntime) -> Result<(), Fail> {
     let alloc = rt.alloc();
     for length in [2usize, 5000, 5001, 6000] {
-        let bytes = exclusive(alloc, length)?;
+        let bytes = sysex(alloc, length)?;
         let mut reader = MidiReader::new(alloc)?;
         let mut last = None;
         for byte in bytes.as_slice() {

@@ -6,25 +6,25 @@ use Rattle.block_rates.specs.Pitches.{PitchEnvelopeSettings, pitch_envelope_leve
 use Rattle.block_rates.specs.PitchEnvelopes.{IsPitchEnvelope}
 use Rattle.block_rates.specs.Stages.{released_after}
 use Rattle.operator_kernel.specs.declared.OpBlock.{OpBlock}
-use Rattle.operator_kernel.specs.Operator.{HasGains, Memory, memory_of}
-use Rattle.algorithm_bus.specs.Signals.{Patch, memory_left, note_output}
+use Rattle.operator_kernel.specs.Operator.{HasGains, FeedbackState, feedback_state_of}
+use Rattle.algorithm_bus.specs.Signals.{Patch, feedback_state_left, note_output}
 use Rattle.algorithm_bus.specs.Buses.{HaveGains, IsBus, op_of, no_operator, patch_of}
 use Rattle.note_voice.specs.declared.operator.Operator.{Operator}
 use Rattle.note_voice.specs.Modulation.{Modulation, bend_pitch, pitch_modulation, vibrato, vibrato_depth}
-use Rattle.note_voice.specs.Note.{NoteData, begun, let_go, heard, played_note, four_from, pitch_settings, pitch_shift_in, step_in, drop_in, operator_in, is_on, muted, heard_in, operators_in, memory_before, note_patch, note_sample}
-use Rattle.note_voice.specs.Running.{IsOperator, AreOperators, IsMoved}
-use Rattle.note_voice.proofs.Prefix.{agrees_let_go, agrees_heard, memory_same}
-use Rattle.note_voice.proofs.Steps.{length_more, moved_last}
+use Rattle.note_voice.specs.Note.{NoteData, begun, note_released, after_block, played_note, four_from, pitch_settings, pitch_shift_in, increment_in, attenuation_in, operator_in, is_on, muted, audible_in, operators_in, feedback_state_before, note_patch, note_sample}
+use Rattle.note_voice.specs.Running.{IsOperator, AreOperators, IsModulated}
+use Rattle.note_voice.proofs.Prefix.{agrees_released, agrees_after_block, state_same}
+use Rattle.note_voice.proofs.Steps.{length_more, modulation_last}
 
 -- what is added to the pitch of the next block
-pub shift_is : (n : NoteData) (m : Modulation) (depth sensitivity : ℕ) (level r : ℤ) → depth ≡ get_or n.voice 139 0 → sensitivity ≡ get_or n.voice 143 0 → r ≡ level +ℤ vibrato (vibrato_depth depth m.delay m.wheel) sensitivity m.lfo +ℤ bend_pitch m.bend → level ≡ pitch_envelope_level (pitch_settings n.voice) (length n.past + 1) n.off → r ≡ pitch_shift_in (heard n m) (length n.past)
+pub shift_is : (n : NoteData) (m : Modulation) (depth sensitivity : ℕ) (level r : ℤ) → depth ≡ get_or n.voice 139 0 → sensitivity ≡ get_or n.voice 143 0 → r ≡ level +ℤ vibrato (vibrato_depth depth m.delay m.wheel) sensitivity m.lfo +ℤ bend_pitch m.bend → level ≡ pitch_envelope_level (pitch_settings n.voice) (length n.past + 1) n.off → r ≡ pitch_shift_in (after_block n m) (length n.past)
 unfolding pitch_shift_in
 shift_is n m depth sensitivity level r d v e l =
-    e ∙ rw (d, v) refl ∙ ap (pitch_modulation n.voice m) l ∙ ap (λ x. pitch_modulation n.voice x (pitch_envelope_level (pitch_settings n.voice) (length n.past + 1) n.off)) (sym (moved_last n m))
+    e ∙ rw (d, v) refl ∙ ap (pitch_modulation n.voice m) l ∙ ap (λ x. pitch_modulation n.voice x (pitch_envelope_level (pitch_settings n.voice) (length n.past + 1) n.off)) (sym (modulation_last n m))
 
 -- an operator as it is heard in the next block
-pub heard_is : (switch : ℕ) (shift lfo : ℤ) (delay operator : ℕ) (n : NoteData) (m : Modulation) (op r : OpBlock) → IsMoved switch shift lfo delay n m → r ≡ cond (is_on switch operator) op (muted op) → op ≡ operator_in (heard n m) operator (length n.past) → r ≡ heard_in (heard n m) operator (length n.past)
-unfolding heard_in
+pub heard_is : (switch : ℕ) (shift lfo : ℤ) (delay operator : ℕ) (n : NoteData) (m : Modulation) (op r : OpBlock) → IsModulated switch shift lfo delay n m → r ≡ cond (is_on switch operator) op (muted op) → op ≡ operator_in (after_block n m) operator (length n.past) → r ≡ audible_in (after_block n m) operator (length n.past)
+unfolding audible_in
 heard_is switch shift lfo delay operator n m op r h e o = e ∙ rw (o, h.switch_is) refl
 
 -- the operators that a loop has gone through up to a place, and the others as before
@@ -47,20 +47,20 @@ pub passed_all : (i : ℕ) (shift shift' : ℤ) (n n' : NoteData) (os : List Ope
 passed_all i shift shift' n n' os le m = λ k d lt. m.done k d (omega arith)
 
 -- the first i operators as they are heard
-pub record AreHeardUpTo (i : ℕ) (n : NoteData) (block : ℕ) (ops : List OpBlock) : Type 0 where
-  pub each : (k : ℕ) (d : OpBlock) → k < i → get_or ops k d ≡ heard_in n (k + 1) block
+pub record MeetsEquationUpTo (i : ℕ) (n : NoteData) (block : ℕ) (ops : List OpBlock) : Type 0 where
+  pub each : (k : ℕ) (d : OpBlock) → k < i → get_or ops k d ≡ audible_in n (k + 1) block
 
-pub heard_none : (n : NoteData) (block : ℕ) (ops : List OpBlock) → AreHeardUpTo 0 n block ops
+pub heard_none : (n : NoteData) (block : ℕ) (ops : List OpBlock) → MeetsEquationUpTo 0 n block ops
 heard_none n block ops = record { each = λ k d lt. absurd (omega (arith, lt)) }
 
-pub heard_next : (i : ℕ) (n : NoteData) (block : ℕ) (ops : List OpBlock) (op : OpBlock) → length ops ≡ 6 → i < 6 → AreHeardUpTo i n block ops → op ≡ heard_in n (i + 1) block → AreHeardUpTo (i + 1) n block (set ops i op)
+pub heard_next : (i : ℕ) (n : NoteData) (block : ℕ) (ops : List OpBlock) (op : OpBlock) → length ops ≡ 6 → i < 6 → MeetsEquationUpTo i n block ops → op ≡ audible_in n (i + 1) block → MeetsEquationUpTo (i + 1) n block (set ops i op)
 heard_next i n block ops op e lt m h = record {
-  each = λ k d l. below_more (λ k. (d : OpBlock) → get_or (set ops i op) k d ≡ heard_in n (k + 1) block) i
+  each = λ k d l. below_more (λ k. (d : OpBlock) → get_or (set ops i op) k d ≡ audible_in n (k + 1) block) i
       (λ k l d. let ne : k ≢ i = omega arith in rw get_or-set_other (m.each k d l))
       (λ d. let l : i < length ops = rw e lt in rw get_or-set_same h) k l d;
 }
 
-six_of : (n : NoteData) (block k : ℕ) (d : OpBlock) → k < 6 → heard_in n (k + 1) block ≡ get_or (operators_in n block) k d
+six_of : (n : NoteData) (block k : ℕ) (d : OpBlock) → k < 6 → audible_in n (k + 1) block ≡ get_or (operators_in n block) k d
 six_of n block zero d lt = refl
 six_of n block (suc zero) d lt = refl
 six_of n block (suc (suc zero)) d lt = refl
@@ -69,7 +69,7 @@ six_of n block (suc (suc (suc (suc zero)))) d lt = refl
 six_of n block (suc (suc (suc (suc (suc zero))))) d lt = refl
 six_of n block (suc (suc (suc (suc (suc (suc k)))))) d lt = absurd (omega arith)
 
-pub heard_all : (i : ℕ) (n : NoteData) (block : ℕ) (ops : List OpBlock) → length ops ≡ 6 → 6 ≤ i → AreHeardUpTo i n block ops → ops ≡ operators_in n block
+pub heard_all : (i : ℕ) (n : NoteData) (block : ℕ) (ops : List OpBlock) → length ops ≡ 6 → 6 ≤ i → MeetsEquationUpTo i n block ops → ops ≡ operators_in n block
 heard_all i n block ops e le m =
     same_lists ops (operators_in n block) e
     (λ k d lt. let l : k < 6 = rw (← e) lt in m.each k d (omega arith) ∙ six_of n block k d l)
@@ -109,34 +109,34 @@ pitch_begun voice rates levels e er el h =
     let same : ◌≡◌ {A = PitchEnvelopeSettings} (record { rates = rates; levels = levels }) (record { rates = four_from voice 126; levels = four_from voice 130 }) = rw (er, el) refl in
     subst P same h
 
-pub memory_at_start : (n : NoteData) → memory_of (pos 0 ∷ pos 0 ∷ []) ≡ memory_before n 0
-unfolding memory_before
-memory_at_start n = refl
+pub state_at_start : (n : NoteData) → feedback_state_of (pos 0 ∷ pos 0 ∷ []) ≡ feedback_state_before n 0
+unfolding feedback_state_before
+state_at_start n = refl
 
-pub memory_let_go : (n : NoteData) (memory : List ℤ) → memory_of memory ≡ memory_before n (length n.past) → memory_of memory ≡ memory_before (let_go n) (length n.past)
-memory_let_go n memory e = e ∙ sym (memory_same _ n _ _ (length n.past) (agrees_let_go n) (omega arith))
+pub state_released : (n : NoteData) (memory : List ℤ) → feedback_state_of memory ≡ feedback_state_before n (length n.past) → feedback_state_of memory ≡ feedback_state_before (note_released n) (length n.past)
+state_released n memory e = e ∙ sym (state_same _ n _ _ (length n.past) (agrees_released n) (omega arith))
 
 -- what the next block is made from
-pub patch_is : (n : NoteData) (m : Modulation) (algorithm feedback : ℕ) (ops : List OpBlock) (memory : List ℤ) → algorithm ≡ get_or n.voice 134 0 → feedback ≡ get_or n.voice 135 0 → ops ≡ operators_in (heard n m) (length n.past) → memory_of memory ≡ memory_before n (length n.past) → patch_of algorithm feedback ops memory ≡ note_patch (heard n m) (length n.past)
+pub patch_is : (n : NoteData) (m : Modulation) (algorithm feedback : ℕ) (ops : List OpBlock) (memory : List ℤ) → algorithm ≡ get_or n.voice 134 0 → feedback ≡ get_or n.voice 135 0 → ops ≡ operators_in (after_block n m) (length n.past) → feedback_state_of memory ≡ feedback_state_before n (length n.past) → patch_of algorithm feedback ops memory ≡ note_patch (after_block n m) (length n.past)
 patch_is n m algorithm feedback ops memory ea ef o r =
-    let er : memory_of memory ≡ memory_before (heard n m) (length n.past) = r ∙ sym (memory_same _ n _ _ (length n.past) (agrees_heard n m) (omega arith)) in
-    let make : ℕ → ℕ → List OpBlock → Memory → Patch = λ a f ops memory. record { algorithm = a; feedback = f; op = op_of ops; memory = memory } in
-    ap (λ a. make a feedback ops (memory_of memory)) ea ∙ ap (λ f. make (get_or n.voice 134 0) f ops (memory_of memory)) ef ∙ ap (λ ops. make (get_or n.voice 134 0) (get_or n.voice 135 0) ops (memory_of memory)) o ∙ ap (make (get_or n.voice 134 0) (get_or n.voice 135 0) (operators_in (heard n m) (length n.past))) er
+    let er : feedback_state_of memory ≡ feedback_state_before (after_block n m) (length n.past) = r ∙ sym (state_same _ n _ _ (length n.past) (agrees_after_block n m) (omega arith)) in
+    let make : ℕ → ℕ → List OpBlock → FeedbackState → Patch = λ a f ops memory. record { algorithm = a; feedback = f; op = op_of ops; feedback_state = memory } in
+    ap (λ a. make a feedback ops (feedback_state_of memory)) ea ∙ ap (λ f. make (get_or n.voice 134 0) f ops (feedback_state_of memory)) ef ∙ ap (λ ops. make (get_or n.voice 134 0) (get_or n.voice 135 0) ops (feedback_state_of memory)) o ∙ ap (make (get_or n.voice 134 0) (get_or n.voice 135 0) (operators_in (after_block n m) (length n.past))) er
 
 pub sample_is : (n : NoteData) (i j : ℕ) (p : Patch) → p ≡ note_patch n i → note_output p j ≡ note_sample n i j
 unfolding note_sample
 sample_is n i j p e = ap (λ q. note_output q j) e
 
-memory_more : (n : NoteData) (i : ℕ) → memory_before n (i + 1) ≡ memory_left (note_patch n i)
-unfolding memory_before
-memory_more n i = rw add-one
+state_more : (n : NoteData) (i : ℕ) → feedback_state_before n (i + 1) ≡ feedback_state_left (note_patch n i)
+unfolding feedback_state_before
+state_more n i = rw add-one
 
 -- the pitch envelope one block later
-pub pitch_heard : (e : PitchEnvelope) (n : NoteData) (m : Modulation) → IsPitchEnvelope e (pitch_settings n.voice) (length n.past + 1) n.off → IsPitchEnvelope e (pitch_settings n.voice) (length (heard n m).past) n.off
-pitch_heard e n m h =
+pub pitch_after_block : (e : PitchEnvelope) (n : NoteData) (m : Modulation) → IsPitchEnvelope e (pitch_settings n.voice) (length n.past + 1) n.off → IsPitchEnvelope e (pitch_settings n.voice) (length (after_block n m).past) n.off
+pitch_after_block e n m h =
     let P : ℕ → Type 0 = λ i. IsPitchEnvelope e (pitch_settings n.voice) i n.off in
     subst P (sym (length_more n m)) h
 
 -- the two samples that the block left
-pub memory_heard : (n : NoteData) (m : Modulation) (p : Patch) (memory : List ℤ) → p ≡ note_patch (heard n m) (length n.past) → memory_of memory ≡ memory_left p → memory_of memory ≡ memory_before (heard n m) (length (heard n m).past)
-memory_heard n m p memory q l = l ∙ ap memory_left q ∙ sym (memory_more (heard n m) (length n.past)) ∙ ap (memory_before (heard n m)) (sym (length_more n m))
+pub state_after_block : (n : NoteData) (m : Modulation) (p : Patch) (memory : List ℤ) → p ≡ note_patch (after_block n m) (length n.past) → feedback_state_of memory ≡ feedback_state_left p → feedback_state_of memory ≡ feedback_state_before (after_block n m) (length (after_block n m).past)
+state_after_block n m p memory q l = l ∙ ap feedback_state_left q ∙ sym (state_more (after_block n m) (length n.past)) ∙ ap (feedback_state_before (after_block n m)) (sym (length_more n m))

@@ -7,15 +7,15 @@ use Rattle.block_rates.specs.Pitches.{PitchEnvelopeSettings, pitch_envelope_leve
 use Rattle.block_rates.specs.Stages.{released_after, four_stages}
 use Rattle.key_scale.specs.Pitch.{pitch_of_operator}
 use Rattle.operator_kernel.specs.declared.OpBlock.{OpBlock}
-use Rattle.operator_kernel.specs.Operator.{Memory}
-use Rattle.algorithm_bus.specs.Signals.{Patch, memory_left}
+use Rattle.operator_kernel.specs.Operator.{FeedbackState}
+use Rattle.algorithm_bus.specs.Signals.{Patch, feedback_state_left}
 use Rattle.algorithm_bus.specs.Buses.{op_of}
 use Rattle.note_voice.specs.Modulation.{Modulation}
-use Rattle.note_voice.specs.Note.{NoteData, continued, moved_in, played_note, envelope_settings, pitch_settings, pitch_shift_in, step_in, steps_before, drop_in, gain_after, gain_before, heard_in, operators_in, patch_in, memory_before}
+use Rattle.note_voice.specs.Note.{NoteData, continued, modulation_in, played_note, envelope_settings, pitch_settings, pitch_shift_in, increment_in, increments_before, attenuation_in, gain_after, gain_before, audible_in, operators_in, patch_in, feedback_state_before}
 
 -- a note with this past and release has the same first k blocks
 pub record AgreesUpTo (k : ℕ) (n : NoteData) (off : Option ℕ) (past : List Modulation) : Type 0 where
-  pub entry : (i : ℕ) → i < k → moved_in past i ≡ moved_in n.past i
+  pub entry : (i : ℕ) → i < k → modulation_in past i ≡ modulation_in n.past i
   pub level : (s : EnvelopeSettings) (i : ℕ) → i < k → envelope_level s (i + 1) off ≡ envelope_level s (i + 1) n.off
   pub pitch : (s : PitchEnvelopeSettings) (i : ℕ) → i < k → pitch_envelope_level s (i + 1) off ≡ pitch_envelope_level s (i + 1) n.off
 
@@ -30,15 +30,15 @@ unfolding pitch_envelope_level four_stages
 pitch_at_release s k j None le = let e : leb j k ≡ true = le-leb j k le in rw e
 pitch_at_release s k j (Some off) le = refl
 
-pub agrees_let_go : (n : NoteData) → AgreesUpTo (length n.past) n (released_after (length n.past) n.off) n.past
-agrees_let_go n = record {
+pub agrees_released : (n : NoteData) → AgreesUpTo (length n.past) n (released_after (length n.past) n.off) n.past
+agrees_released n = record {
   entry = λ i lt. refl;
   level = λ s i lt. level_at_release s (length n.past) (i + 1) n.off (omega arith);
   pitch = λ s i lt. pitch_at_release s (length n.past) (i + 1) n.off (omega arith);
 }
 
-pub agrees_heard : (n : NoteData) (m : Modulation) → AgreesUpTo (length n.past) n n.off (n.past ++ m ∷ [])
-agrees_heard n m = record {
+pub agrees_after_block : (n : NoteData) (m : Modulation) → AgreesUpTo (length n.past) n n.off (n.past ++ m ∷ [])
+agrees_after_block n m = record {
   entry = λ i lt. rw get_or_append_left refl;
   level = λ s i lt. refl;
   pitch = λ s i lt. refl;
@@ -48,18 +48,18 @@ shift_same : (k : ℕ) (n : NoteData) (off : Option ℕ) (past : List Modulation
 unfolding pitch_shift_in
 shift_same k n off past i a lt = rw (a.entry i lt, a.pitch (pitch_settings n.voice) i lt) refl
 
-step_same : (k : ℕ) (n : NoteData) (off : Option ℕ) (past : List Modulation) (operator i : ℕ) → AgreesUpTo k n off past → i < k → step_in (continued n off past) operator i ≡ step_in n operator i
-unfolding step_in
-step_same k n off past operator i a lt = ap (λ z. frequency (pitch_of_operator n.voice operator (played_note n.voice n.key) +ℤ z)) (shift_same k n off past i a lt)
+increment_same : (k : ℕ) (n : NoteData) (off : Option ℕ) (past : List Modulation) (operator i : ℕ) → AgreesUpTo k n off past → i < k → increment_in (continued n off past) operator i ≡ increment_in n operator i
+unfolding increment_in
+increment_same k n off past operator i a lt = ap (λ z. frequency (pitch_of_operator n.voice operator (played_note n.voice n.key) +ℤ z)) (shift_same k n off past i a lt)
 
-pub steps_same : (k : ℕ) (n : NoteData) (off : Option ℕ) (past : List Modulation) (operator i : ℕ) → AgreesUpTo k n off past → i ≤ k → steps_before (continued n off past) operator i ≡ steps_before n operator i
-unfolding steps_before
-steps_same k n off past operator zero a le = refl
-steps_same k n off past operator (suc i) a le = rw (steps_same k n off past operator i a (omega arith), step_same k n off past operator i a (omega arith)) refl
+pub increments_same : (k : ℕ) (n : NoteData) (off : Option ℕ) (past : List Modulation) (operator i : ℕ) → AgreesUpTo k n off past → i ≤ k → increments_before (continued n off past) operator i ≡ increments_before n operator i
+unfolding increments_before
+increments_same k n off past operator zero a le = refl
+increments_same k n off past operator (suc i) a le = rw (increments_same k n off past operator i a (omega arith), increment_same k n off past operator i a (omega arith)) refl
 
-drop_same : (k : ℕ) (n : NoteData) (off : Option ℕ) (past : List Modulation) (operator i : ℕ) → AgreesUpTo k n off past → i < k → drop_in (continued n off past) operator i ≡ drop_in n operator i
-unfolding drop_in
-drop_same k n off past operator i a lt = rw (a.entry i lt) refl
+attenuation_same : (k : ℕ) (n : NoteData) (off : Option ℕ) (past : List Modulation) (operator i : ℕ) → AgreesUpTo k n off past → i < k → attenuation_in (continued n off past) operator i ≡ attenuation_in n operator i
+unfolding attenuation_in
+attenuation_same k n off past operator i a lt = rw (a.entry i lt) refl
 
 settings_same : (n : NoteData) (off : Option ℕ) (past : List Modulation) (operator : ℕ) → envelope_settings (continued n off past) operator ≡ envelope_settings n operator
 unfolding envelope_settings
@@ -67,30 +67,30 @@ settings_same n off past operator = refl
 
 gain_after_same : (k : ℕ) (n : NoteData) (off : Option ℕ) (past : List Modulation) (operator i : ℕ) → AgreesUpTo k n off past → i < k → gain_after (continued n off past) operator i ≡ gain_after n operator i
 unfolding gain_after
-gain_after_same k n off past operator i a lt = rw (settings_same n off past operator, a.level (envelope_settings n operator) i lt, drop_same k n off past operator i a lt) refl
+gain_after_same k n off past operator i a lt = rw (settings_same n off past operator, a.level (envelope_settings n operator) i lt, attenuation_same k n off past operator i a lt) refl
 
 pub gain_before_same : (k : ℕ) (n : NoteData) (off : Option ℕ) (past : List Modulation) (operator i : ℕ) → AgreesUpTo k n off past → i ≤ k → gain_before (continued n off past) operator i ≡ gain_before n operator i
 unfolding gain_before
 gain_before_same k n off past operator zero a le = refl
 gain_before_same k n off past operator (suc i) a le = gain_after_same k n off past operator i a (omega arith)
 
-heard_in_same : (k : ℕ) (n : NoteData) (off : Option ℕ) (past : List Modulation) (operator i : ℕ) → AgreesUpTo k n off past → i < k → heard_in (continued n off past) operator i ≡ heard_in n operator i
-unfolding heard_in
-heard_in_same k n off past operator i a lt = rw (steps_same k n off past operator i a (omega arith), step_same k n off past operator i a lt, gain_before_same k n off past operator i a (omega arith), gain_after_same k n off past operator i a lt) refl
+audible_in_same : (k : ℕ) (n : NoteData) (off : Option ℕ) (past : List Modulation) (operator i : ℕ) → AgreesUpTo k n off past → i < k → audible_in (continued n off past) operator i ≡ audible_in n operator i
+unfolding audible_in
+audible_in_same k n off past operator i a lt = rw (increments_same k n off past operator i a (omega arith), increment_same k n off past operator i a lt, gain_before_same k n off past operator i a (omega arith), gain_after_same k n off past operator i a lt) refl
 
 operators_same : (k : ℕ) (n : NoteData) (off : Option ℕ) (past : List Modulation) (i : ℕ) → AgreesUpTo k n off past → i < k → operators_in (continued n off past) i ≡ operators_in n i
 operators_same k n off past i a lt =
-    let e : (operator : ℕ) → heard_in (continued n off past) operator i ≡ heard_in n operator i = λ operator. heard_in_same k n off past operator i a lt in
+    let e : (operator : ℕ) → audible_in (continued n off past) operator i ≡ audible_in n operator i = λ operator. audible_in_same k n off past operator i a lt in
     rw (e 1, e 2, e 3, e 4, e 5, e 6) refl
 
-abbrev patch_of_ops : NoteData → List OpBlock → Memory → Patch
-patch_of_ops n ops memory = record { algorithm = get_or n.voice 134 0; feedback = get_or n.voice 135 0; op = op_of ops; memory = memory }
+abbrev patch_of_ops : NoteData → List OpBlock → FeedbackState → Patch
+patch_of_ops n ops memory = record { algorithm = get_or n.voice 134 0; feedback = get_or n.voice 135 0; op = op_of ops; feedback_state = memory }
 
-patch_same : (k : ℕ) (n : NoteData) (off : Option ℕ) (past : List Modulation) (i : ℕ) (memory : Memory) → AgreesUpTo k n off past → i < k → patch_in (continued n off past) i memory ≡ patch_in n i memory
+patch_same : (k : ℕ) (n : NoteData) (off : Option ℕ) (past : List Modulation) (i : ℕ) (memory : FeedbackState) → AgreesUpTo k n off past → i < k → patch_in (continued n off past) i memory ≡ patch_in n i memory
 patch_same k n off past i memory a lt = ap (λ ops. patch_of_ops n ops memory) (operators_same k n off past i a lt)
 
-pub memory_same : (k : ℕ) (n : NoteData) (off : Option ℕ) (past : List Modulation) (i : ℕ) → AgreesUpTo k n off past → i ≤ k → memory_before (continued n off past) i ≡ memory_before n i
-unfolding memory_before
-memory_same k n off past zero a le = refl
-memory_same k n off past (suc i) a le =
-    ap memory_left (patch_same k n off past i (memory_before (continued n off past) i) a (omega arith)) ∙ ap (λ memory. memory_left (patch_in n i memory)) (memory_same k n off past i a (omega arith))
+pub state_same : (k : ℕ) (n : NoteData) (off : Option ℕ) (past : List Modulation) (i : ℕ) → AgreesUpTo k n off past → i ≤ k → feedback_state_before (continued n off past) i ≡ feedback_state_before n i
+unfolding feedback_state_before
+state_same k n off past zero a le = refl
+state_same k n off past (suc i) a le =
+    ap feedback_state_left (patch_same k n off past i (feedback_state_before (continued n off past) i) a (omega arith)) ∙ ap (λ memory. feedback_state_left (patch_in n i memory)) (state_same k n off past i a (omega arith))

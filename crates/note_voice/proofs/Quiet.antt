@@ -6,11 +6,11 @@ use Rattle.dx_tables.specs.Constants.{level, pitch_level, pitch_sensitivity, amp
 use Rattle.dx_tables.specs.Powers.{exponential, power_entry, power, power_by}
 use Rattle.dx_tables.proofs.PowerBounds.{radical_10}
 use Rattle.voice_record.specs.Voice.{opening_voice}
-use Rattle.block_rates.specs.declared.slope.Slope.{Slope}
-use Rattle.block_rates.specs.declared.glide.Glide.{Glide}
+use Rattle.block_rates.specs.declared.level_segment.LevelSegment.{LevelSegment}
+use Rattle.block_rates.specs.declared.pitch_segment.PitchSegment.{PitchSegment}
 use Rattle.block_rates.specs.Stages.{Motion, after, first_from, lasts, four_stages}
-use Rattle.block_rates.specs.Levels.{EnvelopeSettings, envelope_level, target_level, slope_at, sloping, go, risen, rise}
-use Rattle.block_rates.specs.Pitches.{PitchEnvelopeSettings, pitch_envelope_level, pitch_of, glide_at, gliding, glided}
+use Rattle.block_rates.specs.Levels.{EnvelopeSettings, envelope_level, target_level, level_segment_at, level_motion, go, risen, rise}
+use Rattle.block_rates.specs.Pitches.{PitchEnvelopeSettings, pitch_envelope_level, pitch_of, pitch_segment_at, pitch_motion, pitch_moved}
 use Rattle.key_scale.specs.Operator.{operator_field}
 use Rattle.key_scale.specs.Levels.{curve_height, on_side, key_scaling, velocity_part, whole_level, output_level}
 use Rattle.note_voice.specs.Modulation.{vibrato, vibrato_depth, bend_pitch, tremolo, tremolo_depth, gain_of}
@@ -35,38 +35,38 @@ after_still motion t [] k h = refl
 after_still motion t (s ∷ ss) k h = both _ _ _ t (ap (λ z. after motion ss z (k - lasts motion s t k)) h.0.target ∙ after_still motion t ss (k - lasts motion s t k) h.1) (h.0.stays k)
 
 -- the lowest level of an operator's envelope
-rise_low : (s : Slope) (x : ℕ) → s.target ≡ 1048576 → rise s x ≡ 1048576
+rise_low : (s : LevelSegment) (x : ℕ) → s.target ≡ 1048576 → rise s x ≡ 1048576
 rise_low s x e =
     let r = (17 * 2 ^ 24 - max x (1716 * 65536)) / 2 ^ 24 * s.step in
     let f : min 1048576 (max x (1716 * 65536) + r) ≡ 1048576 = omega arith in
     rw e f
 
-risen_low : (s : Slope) (m : ℕ) → s.target ≡ 1048576 → risen s m 1048576 ≡ 1048576
+risen_low : (s : LevelSegment) (m : ℕ) → s.target ≡ 1048576 → risen s m 1048576 ≡ 1048576
 unfolding risen
 risen_low s zero e = refl
 risen_low s (suc m) e = ap (λ x. risen s m x) (rise_low s 1048576 e) ∙ risen_low s m e
 
-go_low : (s : Slope) (m : ℕ) → s.target ≡ 1048576 → go s 1048576 m ≡ 1048576
+go_low : (s : LevelSegment) (m : ℕ) → s.target ≡ 1048576 → go s 1048576 m ≡ 1048576
 unfolding go
 go_low s zero e = refl
 go_low s (suc m) e =
     let f : max 1048576 (1048576 - suc m * s.step) ≡ 1048576 = omega arith in
     rw e f
 
-go_up : (s : Slope) (m : ℕ) → s.target ≡ 1048576 → go s 0 (suc m) ≡ 1048576
+go_up : (s : LevelSegment) (m : ℕ) → s.target ≡ 1048576 → go s 0 (suc m) ≡ 1048576
 unfolding go risen
 go_up s m e =
     let low : max s.target (0 - suc m * s.step) ≡ 1048576 = omega arith in
     both _ _ _ 1048576 low (ap (λ x. risen s m x) (rise_low s 0 e) ∙ risen_low s m e)
 
-low_still : (s : Slope) → s.target ≡ 1048576 → IsStill sloping 1048576 s
+low_still : (s : LevelSegment) → s.target ≡ 1048576 → IsStill level_motion 1048576 s
 low_still s e = record { target = e; stays = λ m. go_low s m e }
 
-after_up : (s : Slope) (ss : List Slope) (k : ℕ) → s.target ≡ 1048576 → AreStill sloping 1048576 ss → after sloping (s ∷ ss) 0 (suc k) ≡ 1048576
+after_up : (s : LevelSegment) (ss : List LevelSegment) (k : ℕ) → s.target ≡ 1048576 → AreStill level_motion 1048576 ss → after level_motion (s ∷ ss) 0 (suc k) ≡ 1048576
 unfolding after
-after_up s ss k e h = both _ _ _ 1048576 (ap (λ z. after sloping ss z (suc k - lasts sloping s 0 (suc k))) e ∙ after_still sloping 1048576 ss (suc k - lasts sloping s 0 (suc k)) h) (go_up s k e)
+after_up s ss k e h = both _ _ _ 1048576 (ap (λ z. after level_motion ss z (suc k - lasts level_motion s 0 (suc k))) e ∙ after_still level_motion 1048576 ss (suc k - lasts level_motion s 0 (suc k)) h) (go_up s k e)
 
-after_none : (s : Slope) (ss : List Slope) → after sloping (s ∷ ss) 0 0 ≡ 0
+after_none : (s : LevelSegment) (ss : List LevelSegment) → after level_motion (s ∷ ss) 0 0 ≡ 0
 unfolding after first_from go
 after_none s ss = refl
 
@@ -74,18 +74,18 @@ after_none s ss = refl
 pub level_low : (s : EnvelopeSettings) (j : ℕ) (off : Option ℕ) → ((i : ℕ) → i < 4 → target_level (get_or s.levels i 0) s.out ≡ 1048576) → envelope_level s (j + 1) off ≡ 1048576
 unfolding envelope_level four_stages
 level_low s j None h =
-    let up = after_up (slope_at s 0) (slope_at s 1 ∷ slope_at s 2 ∷ []) j (h 0 (omega arith)) (low_still (slope_at s 1) (h 1 (omega arith)), (low_still (slope_at s 2) (h 2 (omega arith)), tt)) in
+    let up = after_up (level_segment_at s 0) (level_segment_at s 1 ∷ level_segment_at s 2 ∷ []) j (h 0 (omega arith)) (low_still (level_segment_at s 1) (h 1 (omega arith)), (low_still (level_segment_at s 2) (h 2 (omega arith)), tt)) in
     rw add-one up
 level_low s j (Some zero) h =
-    let down = after_up (slope_at s 0) (slope_at s 1 ∷ slope_at s 2 ∷ []) j (h 0 (omega arith)) (low_still (slope_at s 1) (h 1 (omega arith)), (low_still (slope_at s 2) (h 2 (omega arith)), tt)) in
-    let up = after_up (slope_at s 3) [] j (h 3 (omega arith)) tt in
+    let down = after_up (level_segment_at s 0) (level_segment_at s 1 ∷ level_segment_at s 2 ∷ []) j (h 0 (omega arith)) (low_still (level_segment_at s 1) (h 1 (omega arith)), (low_still (level_segment_at s 2) (h 2 (omega arith)), tt)) in
+    let up = after_up (level_segment_at s 3) [] j (h 3 (omega arith)) tt in
     let e : j + 1 - 0 ≡ suc j = omega arith in
-    let first : after sloping (slope_at s 0 ∷ slope_at s 1 ∷ slope_at s 2 ∷ []) 0 (j + 1) ≡ 1048576 = rw add-one down in
-    both _ _ _ 1048576 first (ap (λ x. after sloping (slope_at s 3 ∷ []) x (j + 1 - 0)) (after_none (slope_at s 0) (slope_at s 1 ∷ slope_at s 2 ∷ [])) ∙ ap (after sloping (slope_at s 3 ∷ []) 0) e ∙ up)
+    let first : after level_motion (level_segment_at s 0 ∷ level_segment_at s 1 ∷ level_segment_at s 2 ∷ []) 0 (j + 1) ≡ 1048576 = rw add-one down in
+    both _ _ _ 1048576 first (ap (λ x. after level_motion (level_segment_at s 3 ∷ []) x (j + 1 - 0)) (after_none (level_segment_at s 0) (level_segment_at s 1 ∷ level_segment_at s 2 ∷ [])) ∙ ap (after level_motion (level_segment_at s 3 ∷ []) 0) e ∙ up)
 level_low s j (Some (suc o)) h =
-    let down : (k : ℕ) → after sloping (slope_at s 0 ∷ slope_at s 1 ∷ slope_at s 2 ∷ []) 0 (suc k) ≡ 1048576 = λ k. after_up (slope_at s 0) (slope_at s 1 ∷ slope_at s 2 ∷ []) k (h 0 (omega arith)) (low_still (slope_at s 1) (h 1 (omega arith)), (low_still (slope_at s 2) (h 2 (omega arith)), tt)) in
-    let first : after sloping (slope_at s 0 ∷ slope_at s 1 ∷ slope_at s 2 ∷ []) 0 (j + 1) ≡ 1048576 = rw add-one (down j) in
-    both _ _ _ 1048576 first (ap (λ x. after sloping (slope_at s 3 ∷ []) x (j + 1 - suc o)) (down o) ∙ after_still sloping 1048576 (slope_at s 3 ∷ []) (j + 1 - suc o) (low_still (slope_at s 3) (h 3 (omega arith)), tt))
+    let down : (k : ℕ) → after level_motion (level_segment_at s 0 ∷ level_segment_at s 1 ∷ level_segment_at s 2 ∷ []) 0 (suc k) ≡ 1048576 = λ k. after_up (level_segment_at s 0) (level_segment_at s 1 ∷ level_segment_at s 2 ∷ []) k (h 0 (omega arith)) (low_still (level_segment_at s 1) (h 1 (omega arith)), (low_still (level_segment_at s 2) (h 2 (omega arith)), tt)) in
+    let first : after level_motion (level_segment_at s 0 ∷ level_segment_at s 1 ∷ level_segment_at s 2 ∷ []) 0 (j + 1) ≡ 1048576 = rw add-one (down j) in
+    both _ _ _ 1048576 first (ap (λ x. after level_motion (level_segment_at s 3 ∷ []) x (j + 1 - suc o)) (down o) ∙ after_still level_motion 1048576 (level_segment_at s 3 ∷ []) (j + 1 - suc o) (low_still (level_segment_at s 3) (h 3 (omega arith)), tt))
 
 entry_64 : power_entry 64 ≡ 1121280436
 unfolding power_entry power power_by
@@ -184,27 +184,27 @@ middle : pitch_of 50 ≡ pos 0
 unfolding pitch_of pitch_level
 middle = refl
 
-glided_still : (g : Glide) (m : ℕ) → g.target ≡ pos 0 → glided g (pos 0) m ≡ pos 0
-unfolding glided
+glided_still : (g : PitchSegment) (m : ℕ) → g.target ≡ pos 0 → pitch_moved g (pos 0) m ≡ pos 0
+unfolding pitch_moved
 glided_still g m e =
     let f : int_max (pos 0) (pos 0 -ℤ pos (m * g.step)) ≡ pos 0 = omega (arith, ints, clamps) in
     rw e f
 
-middle_still : (g : Glide) → g.target ≡ pos 0 → IsStill gliding (pos 0) g
+middle_still : (g : PitchSegment) → g.target ≡ pos 0 → IsStill pitch_motion (pos 0) g
 middle_still g e = record { target = e; stays = λ m. glided_still g m e }
 
-still_by : (s : PitchEnvelopeSettings) (j : ℕ) (off : Option ℕ) → ((k : ℕ) → after gliding (glide_at s 0 ∷ glide_at s 1 ∷ glide_at s 2 ∷ []) (pitch_of (get_or s.levels 3 0)) k ≡ pos 0) → IsStill gliding (pos 0) (glide_at s 3) → pitch_envelope_level s j off ≡ pos 0
+still_by : (s : PitchEnvelopeSettings) (j : ℕ) (off : Option ℕ) → ((k : ℕ) → after pitch_motion (pitch_segment_at s 0 ∷ pitch_segment_at s 1 ∷ pitch_segment_at s 2 ∷ []) (pitch_of (get_or s.levels 3 0)) k ≡ pos 0) → IsStill pitch_motion (pos 0) (pitch_segment_at s 3) → pitch_envelope_level s j off ≡ pos 0
 unfolding pitch_envelope_level four_stages
 still_by s j None down d = down j
-still_by s j (Some off) down d = both _ _ _ (pos 0) (down j) (ap (λ x. after gliding (glide_at s 3 ∷ []) x (j - off)) (down off) ∙ after_still gliding (pos 0) (glide_at s 3 ∷ []) (j - off) (d, tt))
+still_by s j (Some off) down d = both _ _ _ (pos 0) (down j) (ap (λ x. after pitch_motion (pitch_segment_at s 3 ∷ []) x (j - off)) (down off) ∙ after_still pitch_motion (pos 0) (pitch_segment_at s 3 ∷ []) (j - off) (d, tt))
 
 -- the level of a pitch envelope whose levels are all in the middle
 pub pitch_still : (s : PitchEnvelopeSettings) (j : ℕ) (off : Option ℕ) → s.levels ≡ 50 ∷ 50 ∷ 50 ∷ 50 ∷ [] → pitch_envelope_level s j off ≡ pos 0
 pitch_still s j off h =
-    let a : IsStill gliding (pos 0) (glide_at s 0) = middle_still _ (rw h middle) in
-    let b : IsStill gliding (pos 0) (glide_at s 1) = middle_still _ (rw h middle) in
-    let c : IsStill gliding (pos 0) (glide_at s 2) = middle_still _ (rw h middle) in
-    let d : IsStill gliding (pos 0) (glide_at s 3) = middle_still _ (rw h middle) in
+    let a : IsStill pitch_motion (pos 0) (pitch_segment_at s 0) = middle_still _ (rw h middle) in
+    let b : IsStill pitch_motion (pos 0) (pitch_segment_at s 1) = middle_still _ (rw h middle) in
+    let c : IsStill pitch_motion (pos 0) (pitch_segment_at s 2) = middle_still _ (rw h middle) in
+    let d : IsStill pitch_motion (pos 0) (pitch_segment_at s 3) = middle_still _ (rw h middle) in
     let start : pitch_of (get_or s.levels 3 0) ≡ pos 0 = rw h middle in
-    let down : (k : ℕ) → after gliding (glide_at s 0 ∷ glide_at s 1 ∷ glide_at s 2 ∷ []) (pitch_of (get_or s.levels 3 0)) k ≡ pos 0 = λ k. rw start (after_still gliding (pos 0) (glide_at s 0 ∷ glide_at s 1 ∷ glide_at s 2 ∷ []) k (a, (b, (c, tt)))) in
+    let down : (k : ℕ) → after pitch_motion (pitch_segment_at s 0 ∷ pitch_segment_at s 1 ∷ pitch_segment_at s 2 ∷ []) (pitch_of (get_or s.levels 3 0)) k ≡ pos 0 = λ k. rw start (after_still pitch_motion (pos 0) (pitch_segment_at s 0 ∷ pitch_segment_at s 1 ∷ pitch_segment_at s 2 ∷ []) k (a, (b, (c, tt)))) in
     still_by s j off down d

@@ -12,22 +12,22 @@ use Rattle.key_scale.specs.Levels.{output_level, rate_scale_of}
 use Rattle.operator_kernel.specs.declared.OpBlock.{OpBlock}
 use Rattle.dx_tables.specs.Powers.{frequency}
 use Rattle.key_scale.specs.Pitch.{pitch_of_operator}
-use Rattle.note_voice.specs.Modulation.{Modulation, gain_of, level_drop, tremolo, tremolo_depth, tremolo_weight}
-use Rattle.note_voice.specs.Note.{NoteData, begun, let_go, heard, moved_in, played_note, four_from, settings_at, envelope_settings, pitch_shift_in, step_in, steps_before, drop_in, gain_after, gain_before, operator_in}
+use Rattle.note_voice.specs.Modulation.{Modulation, gain_of, attenuation_of, tremolo, tremolo_depth, tremolo_weight}
+use Rattle.note_voice.specs.Note.{NoteData, begun, note_released, after_block, modulation_in, played_note, four_from, settings_at, envelope_settings, pitch_shift_in, increment_in, increments_before, attenuation_in, gain_after, gain_before, operator_in}
 use Rattle.note_voice.specs.Running.{IsRunning}
-use Rattle.note_voice.proofs.Prefix.{agrees_let_go, agrees_heard, steps_same, gain_before_same}
+use Rattle.note_voice.proofs.Prefix.{agrees_released, agrees_after_block, increments_same, gain_before_same}
 
 -- the past grows by one
 pub length_more : (n : NoteData) (m : Modulation) → length (n.past ++ m ∷ []) ≡ length n.past + 1
 length_more n m = length-append n.past (m ∷ [])
 
 -- what moved the last block
-pub moved_last : (n : NoteData) (m : Modulation) → moved_in (n.past ++ m ∷ []) (length n.past) ≡ m
-moved_last n m = get_or-append_seam n.past m [] _
+pub modulation_last : (n : NoteData) (m : Modulation) → modulation_in (n.past ++ m ∷ []) (length n.past) ≡ m
+modulation_last n m = get_or-append_seam n.past m [] _
 
-steps_more : (n : NoteData) (operator i : ℕ) → steps_before n operator (i + 1) ≡ steps_before n operator i +ℤ step_in n operator i
-unfolding steps_before
-steps_more n operator i = rw add-one
+increments_more : (n : NoteData) (operator i : ℕ) → increments_before n operator (i + 1) ≡ increments_before n operator i +ℤ increment_in n operator i
+unfolding increments_before
+increments_more n operator i = rw add-one
 
 gain_more : (n : NoteData) (operator i : ℕ) → gain_before n operator (i + 1) ≡ gain_after n operator i
 unfolding gain_before
@@ -43,7 +43,7 @@ envelope_begun voice switch key velocity operator note rates levels out scale e 
 
 -- the first block begins at phase 0 and gain 0
 pub running_at_start : (voice : List ℕ) (switch key velocity operator : ℕ) (note : ℤ) (e : Envelope) (pitch : ℤ) (weight : ℕ) (increment : ℤ) → note ≡ played_note voice key → IsEnvelope e (envelope_settings (begun voice switch key velocity) operator) 0 None → pitch ≡ pitch_of_operator voice operator note → weight ≡ tremolo_weight voice operator → increment ≡ frequency (pitch +ℤ pos 0) → IsRunning (pos 0) (pos 0) e pitch weight increment (pos 0) operator (begun voice switch key velocity)
-unfolding steps_before gain_before
+unfolding increments_before gain_before
 running_at_start voice switch key velocity operator note e pitch weight increment en h p w i = record {
   phase_is = sym (int_wrap_fits w32 (pos 0) (record { sfits = omega arith }));
   gain_is = refl;
@@ -65,23 +65,23 @@ running_tuned phase gain e pitch weight increment increment' shift shift' operat
 }
 
 -- the phase increment of the next block
-pub increment_is : (phase gain : ℤ) (e : Envelope) (pitch : ℤ) (weight : ℕ) (increment shift : ℤ) (operator : ℕ) (n : NoteData) (m : Modulation) → IsRunning phase gain e pitch weight increment shift operator n → shift ≡ pitch_shift_in (heard n m) (length n.past) → increment ≡ step_in (heard n m) operator (length n.past)
-unfolding step_in
+pub increment_is : (phase gain : ℤ) (e : Envelope) (pitch : ℤ) (weight : ℕ) (increment shift : ℤ) (operator : ℕ) (n : NoteData) (m : Modulation) → IsRunning phase gain e pitch weight increment shift operator n → shift ≡ pitch_shift_in (after_block n m) (length n.past) → increment ≡ increment_in (after_block n m) operator (length n.past)
+unfolding increment_in
 increment_is phase gain e pitch weight increment shift operator n m r s = r.increment_is ∙ rw (r.pitch_is, s) refl
 
--- how far the level of an operator is taken down in the next block
-pub drop_is : (weight : ℕ) (lfo : ℤ) (delay operator : ℕ) (n : NoteData) (m : Modulation) (r : ℤ) → weight ≡ tremolo_weight n.voice operator → m.lfo ≡ lfo → m.delay ≡ delay → r ≡ tremolo (weight * delay / 2 ^ 24) lfo → r ≡ drop_in (heard n m) operator (length n.past)
-unfolding drop_in tremolo_depth
-drop_is weight lfo delay operator n m r w l d e = e ∙ rw (w, ← l, ← d) refl ∙ ap (level_drop n.voice operator) (sym (moved_last n m))
+-- how far the level of an operator is attenuated in the next block
+pub attenuation_is : (weight : ℕ) (lfo : ℤ) (delay operator : ℕ) (n : NoteData) (m : Modulation) (r : ℤ) → weight ≡ tremolo_weight n.voice operator → m.lfo ≡ lfo → m.delay ≡ delay → r ≡ tremolo (weight * delay / 2 ^ 24) lfo → r ≡ attenuation_in (after_block n m) operator (length n.past)
+unfolding attenuation_in tremolo_depth
+attenuation_is weight lfo delay operator n m r w l d e = e ∙ rw (w, ← l, ← d) refl ∙ ap (attenuation_of n.voice operator) (sym (modulation_last n m))
 
-pub running_let_go : (phase gain : ℤ) (e e' : Envelope) (pitch : ℤ) (weight : ℕ) (increment shift : ℤ) (operator : ℕ) (n : NoteData) → IsRunning phase gain e pitch weight increment shift operator n → IsEnvelope e' (envelope_settings n operator) (length n.past) (released_after (length n.past) n.off) → IsRunning phase gain e' pitch weight increment shift operator (let_go n)
+pub running_released : (phase gain : ℤ) (e e' : Envelope) (pitch : ℤ) (weight : ℕ) (increment shift : ℤ) (operator : ℕ) (n : NoteData) → IsRunning phase gain e pitch weight increment shift operator n → IsEnvelope e' (envelope_settings n operator) (length n.past) (released_after (length n.past) n.off) → IsRunning phase gain e' pitch weight increment shift operator (note_released n)
 unfolding envelope_settings
-running_let_go phase gain e e' pitch weight increment shift operator n r h = record {
+running_released phase gain e e' pitch weight increment shift operator n r h = record {
   pitch_is = r.pitch_is;
   weight_is = r.weight_is;
   increment_is = r.increment_is;
-  phase_is = r.phase_is ∙ ap (λ z. wrap (pos 64 *ℤ z)) (sym (steps_same _ n _ _ operator (length n.past) (agrees_let_go n) (omega arith)));
-  gain_is = r.gain_is ∙ sym (gain_before_same _ n _ _ operator (length n.past) (agrees_let_go n) (omega arith));
+  phase_is = r.phase_is ∙ ap (λ z. wrap (pos 64 *ℤ z)) (sym (increments_same _ n _ _ operator (length n.past) (agrees_released n) (omega arith)));
+  gain_is = r.gain_is ∙ sym (gain_before_same _ n _ _ operator (length n.past) (agrees_released n) (omega arith));
   envelope_is = h;
 }
 
@@ -103,19 +103,19 @@ phase_bits p f hp hf =
     wrapping_add-bits w32 (of_z w32 p) x (of_z_small p hp) (omega arith) ∙ ap (λ z. int_wrap w32 (z +ℤ to_z w32 x)) (to_z-of_z w32 p hp) ∙ ap (λ z. int_wrap w32 (p +ℤ z)) m
 
 -- the gain that the code computes from the envelope's level and the drop
-pub gain_is : (n : NoteData) (m : Modulation) (operator : ℕ) (level drop r : ℤ) → r ≡ gain_of level drop → level ≡ pos (envelope_level (envelope_settings n operator) (length n.past + 1) n.off) → drop ≡ drop_in (heard n m) operator (length n.past) → r ≡ gain_after (heard n m) operator (length n.past)
+pub gain_is : (n : NoteData) (m : Modulation) (operator : ℕ) (level attenuation r : ℤ) → r ≡ gain_of level attenuation → level ≡ pos (envelope_level (envelope_settings n operator) (length n.past + 1) n.off) → attenuation ≡ attenuation_in (after_block n m) operator (length n.past) → r ≡ gain_after (after_block n m) operator (length n.past)
 unfolding gain_after envelope_settings
-gain_is n m operator level drop r e l d = e ∙ ap (λ z. gain_of z drop) l ∙ ap (gain_of _) d
+gain_is n m operator level attenuation r e l d = e ∙ ap (λ z. gain_of z attenuation) l ∙ ap (gain_of _) d
 
-pub running_heard : (phase phase' step gain gain' : ℤ) (e e' : Envelope) (pitch : ℤ) (weight : ℕ) (shift : ℤ) (operator : ℕ) (n : NoteData) (m : Modulation) → IsRunning phase gain e pitch weight step shift operator n → step ≡ step_in (heard n m) operator (length n.past) → phase' ≡ int_wrap w32 (phase +ℤ int_wrap w32 (step *ℤ pos 64)) → gain' ≡ gain_after (heard n m) operator (length n.past) → IsEnvelope e' (envelope_settings n operator) (length n.past + 1) n.off → IsRunning phase' gain' e' pitch weight step shift operator (heard n m)
+pub running_after_block : (phase phase' step gain gain' : ℤ) (e e' : Envelope) (pitch : ℤ) (weight : ℕ) (shift : ℤ) (operator : ℕ) (n : NoteData) (m : Modulation) → IsRunning phase gain e pitch weight step shift operator n → step ≡ increment_in (after_block n m) operator (length n.past) → phase' ≡ int_wrap w32 (phase +ℤ int_wrap w32 (step *ℤ pos 64)) → gain' ≡ gain_after (after_block n m) operator (length n.past) → IsEnvelope e' (envelope_settings n operator) (length n.past + 1) n.off → IsRunning phase' gain' e' pitch weight step shift operator (after_block n m)
 unfolding envelope_settings
-running_heard phase phase' step gain gain' e e' pitch weight shift operator n m r s p g h =
+running_after_block phase phase' step gain gain' e e' pitch weight shift operator n m r s p g h =
     let k = length n.past in
     let P : ℕ → Type 0 = λ i. IsEnvelope e' (envelope_settings n operator) i n.off in
-    let before : steps_before n operator k ≡ steps_before (heard n m) operator k = sym (steps_same k n _ _ operator k (agrees_heard n m) (omega arith)) in
+    let before : increments_before n operator k ≡ increments_before (after_block n m) operator k = sym (increments_same k n _ _ operator k (agrees_after_block n m) (omega arith)) in
     record {
-      phase_is = p ∙ rw (r.phase_is, s) (phase_moved (steps_before n operator k) (step_in (heard n m) operator k)) ∙ ap (λ z. wrap (pos 64 *ℤ z)) (ap (λ z. z +ℤ step_in (heard n m) operator k) before ∙ sym (steps_more (heard n m) operator k) ∙ ap (steps_before (heard n m) operator) (sym (length_more n m)));
-      gain_is = g ∙ sym (gain_more (heard n m) operator k) ∙ ap (gain_before (heard n m) operator) (sym (length_more n m));
+      phase_is = p ∙ rw (r.phase_is, s) (phase_moved (increments_before n operator k) (increment_in (after_block n m) operator k)) ∙ ap (λ z. wrap (pos 64 *ℤ z)) (ap (λ z. z +ℤ increment_in (after_block n m) operator k) before ∙ sym (increments_more (after_block n m) operator k) ∙ ap (increments_before (after_block n m) operator) (sym (length_more n m)));
+      gain_is = g ∙ sym (gain_more (after_block n m) operator k) ∙ ap (gain_before (after_block n m) operator) (sym (length_more n m));
       envelope_is = subst P (sym (length_more n m)) h;
       pitch_is = r.pitch_is;
       weight_is = r.weight_is;
@@ -123,10 +123,10 @@ running_heard phase phase' step gain gain' e e' pitch weight shift operator n m 
     }
 
 -- the operator of the next block, from what is kept
-pub operator_is : (phase step gain gain' : ℤ) (e : Envelope) (pitch : ℤ) (weight : ℕ) (shift : ℤ) (operator : ℕ) (n : NoteData) (m : Modulation) → IsRunning phase gain e pitch weight step shift operator n → step ≡ step_in (heard n m) operator (length n.past) → gain' ≡ gain_after (heard n m) operator (length n.past) →
-    ◌≡◌ {A = OpBlock} (record { phase = phase; freq = step; g1 = gain; g2 = gain' }) (operator_in (heard n m) operator (length n.past))
+pub operator_is : (phase step gain gain' : ℤ) (e : Envelope) (pitch : ℤ) (weight : ℕ) (shift : ℤ) (operator : ℕ) (n : NoteData) (m : Modulation) → IsRunning phase gain e pitch weight step shift operator n → step ≡ increment_in (after_block n m) operator (length n.past) → gain' ≡ gain_after (after_block n m) operator (length n.past) →
+    ◌≡◌ {A = OpBlock} (record { phase = phase; freq = step; g1 = gain; g2 = gain' }) (operator_in (after_block n m) operator (length n.past))
 operator_is phase step gain gain' e pitch weight shift operator n m r s g =
     let k = length n.past in
-    let ep : phase ≡ wrap (pos 64 *ℤ steps_before (heard n m) operator k) = r.phase_is ∙ ap (λ z. wrap (pos 64 *ℤ z)) (sym (steps_same k n _ _ operator k (agrees_heard n m) (omega arith))) in
-    let eg : gain ≡ gain_before (heard n m) operator k = r.gain_is ∙ sym (gain_before_same k n _ _ operator k (agrees_heard n m) (omega arith)) in
+    let ep : phase ≡ wrap (pos 64 *ℤ increments_before (after_block n m) operator k) = r.phase_is ∙ ap (λ z. wrap (pos 64 *ℤ z)) (sym (increments_same k n _ _ operator k (agrees_after_block n m) (omega arith))) in
+    let eg : gain ≡ gain_before (after_block n m) operator k = r.gain_is ∙ sym (gain_before_same k n _ _ operator k (agrees_after_block n m) (omega arith)) in
     rw (ep, s, eg, g)

@@ -1,11 +1,11 @@
--- What moves the pitch and the gain of a note in a block: the oscillator of all notes, the pitch bend and the modulation wheel.
+-- What moves the pitch and the gain of a note in a block: the LFO of all notes, the pitch bend and the modulation wheel.
 use Rattle.std.specs.Prelude.{ℕ, ◌*◌, ◌/◌, ◌^◌, max, List, slice_index, ℤ, pos, ◌+ℤ◌, ◌-ℤ◌, ◌*ℤ◌}
 use Rattle.std.specs.Int.{int_shr, int_max}
 use Rattle.dx_tables.specs.Constants.{pitch_sensitivity, amplitude_sensitivity}
 use Rattle.dx_tables.specs.Powers.{exponential}
 use Rattle.key_scale.specs.Operator.{operator_field}
 
--- the oscillator's value and how far its delay has gone, 2 ^ 24 for the whole, the pitch bend, 8192 for none, and the wheel
+-- the LFO's value and how far its delay has gone, 2 ^ 24 for the whole, the pitch bend, 8192 for none, and the wheel
 pub record Modulation : Type 0 where
   pub lfo : ℤ
   pub delay : ℕ
@@ -16,11 +16,11 @@ pub record Modulation : Type 0 where
 abbrev pub depth_part : ℕ → ℕ
 depth_part setting = 165 * setting / 2 ^ 6
 
--- how deep the oscillator moves the pitch: as the voice has it once the delay is over, or as the wheel has it, whichever is deeper
+-- how deep the LFO moves the pitch: as the voice has it once the delay is over, or as the wheel has it, whichever is deeper
 unfoldable pub vibrato_depth : ℕ → ℕ → ℕ → ℕ
 vibrato_depth setting delay wheel = max (depth_part setting * delay) (wheel * 2 ^ 25)
 
--- what the oscillator adds to the pitch
+-- what the LFO adds to the pitch
 unfoldable pub vibrato : ℕ → ℕ → ℤ → ℤ
 vibrato depth sensitivity lfo = int_shr (pos depth *ℤ pos (pitch_sensitivity sensitivity) *ℤ (lfo -ℤ pos (2 ^ 23))) 39
 
@@ -33,22 +33,22 @@ abbrev pub pitch_modulation : List ℕ → Modulation → ℤ → ℤ
 pitch_modulation voice m level =
     level +ℤ vibrato (vibrato_depth (slice_index voice 139) m.delay m.wheel) (slice_index voice 143) m.lfo +ℤ bend_pitch m.bend
 
--- how deep the oscillator moves the gain, in parts of 2 ^ 16
+-- how deep the LFO moves the gain, in parts of 2 ^ 16
 unfoldable pub tremolo_depth : ℕ → ℕ → ℕ → ℕ
 tremolo_depth setting sensitivity delay = depth_part setting * amplitude_sensitivity sensitivity * delay / 2 ^ 24
 
--- the same of an operator of a voice, once the oscillator's delay is over
+-- the same of an operator of a voice, once the LFO's delay is over
 abbrev pub tremolo_weight : List ℕ → ℕ → ℕ
 tremolo_weight voice operator = depth_part (slice_index voice 140) * amplitude_sensitivity (operator_field voice operator 14)
 
--- how far the oscillator takes a level down
+-- how far the LFO attenuates a level
 unfoldable pub tremolo : ℕ → ℤ → ℤ
 tremolo depth lfo = int_shr (pos depth *ℤ (pos (2 ^ 24) -ℤ lfo)) 13
 
--- how far the level of an operator of a voice is taken down
-abbrev pub level_drop : List ℕ → ℕ → Modulation → ℤ
-level_drop voice operator m = tremolo (tremolo_depth (slice_index voice 140) (operator_field voice operator 14) m.delay) m.lfo
+-- how far the level of an operator of a voice is attenuated
+abbrev pub attenuation_of : List ℕ → ℕ → Modulation → ℤ
+attenuation_of voice operator m = tremolo (tremolo_depth (slice_index voice 140) (operator_field voice operator 14) m.delay) m.lfo
 
--- the gain at a level of the envelope that is taken down by a drop; 14 octaves of level are a gain of 1.0
+-- the gain at a level of the envelope that is lowered by an attenuation; 14 octaves of level are a gain of 1.0
 unfoldable pub gain_of : ℤ → ℤ → ℤ
-gain_of level drop = exponential (int_max (pos 0) (level -ℤ drop) -ℤ pos (14 * 2 ^ 24))
+gain_of level attenuation = exponential (int_max (pos 0) (level -ℤ attenuation) -ℤ pos (14 * 2 ^ 24))

@@ -8,12 +8,12 @@ use Rattle.block_rates.specs.Pitches.{PitchEnvelopeSettings, pitch_envelope_leve
 use Rattle.key_scale.specs.Levels.{output_level, rate_scale_of}
 use Rattle.key_scale.specs.Pitch.{pitch_of_operator}
 use Rattle.operator_kernel.specs.declared.OpBlock.{OpBlock}
-use Rattle.operator_kernel.specs.Operator.{Memory}
-use Rattle.algorithm_bus.specs.Signals.{Patch, memory_left, note_output}
+use Rattle.operator_kernel.specs.Operator.{FeedbackState}
+use Rattle.algorithm_bus.specs.Signals.{Patch, feedback_state_left, note_output}
 use Rattle.algorithm_bus.specs.Buses.{op_of}
-use Rattle.note_voice.specs.Modulation.{Modulation, pitch_modulation, level_drop, gain_of}
+use Rattle.note_voice.specs.Modulation.{Modulation, pitch_modulation, attenuation_of, gain_of}
 
--- a note as plain data: the 155 numbers of its voice, which operators are switched on, its key and velocity, after how many of its blocks the key was let go, and what moved it in each block so far
+-- a note as plain data: the 155 numbers of its voice, which operators are switched on, its key and velocity, after how many of its blocks the key was released, and what moved it in each block so far
 pub record NoteData : Type 0 where
   pub voice : List ℕ
   pub switch : ℕ
@@ -29,17 +29,17 @@ begun voice switch key velocity = record { voice = voice; switch = switch; key =
 abbrev pub continued : NoteData → Option ℕ → List Modulation → NoteData
 continued n off past = record { voice = n.voice; switch = n.switch; key = n.key; velocity = n.velocity; off = off; past = past }
 
--- the note with its key let go
-abbrev pub let_go : NoteData → NoteData
-let_go n = continued n (released_after (length n.past) n.off) n.past
+-- the note with its key released
+abbrev pub note_released : NoteData → NoteData
+note_released n = continued n (released_after (length n.past) n.off) n.past
 
 -- the note one block later
-abbrev pub heard : NoteData → Modulation → NoteData
-heard n m = continued n n.off (n.past ++ m ∷ [])
+abbrev pub after_block : NoteData → Modulation → NoteData
+after_block n m = continued n n.off (n.past ++ m ∷ [])
 
 -- what moved the note in block i
-abbrev pub moved_in : List Modulation → ℕ → Modulation
-moved_in past i = slice_index_or past i (record { lfo = pos 0; delay = 0; bend = 0; wheel = 0 })
+abbrev pub modulation_in : List Modulation → ℕ → Modulation
+modulation_in past i = slice_index_or past i (record { lfo = pos 0; delay = 0; bend = 0; wheel = 0 })
 
 -- the note that is played, by key and transpose
 abbrev pub played_note : List ℕ → ℕ → ℤ
@@ -67,24 +67,24 @@ pitch_settings voice = record { rates = four_from voice 126; levels = four_from 
 
 -- what is added to the pitch of all operators in block i
 unfoldable pub pitch_shift_in : NoteData → ℕ → ℤ
-pitch_shift_in n i = pitch_modulation n.voice (moved_in n.past i) (pitch_envelope_level (pitch_settings n.voice) (i + 1) n.off)
+pitch_shift_in n i = pitch_modulation n.voice (modulation_in n.past i) (pitch_envelope_level (pitch_settings n.voice) (i + 1) n.off)
 
 -- the phase step of an operator in block i
-unfoldable pub step_in : NoteData → ℕ → ℕ → ℤ
-step_in n operator i = frequency (pitch_of_operator n.voice operator (played_note n.voice n.key) +ℤ pitch_shift_in n i)
+unfoldable pub increment_in : NoteData → ℕ → ℕ → ℤ
+increment_in n operator i = frequency (pitch_of_operator n.voice operator (played_note n.voice n.key) +ℤ pitch_shift_in n i)
 
 -- the sum of the phase steps of the first i blocks
-unfoldable pub steps_before : NoteData → ℕ → ℕ → ℤ
-steps_before n operator zero = pos 0
-steps_before n operator (suc i) = steps_before n operator i +ℤ step_in n operator i
+unfoldable pub increments_before : NoteData → ℕ → ℕ → ℤ
+increments_before n operator zero = pos 0
+increments_before n operator (suc i) = increments_before n operator i +ℤ increment_in n operator i
 
--- how far the level of an operator is taken down in block i
-unfoldable pub drop_in : NoteData → ℕ → ℕ → ℤ
-drop_in n operator i = level_drop n.voice operator (moved_in n.past i)
+-- how far the level of an operator is attenuated in block i
+unfoldable pub attenuation_in : NoteData → ℕ → ℕ → ℤ
+attenuation_in n operator i = attenuation_of n.voice operator (modulation_in n.past i)
 
 -- the gain of an operator at the end of block i
 unfoldable pub gain_after : NoteData → ℕ → ℕ → ℤ
-gain_after n operator i = gain_of (pos (envelope_level (envelope_settings n operator) (i + 1) n.off)) (drop_in n operator i)
+gain_after n operator i = gain_of (pos (envelope_level (envelope_settings n operator) (i + 1) n.off)) (attenuation_in n operator i)
 
 -- the gain where block i begins, which is 0 in the first one
 unfoldable pub gain_before : NoteData → ℕ → ℕ → ℤ
@@ -94,8 +94,8 @@ gain_before n operator (suc i) = gain_after n operator i
 -- an operator in block i
 abbrev pub operator_in : NoteData → ℕ → ℕ → OpBlock
 operator_in n operator i = record {
-  phase = wrap (pos 64 *ℤ steps_before n operator i);
-  freq = step_in n operator i;
+  phase = wrap (pos 64 *ℤ increments_before n operator i);
+  freq = increment_in n operator i;
   g1 = gain_before n operator i;
   g2 = gain_after n operator i;
 }
@@ -109,30 +109,30 @@ abbrev pub muted : OpBlock → OpBlock
 muted op = record { phase = op.phase; freq = op.freq; g1 = pos 0; g2 = pos 0 }
 
 -- an operator in block i as it is heard
-unfoldable pub heard_in : NoteData → ℕ → ℕ → OpBlock
-heard_in n operator i = if is_on n.switch operator then operator_in n operator i else muted (operator_in n operator i)
+unfoldable pub audible_in : NoteData → ℕ → ℕ → OpBlock
+audible_in n operator i = if is_on n.switch operator then operator_in n operator i else muted (operator_in n operator i)
 
 -- all six of them, operator 1 first
 abbrev pub operators_in : NoteData → ℕ → List OpBlock
-operators_in n i = heard_in n 1 i ∷ heard_in n 2 i ∷ heard_in n 3 i ∷ heard_in n 4 i ∷ heard_in n 5 i ∷ heard_in n 6 i ∷ []
+operators_in n i = audible_in n 1 i ∷ audible_in n 2 i ∷ audible_in n 3 i ∷ audible_in n 4 i ∷ audible_in n 5 i ∷ audible_in n 6 i ∷ []
 
 -- what block i is made from, where the operator with feedback left these two samples
-abbrev pub patch_in : NoteData → ℕ → Memory → Patch
+abbrev pub patch_in : NoteData → ℕ → FeedbackState → Patch
 patch_in n i memory = record {
   algorithm = slice_index n.voice 134;
   feedback = slice_index n.voice 135;
   op = op_of (operators_in n i);
-  memory = memory;
+  feedback_state = memory;
 }
 
 -- the last two samples of the operator with feedback before block i
-unfoldable pub memory_before : NoteData → ℕ → Memory
-memory_before n zero = record { before_last = pos 0; last = pos 0 }
-memory_before n (suc i) = memory_left (patch_in n i (memory_before n i))
+unfoldable pub feedback_state_before : NoteData → ℕ → FeedbackState
+feedback_state_before n zero = record { before_last = pos 0; last = pos 0 }
+feedback_state_before n (suc i) = feedback_state_left (patch_in n i (feedback_state_before n i))
 
 -- what block i of a note is made from
 abbrev pub note_patch : NoteData → ℕ → Patch
-note_patch n i = patch_in n i (memory_before n i)
+note_patch n i = patch_in n i (feedback_state_before n i)
 
 -- sample j of block i
 unfoldable pub note_sample : NoteData → ℕ → ℕ → ℤ

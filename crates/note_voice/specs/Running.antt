@@ -7,16 +7,16 @@ use Rattle.block_rates.specs.declared.envelope.Envelope.{Envelope}
 use Rattle.block_rates.specs.declared.pitch_envelope.PitchEnvelope.{PitchEnvelope}
 use Rattle.block_rates.specs.Envelopes.{IsEnvelope}
 use Rattle.block_rates.specs.PitchEnvelopes.{IsPitchEnvelope}
-use Rattle.operator_kernel.specs.Operator.{memory_of}
+use Rattle.operator_kernel.specs.Operator.{feedback_state_of}
 use Rattle.note_voice.specs.declared.operator.Operator.{Operator}
 use Rattle.note_voice.specs.declared.sounding.Sounding.{Sounding}
 use Rattle.note_voice.specs.declared.note.Note.{Note}
 use Rattle.note_voice.specs.Modulation.{Modulation, tremolo_weight}
-use Rattle.note_voice.specs.Note.{NoteData, envelope_settings, pitch_settings, steps_before, gain_before, memory_before, played_note, pitch_shift_in, heard}
+use Rattle.note_voice.specs.Note.{NoteData, envelope_settings, pitch_settings, increments_before, gain_before, feedback_state_before, played_note, pitch_shift_in, after_block}
 
 -- What is kept of an operator stands for it: what changes from block to block, the pitch and the depth that the voice had at the start, and the phase increment where the pitch is moved by this shift.
 pub record IsRunning (phase gain : ℤ) (envelope : Envelope) (pitch : ℤ) (weight : ℕ) (increment shift : ℤ) (operator : ℕ) (n : NoteData) : Type 0 where
-  pub phase_is : phase ≡ wrap (pos 64 *ℤ steps_before n operator (length n.past))
+  pub phase_is : phase ≡ wrap (pos 64 *ℤ increments_before n operator (length n.past))
   pub gain_is : gain ≡ gain_before n operator (length n.past)
   pub envelope_is : IsEnvelope envelope (envelope_settings n operator) (length n.past) n.off
   pub pitch_is : pitch ≡ pitch_of_operator n.voice operator (played_note n.voice n.key)
@@ -47,7 +47,7 @@ IsUnended s n = IsSet s.algorithm s.feedback s.depth s.sensitivity s.switch s.op
 -- what is kept of a note that sounds stands for it
 pub record IsPlaying (s : Sounding) (n : NoteData) : Type 0 where
   pub set : IsUnended s n
-  pub memory_is : memory_of s.memory ≡ memory_before n (length n.past)
+  pub memory_is : feedback_state_of s.feedback_state ≡ feedback_state_before n (length n.past)
 
 abbrev pub IsSounding : Sounding → NoteData → Type 0
 IsSounding s n = IsPlaying s n
@@ -70,9 +70,9 @@ IsBegun (Some s) n = IsUnended s n
 abbrev pub IsNoteBegun : Note → NoteData → Type 0
 IsNoteBegun v n = IsBegun v.sounding n
 
--- what a note is moved by in its next block: its switch, what is added to its pitch, and the oscillator
-pub record IsMoved (switch : ℕ) (shift lfo : ℤ) (delay : ℕ) (n : NoteData) (m : Modulation) : Type 0 where
+-- what a note is moved by in its next block: its switch, what is added to its pitch, and the LFO
+pub record IsModulated (switch : ℕ) (shift lfo : ℤ) (delay : ℕ) (n : NoteData) (m : Modulation) : Type 0 where
   pub switch_is : switch ≡ n.switch
-  pub shift_is : shift ≡ pitch_shift_in (heard n m) (length n.past)
+  pub shift_is : shift ≡ pitch_shift_in (after_block n m) (length n.past)
   pub lfo_is : m.lfo ≡ lfo
   pub delay_is : m.delay ≡ delay

@@ -1,4 +1,4 @@
-//! What the oscillator, the bend and the wheel do to pitch and gain.
+//! What the LFO, the bend and the wheel do to pitch and gain.
 
 ghost use Rattle.std.specs.Prelude.{◌≡◌, ◌≤◌, ◌+◌, ◌*◌, ◌/◌, ◌^◌, pos, neg_ℤ, ◌≤ℤ◌, ◌*ℤ◌, ◌-ℤ◌, ◌+ℤ◌, slice_index};
 ghost use Rattle.std.specs.Int.{int_shr};
@@ -28,7 +28,7 @@ fn part_of_delay(part: u32, delay: u32) -> u64
     u64::from(part) * u64::from(delay)
 }
 
-/// How deep the oscillator moves the pitch.
+/// How deep the LFO moves the pitch.
 #[tactic(auto, unfolding(crate::specs::Modulation::vibrato_depth))]
 fn vibrato_depth(setting: u8, delay: u32, wheel: u8) -> u64
     requires setting { setting ≤ 99 }
@@ -51,7 +51,7 @@ fn weighted(depth: u64, sensitivity: u8) -> i64
     (depth * u64::from(sensitivity)) as i64
 }
 
-/// How far the oscillator is from its middle.
+/// How far the LFO is from its middle.
 fn from_middle(lfo: i32) -> i64
     requires low { neg_ℤ (pos 64) ≤ℤ lfo }
     requires high { lfo ≤ℤ pos (2 ^ 24 + 64) }
@@ -75,7 +75,7 @@ fn swing(depth: i64, distance: i64) -> i32
     ((depth * distance) >> 39) as i32
 }
 
-/// What the oscillator adds to the pitch.
+/// What the LFO adds to the pitch.
 #[tactic(auto, unfolding(crate::specs::Modulation::vibrato))]
 fn vibrato(depth: u64, sensitivity: u8, lfo: i32) -> i32
     requires depth { depth ≤ 255 * 2 ^ 24 }
@@ -132,7 +132,7 @@ pub(crate) fn pitch_modulation(
     level + swing + bend_pitch(bend)
 }
 
-/// How deep the oscillator moves the gain of an operator, 1 to 6, once its delay is over.
+/// How deep the LFO moves the gain of an operator, 1 to 6, once its delay is over.
 pub(crate) fn tremolo_weight(voice: &Voice, operator: u8) -> u32
     requires { (1 ≤ operator) × (operator ≤ 6) }
     ensures value { result ≡ tremolo_weight voice.now operator }
@@ -164,7 +164,7 @@ fn delayed(weight: u32, delay: u32) -> u32
     ((u64::from(weight) * u64::from(delay)) >> 24) as u32
 }
 
-/// How far the oscillator is from its top.
+/// How far the LFO is from its top.
 fn from_top(lfo: i32) -> i64
     requires low { neg_ℤ (pos 64) ≤ℤ lfo }
     requires high { lfo ≤ℤ pos (2 ^ 24 + 64) }
@@ -187,7 +187,7 @@ fn fall(depth: u32, distance: i64) -> i32
     ((i64::from(depth) * distance) >> 13) as i32
 }
 
-/// How far the oscillator takes a level down.
+/// How far the LFO attenuates a level.
 #[tactic(auto, unfolding(crate::specs::Modulation::tremolo))]
 fn tremolo(depth: u32, lfo: i32) -> i32
     requires depth { depth ≤ 65025 }
@@ -200,8 +200,8 @@ fn tremolo(depth: u32, lfo: i32) -> i32
     fall(depth, from_top(lfo))
 }
 
-/// How far the level of an operator of this weight is taken down. 2^24 is one octave of gain.
-pub(crate) fn level_drop(weight: u32, lfo: i32, delay: u32) -> i32
+/// How far the level of an operator of this weight is attenuated. 2^24 is one octave of gain.
+pub(crate) fn attenuation_of(weight: u32, lfo: i32, delay: u32) -> i32
     requires weight { weight ≤ 65025 }
     requires lfo_low { neg_ℤ (pos 64) ≤ℤ lfo }
     requires lfo_high { lfo ≤ℤ pos (2 ^ 24 + 64) }

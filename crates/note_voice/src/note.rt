@@ -1,9 +1,9 @@
 ghost use Rattle.std.specs.Prelude.{◌≡◌, ◌≤◌, ◌^◌, ◌+◌, ℕ, length, pos, neg_ℤ, ◌≤ℤ◌, unsigned_abs};
 ghost use Rattle.note_voice.specs.Mix.{IsAdded, IsSmall};
-ghost use Rattle.operator_kernel.specs.Operator.{memory_of};
+ghost use Rattle.operator_kernel.specs.Operator.{feedback_state_of};
 ghost use Rattle.algorithm_bus.specs.Signals.{note_output};
 ghost use Rattle.algorithm_bus.specs.NoteBlocks.{block_patch};
-ghost use Rattle.note_voice.specs.Note.{NoteData, begun, let_go, heard, memory_before, note_patch, note_sample};
+ghost use Rattle.note_voice.specs.Note.{NoteData, begun, note_released, after_block, feedback_state_before, note_patch, note_sample};
 
 use crate::sound::sound_alone;
 use crate::sounding::Sounding;
@@ -38,10 +38,10 @@ impl Note {
         self.sounding = Some(Sounding::start(tables, voice, switch, key, velocity));
     }
 
-    /// Lets the key go. A second release does nothing, nor does one of an idle note.
+    /// Releases the key. A second release does nothing, nor does one of an idle note.
     pub fn release(&mut self)
         ensures idle { IsNote self.old None → IsNote self.new None }
-        ensures released { (n : NoteData) → IsNote self.old (Some n) → IsNote self.new (Some (let_go n)) }
+        ensures released { (n : NoteData) → IsNote self.old (Some n) → IsNote self.new (Some (note_released n)) }
     {
         if let Some(sounding) = &mut self.sounding {
             sounding.release();
@@ -49,7 +49,7 @@ impl Note {
     }
 
     /// Adds the 64 samples of the next block, 2^24 for full scale of an operator, to a sum of notes whose values are at
-    /// most 2^40 in size. The oscillator's value is -64 to 2^24 + 64 and its delay 0 to 2^24, the bend is 0 to 16383 with 8192 for
+    /// most 2^40 in size. The LFO's value is -64 to 2^24 + 64 and its delay 0 to 2^24, the bend is 0 to 16383 with 8192 for
     /// none, and the wheel is 0 to 127.
     pub fn block(
         &mut self,
@@ -67,8 +67,8 @@ impl Note {
         requires bend { bend ≤ 16383 }
         requires wheel { wheel ≤ 127 }
         requires mix { IsSmall (2 ^ 40) mix.old }
-        ensures samples { (n : NoteData) → IsNote self.old (Some n) → IsAdded (note_sample (heard n (record { lfo = lfo; delay = unsigned_abs delay; bend = bend; wheel = wheel })) (length n.past)) mix.old mix.new }
-        ensures passed { (n : NoteData) → IsNote self.old (Some n) → IsNote self.new (Some (heard n (record { lfo = lfo; delay = unsigned_abs delay; bend = bend; wheel = wheel }))) }
+        ensures samples { (n : NoteData) → IsNote self.old (Some n) → IsAdded (note_sample (after_block n (record { lfo = lfo; delay = unsigned_abs delay; bend = bend; wheel = wheel })) (length n.past)) mix.old mix.new }
+        ensures passed { (n : NoteData) → IsNote self.old (Some n) → IsNote self.new (Some (after_block n (record { lfo = lfo; delay = unsigned_abs delay; bend = bend; wheel = wheel }))) }
         ensures idle { IsNote self.old None → mix.new ≡ mix.old }
         ensures stays_idle { IsNote self.old None → IsNote self.new None }
         ensures small { (bound : ℕ) → IsSmall bound mix.old → IsSmall (bound + 2 ^ 31) mix.new }
@@ -76,7 +76,7 @@ impl Note {
         if let Some(sounding) = &mut self.sounding {
             let mut block = sounding.begin_block(tables, lfo, delay as u32, bend, wheel);
             sound_alone(tables, &mut block, mix);
-            sounding.end_block(block.memory);
+            sounding.end_block(block.feedback_state);
         }
     }
 
@@ -96,8 +96,8 @@ impl Note {
         requires delay_high { delay ≤ℤ pos (2 ^ 24) }
         requires bend { bend ≤ 16383 }
         requires wheel { wheel ≤ 127 }
-        ensures block { (n : NoteData) → IsNote self.old (Some n) → block_patch result ≡ note_patch (heard n (record { lfo = lfo; delay = unsigned_abs delay; bend = bend; wheel = wheel })) (length n.past) }
-        ensures begun { (n : NoteData) → IsNote self.old (Some n) → IsNoteBegun self.new (heard n (record { lfo = lfo; delay = unsigned_abs delay; bend = bend; wheel = wheel })) }
+        ensures block { (n : NoteData) → IsNote self.old (Some n) → block_patch result ≡ note_patch (after_block n (record { lfo = lfo; delay = unsigned_abs delay; bend = bend; wheel = wheel })) (length n.past) }
+        ensures begun { (n : NoteData) → IsNote self.old (Some n) → IsNoteBegun self.new (after_block n (record { lfo = lfo; delay = unsigned_abs delay; bend = bend; wheel = wheel })) }
         ensures silent { IsNote self.old None → (j : ℕ) → note_output (block_patch result) j ≡ pos 0 }
         ensures stays_idle { IsNote self.old None → IsNote self.new None }
     {
@@ -109,7 +109,7 @@ impl Note {
 
     /// Ends a block that was run, with the two samples that it left.
     pub fn end_block(&mut self, memory: [i32; 2])
-        ensures ended { (n : NoteData) → IsNoteBegun self.old n → memory_of memory ≡ memory_before n (length n.past) → IsNote self.new (Some n) }
+        ensures ended { (n : NoteData) → IsNoteBegun self.old n → feedback_state_of memory ≡ feedback_state_before n (length n.past) → IsNote self.new (Some n) }
         ensures stays_idle { IsNote self.old None → IsNote self.new None }
     {
         if let Some(sounding) = &mut self.sounding {

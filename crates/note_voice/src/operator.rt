@@ -2,9 +2,9 @@ ghost use Rattle.std.specs.Prelude.{◌≡◌, ◌≤◌, ◌*◌, ◌^◌, ◌+
 ghost use Rattle.dx_tables.specs.Powers.{frequency};
 ghost use Rattle.operator_kernel.specs.Operator.{HasGains};
 ghost use Rattle.note_voice.specs.Modulation.{Modulation, gain_of};
-ghost use Rattle.note_voice.specs.Note.{NoteData, begun, let_go, heard, played_note, operator_in, pitch_shift_in};
+ghost use Rattle.note_voice.specs.Note.{NoteData, begun, note_released, after_block, played_note, operator_in, pitch_shift_in};
 
-use crate::modulation::{level_drop, tremolo_weight};
+use crate::modulation::{attenuation_of, tremolo_weight};
 use crate::settings;
 use block_rates::Envelope;
 use dx_tables::Tables;
@@ -13,7 +13,7 @@ use operator_kernel::OpBlock;
 use voice_record::Voice;
 
 /// An operator of a note: its phase, its gain at the end of the last block, and its envelope; of the voice, from the start on, its pitch and
-/// how deep the oscillator moves its gain; and the phase increment at the pitch of the last block.
+/// how deep the LFO moves its gain; and the phase increment at the pitch of the last block.
 #[derive(Clone, Copy)]
 pub(crate) struct Operator {
     phase: i32,
@@ -40,18 +40,18 @@ fn increment_at(tables: &Tables, pitch: i32, shift: i32) -> i32
     tables.freq(pitch + shift)
 }
 
-/// The gain at a level of the envelope that is taken down by a drop.
+/// The gain at a level of the envelope that is lowered by an attenuation.
 #[tactic(auto, unfolding(crate::specs::Modulation::gain_of))]
-fn gain(tables: &Tables, level: i32, drop: i32) -> i32
+fn gain(tables: &Tables, level: i32, attenuation: i32) -> i32
     requires level_low { pos 0 ≤ℤ level }
     requires level_high { level ≤ℤ pos 266338304 }
-    requires drop_low { neg_ℤ (pos 509) ≤ℤ drop }
-    requires drop_high { drop ≤ℤ pos (2 ^ 27) }
-    ensures value { result ≡ gain_of level drop }
+    requires attenuation_low { neg_ℤ (pos 509) ≤ℤ attenuation }
+    requires attenuation_high { attenuation ≤ℤ pos (2 ^ 27) }
+    ensures value { result ≡ gain_of level attenuation }
     ensures low { pos 0 ≤ℤ result }
     ensures high { result ≤ℤ pos (2 ^ 26) }
 {
-    tables.exp((level - drop).max(0) - 0xE00_0000)
+    tables.exp((level - attenuation).max(0) - 0xE00_0000)
 }
 
 impl Operator {
@@ -89,9 +89,9 @@ impl Operator {
         }
     }
 
-    /// Lets the key go: the envelope enters its last stage.
+    /// The key is released: the envelope enters its last stage.
     pub(crate) fn release(&mut self)
-        ensures { (n : NoteData) (shift : ℤ) (operator : ℕ) → IsOperator self.old shift operator n → IsOperator self.new shift operator (let_go n) }
+        ensures { (n : NoteData) (shift : ℤ) (operator : ℕ) → IsOperator self.old shift operator n → IsOperator self.new shift operator (note_released n) }
     {
         self.envelope.release();
     }
@@ -111,16 +111,16 @@ impl Operator {
         requires lfo_high { lfo ≤ℤ pos (2 ^ 24 + 64) }
         requires delay { delay ≤ 2 ^ 24 }
         ensures gains { HasGains result }
-        ensures block { (n : NoteData) (m : Modulation) (shift : ℤ) (operator : ℕ) → IsOperator self.old shift operator n → shift ≡ pitch_shift_in (heard n m) (length n.past) → m.lfo ≡ lfo → m.delay ≡ delay → result ≡ operator_in (heard n m) operator (length n.past) }
-        ensures passed { (n : NoteData) (m : Modulation) (shift : ℤ) (operator : ℕ) → IsOperator self.old shift operator n → shift ≡ pitch_shift_in (heard n m) (length n.past) → m.lfo ≡ lfo → m.delay ≡ delay → IsOperator self.new shift operator (heard n m) }
+        ensures block { (n : NoteData) (m : Modulation) (shift : ℤ) (operator : ℕ) → IsOperator self.old shift operator n → shift ≡ pitch_shift_in (after_block n m) (length n.past) → m.lfo ≡ lfo → m.delay ≡ delay → result ≡ operator_in (after_block n m) operator (length n.past) }
+        ensures passed { (n : NoteData) (m : Modulation) (shift : ℤ) (operator : ℕ) → IsOperator self.old shift operator n → shift ≡ pitch_shift_in (after_block n m) (length n.past) → m.lfo ≡ lfo → m.delay ≡ delay → IsOperator self.new shift operator (after_block n m) }
     {
-        let drop = level_drop(self.weight, lfo, delay);
+        let attenuation = attenuation_of(self.weight, lfo, delay);
         let level = self.envelope.step();
         let op = OpBlock {
             phase: self.phase,
             freq: self.increment,
             g1: self.gain,
-            g2: gain(tables, level, drop),
+            g2: gain(tables, level, attenuation),
         };
         self.phase = op.phase.wrapping_add(op.freq.wrapping_mul(64));
         self.gain = op.g2;

@@ -4,8 +4,8 @@ ghost use Rattle.std.specs.Prelude.{◌≡◌, ◌≤◌, ◌*◌, ◌^◌, ◌+
 ghost use Rattle.operator_kernel.specs.Operator.{HasGains};
 ghost use Rattle.algorithm_bus.specs.Buses.{HaveGains};
 ghost use Rattle.note_voice.specs.Modulation.{Modulation};
-ghost use Rattle.note_voice.specs.Note.{NoteData, begun, let_go, heard, played_note, is_on, muted, operators_in};
-ghost use Rattle.note_voice.specs.Running.{AreOperators, IsMoved};
+ghost use Rattle.note_voice.specs.Note.{NoteData, begun, note_released, after_block, played_note, is_on, muted, operators_in};
+ghost use Rattle.note_voice.specs.Running.{AreOperators, IsModulated};
 
 use crate::operator::Operator;
 use dx_tables::Tables;
@@ -56,9 +56,9 @@ pub(crate) fn start_all(tables: &Tables, voice: &Voice, note: i32, velocity: u8)
     ]
 }
 
-/// Lets the key of all operators go.
+/// Releases all operators.
 pub(crate) fn release_all(operators: &mut [Operator; 6])
-    ensures { (n : NoteData) (shift : ℤ) → AreOperators operators.old shift n → AreOperators operators.new shift (let_go n) }
+    ensures { (n : NoteData) (shift : ℤ) → AreOperators operators.old shift n → AreOperators operators.new shift (note_released n) }
 {
     for k in 0..6usize {
         operators[k].release();
@@ -91,8 +91,8 @@ pub(crate) fn pass_all(
     requires lfo_high { lfo ≤ℤ pos (2 ^ 24 + 64) }
     requires delay { delay ≤ 2 ^ 24 }
     ensures gains { HaveGains result }
-    ensures blocks { (n : NoteData) (m : Modulation) (shift : ℤ) → IsMoved switch shift lfo delay n m → AreOperators operators.old shift n → result ≡ operators_in (heard n m) (length n.past) }
-    ensures passed { (n : NoteData) (m : Modulation) (shift : ℤ) → IsMoved switch shift lfo delay n m → AreOperators operators.old shift n → AreOperators operators.new shift (heard n m) }
+    ensures blocks { (n : NoteData) (m : Modulation) (shift : ℤ) → IsModulated switch shift lfo delay n m → AreOperators operators.old shift n → result ≡ operators_in (after_block n m) (length n.past) }
+    ensures passed { (n : NoteData) (m : Modulation) (shift : ℤ) → IsModulated switch shift lfo delay n m → AreOperators operators.old shift n → AreOperators operators.new shift (after_block n m) }
 {
     let mut ops = [OpBlock {
         phase: 0,

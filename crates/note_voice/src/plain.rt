@@ -19,9 +19,9 @@ pub struct Moved {
     pub wheel: u8,
 }
 
-/// What moves block `i`: the oscillator in jumps over its whole range, the delay in growth, bend and wheel at their ends
+/// What moves block `i`: the LFO in jumps over its whole range, the delay in growth, bend and wheel at their ends
 /// and between.
-pub fn movement(i: u32) -> Moved
+pub fn modulation(i: u32) -> Moved
     ensures lfo_low { neg_ℤ (pos 64) ≤ℤ result.lfo }
     ensures lfo_high { result.lfo ≤ℤ pos (2 ^ 24 + 64) }
     ensures delay { result.delay ≤ 2 ^ 24 }
@@ -120,7 +120,7 @@ fn pitch_target(voice: &Voice, stage: usize) -> i64 {
 
 /// What is added to the pitch in block `i`.
 fn shift(note: &PlainNote, i: u32) -> i64 {
-    let m = movement(i);
+    let m = modulation(i);
     let depth = number(&note.voice, 139).wrapping_mul(165) >> 6;
     let by_delay = depth.wrapping_mul(i64::from(m.delay));
     let deepest = by_delay.max(i64::from(m.wheel).wrapping_mul(33_554_432));
@@ -133,9 +133,9 @@ fn shift(note: &PlainNote, i: u32) -> i64 {
         .wrapping_add(bend)
 }
 
-/// How far the level of an operator is taken down in block `i`.
-fn drop(note: &PlainNote, operator: u8, i: u32) -> i64 {
-    let m = movement(i);
+/// How far the level of an operator is attenuated in block `i`.
+fn attenuation(note: &PlainNote, operator: u8, i: u32) -> i64 {
+    let m = modulation(i);
     let depth = number(&note.voice, 140).wrapping_mul(165) >> 6;
     let place = first_place(operator).wrapping_add(14);
     let sensitivity = number(&note.voice, place).unsigned_abs() as usize % 4;
@@ -176,7 +176,7 @@ fn gain(tables: &Tables, note: &PlainNote, operator: u8, k: u32) -> i64 {
         k,
         note.off,
     );
-    let fallen = level.wrapping_sub(drop(note, operator, k - 1));
+    let fallen = level.wrapping_sub(attenuation(note, operator, k - 1));
     i64::from(tables.exp(fallen.clamp(0, 300_000_000) as i32 - 0xE00_0000))
 }
 
@@ -257,7 +257,7 @@ fn sum(
     requires feedback { feedback ≤ 7 }
 {
     let mut samples = [0i32; 7];
-    let mut heard = 0i32;
+    let mut after_block = 0i32;
     for k in 0..6u8 {
         let o = 6 - k;
         let mut input = 0i32;
@@ -277,8 +277,8 @@ fn sum(
             *memory = [memory[1], y];
         }
         if is_carrier(algorithm, o) {
-            heard = heard.wrapping_add(y);
+            after_block = after_block.wrapping_add(y);
         }
     }
-    heard
+    after_block
 }

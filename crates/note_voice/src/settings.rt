@@ -55,7 +55,7 @@ pub(crate) fn pitch_levels(voice: &Voice) -> [u8; 4]
     four(voice, 130)
 }
 
-/// How far the oscillator's amplitude modulation reaches an operator.
+/// How far the LFO's amplitude modulation reaches an operator.
 pub(crate) fn amplitude_sensitivity(voice: &Voice, operator: u8) -> u8
     requires { (1 ≤ operator) × (operator ≤ 6) }
     ensures value { result ≡ operator_field voice.now operator 14 }
@@ -81,7 +81,7 @@ pub(crate) fn feedback(voice: &Voice) -> u8
     voice.get(135)
 }
 
-/// How deep the oscillator moves the pitch.
+/// How deep the LFO moves the pitch.
 #[tactic(auto, unfolding(voice_record::specs::Voice::greatest_value))]
 pub(crate) fn pitch_depth(voice: &Voice) -> u8
     ensures value { result ≡ slice_index voice.now 139 }
@@ -90,7 +90,7 @@ pub(crate) fn pitch_depth(voice: &Voice) -> u8
     voice.get(139)
 }
 
-/// How deep the oscillator moves the gain.
+/// How deep the LFO moves the gain.
 #[tactic(auto, unfolding(voice_record::specs::Voice::greatest_value))]
 pub(crate) fn amplitude_depth(voice: &Voice) -> u8
     ensures value { result ≡ slice_index voice.now 140 }
@@ -99,7 +99,7 @@ pub(crate) fn amplitude_depth(voice: &Voice) -> u8
     voice.get(140)
 }
 
-/// How far the oscillator's pitch modulation reaches the voice.
+/// How far the LFO's pitch modulation reaches the voice.
 #[tactic(auto, unfolding(voice_record::specs::Voice::greatest_value))]
 pub(crate) fn pitch_sensitivity(voice: &Voice) -> u8
     ensures value { result ≡ slice_index voice.now 143 }

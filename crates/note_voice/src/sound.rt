@@ -1,8 +1,8 @@
 //! Blocks of notes are run and added to a sum.
 
 ghost use Rattle.std.specs.Prelude.{◌≡◌, ◌+◌, ◌*◌, ◌^◌, ◌+ℤ◌, ℕ, length};
-ghost use Rattle.operator_kernel.specs.Operator.{memory_of};
-ghost use Rattle.algorithm_bus.specs.Signals.{memory_left, note_output};
+ghost use Rattle.operator_kernel.specs.Operator.{feedback_state_of};
+ghost use Rattle.algorithm_bus.specs.Signals.{feedback_state_left, note_output};
 ghost use Rattle.algorithm_bus.specs.NoteBlocks.{block_patch};
 ghost use Rattle.note_voice.specs.Mix.{IsAdded, IsSmall};
 
@@ -16,14 +16,14 @@ pub fn sound_alone(tables: &Tables, block: &mut NoteBlock, mix: &mut [i64; 64])
     requires { IsSmall (2 ^ 40) mix.old }
     ensures samples { IsAdded (note_output (block_patch block.old)) mix.old mix.new }
     ensures small { (bound : ℕ) → IsSmall bound mix.old → IsSmall (bound + 2 ^ 31) mix.new }
-    ensures memory { memory_of block.new.memory ≡ memory_left (block_patch block.old) }
+    ensures memory { feedback_state_of block.new.feedback_state ≡ feedback_state_left (block_patch block.old) }
 {
-    if block.is_heard() {
+    if block.is_audible() {
         let mut bus = [0i32; 64];
         block.run(tables, &mut bus);
         add(&bus, mix);
     } else {
-        block.pass_unheard(tables);
+        block.pass_inaudible(tables);
     }
 }
 
@@ -49,10 +49,10 @@ pub fn sound_four(
     requires mix { IsSmall (2 ^ 39) mix.old }
     ensures samples { IsAdded (λ j. note_output (block_patch first.old) j +ℤ note_output (block_patch second.old) j +ℤ note_output (block_patch third.old) j +ℤ note_output (block_patch fourth.old) j) mix.old mix.new }
     ensures small { (bound : ℕ) → IsSmall bound mix.old → IsSmall (bound + 4 * 2 ^ 31) mix.new }
-    ensures memory0 { memory_of first.new.memory ≡ memory_left (block_patch first.old) }
-    ensures memory1 { memory_of second.new.memory ≡ memory_left (block_patch second.old) }
-    ensures memory2 { memory_of third.new.memory ≡ memory_left (block_patch third.old) }
-    ensures memory3 { memory_of fourth.new.memory ≡ memory_left (block_patch fourth.old) }
+    ensures memory0 { feedback_state_of first.new.feedback_state ≡ feedback_state_left (block_patch first.old) }
+    ensures memory1 { feedback_state_of second.new.feedback_state ≡ feedback_state_left (block_patch second.old) }
+    ensures memory2 { feedback_state_of third.new.feedback_state ≡ feedback_state_left (block_patch third.old) }
+    ensures memory3 { feedback_state_of fourth.new.feedback_state ≡ feedback_state_left (block_patch fourth.old) }
 {
     let mut out0 = room();
     let mut out1 = room();

@@ -1,7 +1,7 @@
 ghost use Rattle.std.specs.Prelude.{◌≡◌, ◌≤◌, ◌^◌, ◌+◌, ℕ, length, pos, neg_ℤ, ◌≤ℤ◌};
-ghost use Rattle.operator_kernel.specs.Operator.{memory_of};
+ghost use Rattle.operator_kernel.specs.Operator.{feedback_state_of};
 ghost use Rattle.algorithm_bus.specs.NoteBlocks.{block_patch};
-ghost use Rattle.note_voice.specs.Note.{NoteData, begun, let_go, heard, memory_before, note_patch};
+ghost use Rattle.note_voice.specs.Note.{NoteData, begun, note_released, after_block, feedback_state_before, note_patch};
 
 use crate::modulation::pitch_modulation;
 use crate::operator::Operator;
@@ -23,7 +23,7 @@ pub(crate) struct Sounding {
     operators: [Operator; 6],
     shift: i32,
     pitch: PitchEnvelope,
-    memory: [i32; 2],
+    feedback_state: [i32; 2],
     ghost algorithm_bound: { algorithm ≤ 31 },
     ghost feedback_bound: { feedback ≤ 7 },
     ghost depth_bound: { depth ≤ 99 },
@@ -55,13 +55,13 @@ impl Sounding {
             operators: start_all(tables, voice, note, velocity),
             shift: 0,
             pitch: PitchEnvelope::new(settings::pitch_rates(voice), settings::pitch_levels(voice)),
-            memory: [0, 0],
+            feedback_state: [0, 0],
         }
     }
 
-    /// Lets the key go: all envelopes enter their last stage.
+    /// The key is released: all envelopes enter their last stage.
     pub(crate) fn release(&mut self)
-        ensures { (n : NoteData) → IsSounding self.old n → IsSounding self.new (let_go n) }
+        ensures { (n : NoteData) → IsSounding self.old n → IsSounding self.new (note_released n) }
     {
         release_all(&mut self.operators);
         self.pitch.release();
@@ -81,8 +81,8 @@ impl Sounding {
         requires delay { delay ≤ 2 ^ 24 }
         requires bend { bend ≤ 16383 }
         requires wheel { wheel ≤ 127 }
-        ensures block { (n : NoteData) → IsSounding self.old n → block_patch result ≡ note_patch (heard n (record { lfo = lfo; delay = delay; bend = bend; wheel = wheel })) (length n.past) }
-        ensures begun { (n : NoteData) → IsSounding self.old n → IsUnended self.new (heard n (record { lfo = lfo; delay = delay; bend = bend; wheel = wheel })) }
+        ensures block { (n : NoteData) → IsSounding self.old n → block_patch result ≡ note_patch (after_block n (record { lfo = lfo; delay = delay; bend = bend; wheel = wheel })) (length n.past) }
+        ensures begun { (n : NoteData) → IsSounding self.old n → IsUnended self.new (after_block n (record { lfo = lfo; delay = delay; bend = bend; wheel = wheel })) }
     {
         let level = self.pitch.step();
         let shift = pitch_modulation(self.depth, self.sensitivity, level, lfo, delay, bend, wheel);
@@ -93,14 +93,14 @@ impl Sounding {
             algorithm: self.algorithm,
             feedback: self.feedback,
             ops,
-            memory: self.memory,
+            feedback_state: self.feedback_state,
         }
     }
 
     /// Takes the two samples that come back, once the block was run.
     pub(crate) fn end_block(&mut self, memory: [i32; 2])
-        ensures { (n : NoteData) → IsUnended self.old n → memory_of memory ≡ memory_before n (length n.past) → IsSounding self.new n }
+        ensures { (n : NoteData) → IsUnended self.old n → feedback_state_of memory ≡ feedback_state_before n (length n.past) → IsSounding self.new n }
     {
-        self.memory = memory;
+        self.feedback_state = memory;
     }
 }

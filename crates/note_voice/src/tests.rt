@@ -2,7 +2,7 @@ ghost use Rattle.std.specs.Prelude.{◌≤◌, ◌<◌, ◌^◌};
 ghost use Rattle.note_voice.specs.Mix.{IsSmall};
 
 use super::*;
-use crate::plain::{PlainNote, block, movement};
+use crate::plain::{PlainNote, block, modulation};
 use dx_tables::Tables;
 use std::process::Abort;
 use std::test::Fail;
@@ -38,7 +38,7 @@ fn compare(rt: &impl Abort, tables: &Tables, plain: &PlainNote) -> u32
         if i == plain.off {
             note.release();
         }
-        let m = movement(i);
+        let m = modulation(i);
         let mut mix = nothing();
         note.block(tables, m.lfo, m.delay as i32, m.bend, m.wheel, &mut mix);
         let samples = block(tables, plain, i, &mut memory);

@@ -6,7 +6,7 @@ use Rattle.std.proofs.lemmas.List.Splits.{slice_split_first, slice_split_none, l
 use Rattle.std.proofs.lemmas.List.Sums.{fails_before_first}
 use Rattle.std.proofs.lemmas.List.{take_all}
 use Rattle.std.proofs.lemmas.List.Elements.{All-from_get_or}
-use Rattle.plain_text.specs.Parts.{parts}
+use Rattle.plain_text.specs.Split.{split}
 
 record IsFound (t : Bool) (n at : ℕ) : Type 0 where
   there : t ≡ true
@@ -21,25 +21,25 @@ missed true n e = absurd (cc)
 missed false n e = refl
 
 pub cut_found : (code at : ℕ) (text : List ℕ) → position (λ byte. byte == code) text ≡ Some at
-    → (at < length text) × (parts code text ≡ take at text ∷ parts code (drop (at + 1) text))
+    → (at < length text) × (split code text ≡ take at text ∷ split code (drop (at + 1) text))
 cut_found code at text e =
     let f = found _ _ at e in
     let below : position_or_len (λ byte. byte == code) text < length text = ltb-true _ _ f.there in (
       subst (λ (n : ℕ). n < length text) f.is below,
-      subst (λ (n : ℕ). parts code text ≡ take n text ∷ parts code (drop (n + 1) text)) f.is (slice_split_first (λ byte. byte == code) text 0 below),
+      subst (λ (n : ℕ). split code text ≡ take n text ∷ split code (drop (n + 1) text)) f.is (slice_split_first (λ byte. byte == code) text 0 below),
     )
 
-pub cut_missed : (code : ℕ) (text : List ℕ) → position (λ byte. byte == code) text ≡ None → parts code text ≡ text ∷ []
+pub cut_missed : (code : ℕ) (text : List ℕ) → position (λ byte. byte == code) text ≡ None → split code text ≡ text ∷ []
 cut_missed code text e =
     let past : length text ≤ position_or_len (λ byte. byte == code) text = ltb-false _ _ (missed _ _ e) in
     slice_split_none (λ byte. byte == code) text
     (All-from_get_or (λ byte. (byte == code) ≡ false) text 0 (λ k below. fails_before_first (λ byte. byte == code) text k 0 (omega arith)))
 
 -- there is one part at least
-pub parts_some : (code : ℕ) (text : List ℕ) → parts code text ≢ []
-parts_some code text e =
+pub split_some : (code : ℕ) (text : List ℕ) → split code text ≢ []
+split_some code text e =
     let count = length-slice_split (λ byte. byte == code) text in
-    let none : length (parts code text) ≡ 0 = ap length e in
+    let none : length (split code text) ≡ 0 = ap length e in
     absurd (omega arith)
 
 -- all that is left of a text

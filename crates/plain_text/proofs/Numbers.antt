@@ -59,7 +59,7 @@ unshort true true true l m x e = refl
 pub not_padded : (least most : ℕ) (text : List ℕ) → is_padded text ≡ true → number least most text ≡ None
 not_padded least most text padded = unshort (all_ascii_digits text) (nat_lt 0 (length text)) _ _ _ _ padded
 
--- a number whose front is already above the most
+-- a number whose first digits are already above the most
 pub not_small : (least most i value : ℕ) (text : List ℕ) → value ≡ digits_value 10 (take i text) → most < value → number least most text ≡ None
 not_small least most i value text is above =
     let more = digits_value-take-le 10 text i (omega arith) in

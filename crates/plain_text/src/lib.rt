@@ -3,11 +3,11 @@
 
 mod line;
 mod number;
-mod part;
+mod split;
 
 pub use line::{LineText, push_number, push_text};
-pub use number::{number_in, numbers_are_decimal};
-pub use part::{cut, is_word};
+pub use number::{numbers_are_decimal, parse_number};
+pub use split::{is_word, split_once};
 
 #[cfg(test)]
 mod tests;

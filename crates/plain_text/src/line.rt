@@ -1,3 +1,5 @@
+//! Lines of text that are written.
+
 ghost use Rattle.std.specs.Prelude.{◌≡◌, ◌+◌, ◌≤◌, ◌++◌, decimal, length};
 
 use arrayvec::ArrayVec;

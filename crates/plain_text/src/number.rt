@@ -1,9 +1,11 @@
+//! Numbers in decimal digits.
+
 ghost use Rattle.std.specs.Prelude.{◌≡◌, ◌↔◌, ◌≤◌, ◌&&◌, IfSome, IsTrue, nat_le, if◌then◌else◌};
 ghost use Rattle.std.specs.Int.{IsInRange};
 ghost use Rattle.plain_text.specs.Number.{NumbersAreDecimal, is_padded, number};
 
 /// The number that the text writes in decimal digits without a leading zero, where it is from `least` to `most`.
-pub fn number_in(text: &[u8], least: u32, most: u32) -> Option<u32>
+pub fn parse_number(text: &[u8], least: u32, most: u32) -> Option<u32>
     ensures value { result ≡ number least most text.now }
     ensures range { IfSome result (λ value. (least ≤ value) × (value ≤ most)) }
 {

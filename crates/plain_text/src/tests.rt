@@ -1,10 +1,12 @@
+//! Numbers, lines and texts that are split.
+
 use super::*;
 use std::process::Abort;
 use std::test::Fail;
 
 /// What a number reads as, from 1 to 300.
 fn read(rt: &impl Abort, text: &[u8], wanted: Option<u32>) {
-    let found = number_in(text, 1, 300);
+    let found = parse_number(text, 1, 300);
     assert_eq!(rt; found, wanted);
 }
 
@@ -23,7 +25,7 @@ fn numbers_and_words(rt: HostRuntime) -> Result<(), Fail> {
     push_number(&mut line, 4_294_967_295);
     push_text(&mut line, b" 0");
     assert!(rt; is_word(line.as_slice(), b"blocks 4294967295 0"));
-    let parted = cut(line.as_slice(), b' ');
-    assert!(rt; matches!(parted, Some((front, _)) if is_word(front, b"blocks")));
+    let parted = split_once(line.as_slice(), b' ');
+    assert!(rt; matches!(parted, Some((word, _)) if is_word(word, b"blocks")));
     Ok(())
 }

@@ -3,7 +3,7 @@ ghost use Rattle.std.specs.Prelude.{◌≡◌, ◌≢◌, ◌≤◌, ◌<◌, �
 ghost use Rattle.std.specs.List.{list_all};
 ghost use Rattle.play_core.specs.Words as grammar;
 
-use plain_text::number_in;
+use plain_text::parse_number;
 
 /// What the words ask for: the two files to write, the number of blocks (1 to 1048576) and of places (1 to 1000000), or `None` where the
 /// word is `-`, and the names of 1 to 256 scripts.
@@ -60,7 +60,7 @@ fn choice(word: &str, least: u32, most: u32) -> Option<Option<u32>>
     if word == "-" {
         return Some(None);
     }
-    match number_in(word.as_bytes(), least, most) {
+    match parse_number(word.as_bytes(), least, most) {
         Some(number) => Some(Some(number)),
         None => None,
     }

@@ -7,7 +7,7 @@ use Rattle.std.proofs.Math.Seq.{get_or-append_seam}
 use Rattle.midi_stream.specs.declared.message.MidiMessage.{MidiMessage}
 use Rattle.midi_stream.specs.declared.message.MidiMessage.TheVariants.{NoteOff, NoteOn, KeyPressure, Control, Program, ChannelPressure, Bend, SysEx, SysExTooLong}
 use Rattle.midi_stream.specs.declared.reader.MidiReader.{MidiReader}
-use Rattle.midi_stream.specs.Messages.{messages, last_exclusive}
+use Rattle.midi_stream.specs.Messages.{messages, last_sysex}
 use Rattle.midi_stream.specs.Ranges.{InRange}
 use Rattle.midi_stream.specs.Reading.{Reads}
 use Rattle.midi_stream.specs.Standing.{Answers, HasBytes}
@@ -136,12 +136,12 @@ heard_by reader curve keeps done stream sysex t old new fed r ms e s same l = (
 pub byte_told :
     (was reader : MidiReader) (curve : Curve) (keeps : Option Kept) (done : List Told) (stream sysex : List ℕ) (byte : ℕ) (m : MidiMessage) (old new : SendView) (fed : Fed)
     → HasUsed was curve None done stream → Reads reader (stream ++ byte ∷ [])
-    → Answers (Some m) (messages stream) (messages (stream ++ byte ∷ [])) → InRange m → HasBytes m (last_exclusive (stream ++ byte ∷ []))
-    → IfSome (last_exclusive (stream ++ byte ∷ [])) (λ bytes. length bytes ≤ 5000 → sysex ≡ bytes)
+    → Answers (Some m) (messages stream) (messages (stream ++ byte ∷ [])) → InRange m → HasBytes m (last_sysex (stream ++ byte ∷ []))
+    → IfSome (last_sysex (stream ++ byte ∷ [])) (λ bytes. length bytes ≤ 5000 → sysex ≡ bytes)
     → Settles curve sysex (command_of m sysex curve) keeps old new fed → KeepsThis keeps m
     → (now : List Told) × (HasUsed reader curve keeps (done ++ now) (stream ++ byte ∷ []) × Handles now old new fed)
 byte_told was reader curve keeps done stream sysex byte m old new fed u r a range has text s k =
-    let same = told_same m (last_exclusive (stream ++ byte ∷ [])) sysex curve range has text in
+    let same = told_same m (last_sysex (stream ++ byte ∷ [])) sysex curve range has text in
     let tells : tellings curve (stream ++ byte ∷ []) ≡ done ++ command_of m sysex curve ∷ [] =
     tellings_more curve (Some m) stream byte a ∙ ap (λ (ts : List Told). ts ++ command_of m (exclusive_of (stream ++ byte ∷ [])) curve ∷ []) (u.tells ∙ append-nil done)
     ∙ ap (λ (t : Told). done ++ t ∷ []) (sym same) in
@@ -179,12 +179,12 @@ kept_command_told reader curve was keeps done stream held waiting command old ne
 pub kept_message_told :
     (reader : MidiReader) (curve : Curve) (was keeps : Option Kept) (done : List Told) (stream sysex : List ℕ) (held : Kept) (ended m : MidiMessage) (old new : SendView) (fed : Fed)
     → HasUsed reader curve was done stream → Some held ≡ was → held ≡ kept.Message ended → m ≡ ended → InRange m
-    → IfSome (last_exclusive stream) (λ bytes. length bytes ≤ 5000 → sysex ≡ bytes)
+    → IfSome (last_sysex stream) (λ bytes. length bytes ≤ 5000 → sysex ≡ bytes)
     → Settles curve sysex (command_of m sysex curve) keeps old new fed → KeepsThis keeps m
     → (now : List Told) × (HasUsed reader curve keeps (done ++ now) stream × Handles now old new fed)
 kept_message_told reader curve was keeps done stream sysex held ended m old new fed u w h e range text s k =
     let is : was ≡ Some (kept.Message m) = sym w ∙ ap (λ (x : Kept). Some x) (h ∙ ap (λ (x : MidiMessage). kept.Message x) (sym e)) in
     let v : HasUsed reader curve (Some (kept.Message m)) done stream = rw (← is) u in
-    let same = told_same m (last_exclusive stream) sysex curve range v.last.bytes text in
+    let same = told_same m (last_sysex stream) sysex curve range v.last.bytes text in
     heard_by reader curve keeps done stream sysex (command_of m sysex curve) old new fed v.reads v.heard (v.tells ∙ ap (λ (t : Told). done ++ t ∷ []) (sym same)) s
     (kept_same curve keeps m sysex _ k same) (keeps_last keeps m stream k v.last)

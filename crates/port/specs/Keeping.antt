@@ -2,7 +2,7 @@
 use Rattle.std.specs.Prelude.{ℕ, ◌≡◌, List, [], ◌∷◌, ◌++◌, map, Option, Some, None}
 use Rattle.midi_stream.specs.declared.message.MidiMessage.{MidiMessage}
 use Rattle.midi_stream.specs.declared.reader.MidiReader.{MidiReader}
-use Rattle.midi_stream.specs.Messages.{messages, last_exclusive}
+use Rattle.midi_stream.specs.Messages.{messages, last_sysex}
 use Rattle.midi_stream.specs.Standing.{HasBytes}
 use Rattle.midi_stream.specs.Reading.{Reads}
 use Rattle.velocity_map.specs.declared.curve.Curve.{Curve}
@@ -23,7 +23,7 @@ told_kept curve bytes (Some (kept.Message message)) = command_of message bytes c
 pub record IsLast (message : MidiMessage) (stream : List ℕ) : Type 0 where
   pub earlier : List MidiMessage
   pub last : messages stream ≡ earlier ++ message ∷ []
-  pub bytes : HasBytes message (last_exclusive stream)
+  pub bytes : HasBytes message (last_sysex stream)
 
 -- a message that is kept is the last one
 abbrev pub KeepsLast : Option Kept → List ℕ → Type 0

@@ -1,14 +1,14 @@
 -- What the messages of a stream of MIDI bytes tell an instrument, in order.
 use Rattle.std.specs.Prelude.{ℕ, Bool, true, false, List, [], ◌∷◌, ◌++◌, length, map, Option, Some, None, slice_get, unwrap_or}
 use Rattle.midi_stream.specs.declared.message.MidiMessage.{MidiMessage}
-use Rattle.midi_stream.specs.Messages.{messages, last_exclusive}
+use Rattle.midi_stream.specs.Messages.{messages, last_sysex}
 use Rattle.velocity_map.specs.declared.curve.Curve.{Curve}
 use Rattle.command_set.specs.Command.{CommandData}
 use Rattle.command_set.specs.Message.{Told, Tells, PassedOver, Overlong, Faulty, command_of}
 
 -- the bytes of the system exclusive message that the last status byte of a stream ended, none where it ended none
 abbrev pub exclusive_of : List ℕ → List ℕ
-exclusive_of stream = unwrap_or (last_exclusive stream) []
+exclusive_of stream = unwrap_or (last_sysex stream) []
 
 -- a message of a stream, with the bytes of the last system exclusive message at its end
 pub record Heard : Type 0 where

@@ -6,7 +6,7 @@ use Rattle.std.proofs.lemmas.Option.{slice_get_past, slice_get-get_or}
 use Rattle.std.proofs.Math.Seq.{get_or-append_seam}
 use Rattle.midi_stream.specs.declared.message.MidiMessage.{MidiMessage}
 use Rattle.midi_stream.specs.declared.message.MidiMessage.TheVariants.{NoteOff, NoteOn, KeyPressure, Control, Program, ChannelPressure, Bend, SysEx, SysExTooLong}
-use Rattle.midi_stream.specs.Messages.{messages, last_exclusive}
+use Rattle.midi_stream.specs.Messages.{messages, last_sysex}
 use Rattle.midi_stream.specs.Ranges.{InRange}
 use Rattle.midi_stream.specs.Standing.{Answers, HasBytes}
 use Rattle.velocity_map.specs.declared.curve.Curve.{Curve}
@@ -27,9 +27,9 @@ with_bytes kept m = record { message = m; bytes = unwrap_or kept [] }
 
 -- what is heard is what the reader answers
 pub heard_is : (r : Option MidiMessage) (before : List ℕ) (byte : ℕ) → Answers r (messages before) (messages (before ++ byte ∷ []))
-    → heard_with before byte ≡ option_map (with_bytes (last_exclusive (before ++ byte ∷ []))) r
+    → heard_with before byte ≡ option_map (with_bytes (last_sysex (before ++ byte ∷ []))) r
 unfolding heard_with
-heard_is r before byte e = ap (option_map (with_bytes (last_exclusive (before ++ byte ∷ [])))) (answered r (messages before) (messages (before ++ byte ∷ [])) e)
+heard_is r before byte e = ap (option_map (with_bytes (last_sysex (before ++ byte ∷ [])))) (answered r (messages before) (messages (before ++ byte ∷ [])) e)
 
 -- the bytes that the reader keeps tell the same as those of the stream
 pub told_same : (m : MidiMessage) (kept : Option (List ℕ)) (sysex : List ℕ) (curve : Curve) → InRange m → HasBytes m kept
@@ -48,11 +48,11 @@ told_same (SysExTooLong count) kept sysex curve range has same = refl
 
 -- what a message that the reader answers tells is what comes of its last byte
 pub told_is_heard : (m : MidiMessage) (before : List ℕ) (byte : ℕ) (sysex : List ℕ) (curve : Curve) (at : Place) (block : ℕ)
-    → Answers (Some m) (messages before) (messages (before ++ byte ∷ [])) → InRange m → HasBytes m (last_exclusive (before ++ byte ∷ []))
-    → IfSome (last_exclusive (before ++ byte ∷ [])) (λ text. length text ≤ 5000 → sysex ≡ text)
+    → Answers (Some m) (messages before) (messages (before ++ byte ∷ [])) → InRange m → HasBytes m (last_sysex (before ++ byte ∷ []))
+    → IfSome (last_sysex (before ++ byte ∷ [])) (λ text. length text ≤ 5000 → sysex ≡ text)
     → told_outcomes at block (command_of m sysex curve) ≡ heard_outcomes at block curve (heard_with before byte)
 told_is_heard m before byte sysex curve at block answers range has same =
-    ap (told_outcomes at block) (told_same m (last_exclusive (before ++ byte ∷ [])) sysex curve range has same)
+    ap (told_outcomes at block) (told_same m (last_sysex (before ++ byte ∷ [])) sysex curve range has same)
     ∙ ap (heard_outcomes at block curve) (sym (heard_is (Some m) before byte answers))
 
 pub none_heard : (before : List ℕ) (byte : ℕ) (curve : Curve) (at : Place) (block : ℕ)

@@ -1,7 +1,7 @@
 -- The messages that end with each byte of a stream, and where a message begins.
 use Rattle.std.specs.Prelude.{ℕ, ◌&&◌, ◌||◌, nat_lt, nat_le, not, Bool, List, [], ◌∷◌, ◌++◌, length, Option, option_map, slice_get, unwrap_or, if◌then◌else◌}
 use Rattle.midi_stream.specs.declared.message.MidiMessage.{MidiMessage}
-use Rattle.midi_stream.specs.Messages.{messages, is_unfinished, last_exclusive}
+use Rattle.midi_stream.specs.Messages.{messages, is_unfinished, last_sysex}
 
 -- a message of a stream, with its bytes where it is a system exclusive one
 pub record Heard : Type 0 where
@@ -11,7 +11,7 @@ pub record Heard : Type 0 where
 -- the message that a stream gains with one more byte: none where its messages stay
 unfoldable pub heard_with : List ℕ → ℕ → Option Heard
 heard_with before byte =
-    option_map (λ (m : MidiMessage). record { message = m; bytes = unwrap_or (last_exclusive (before ++ byte ∷ [])) [] })
+    option_map (λ (m : MidiMessage). record { message = m; bytes = unwrap_or (last_sysex (before ++ byte ∷ [])) [] })
     (slice_get (messages (before ++ byte ∷ [])) (length (messages before)))
 
 -- a status byte; real-time bytes, from 248 on, may stand anywhere and are none

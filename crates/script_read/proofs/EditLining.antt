@@ -1,7 +1,7 @@
 -- One more line of a script of edits.
 use Rattle.std.proofs.Common.{◌≡◌, ℕ, ◌+◌, ◌≤◌, List, [], ◌∷◌, ◌++◌, length, refl, ap, sym, ◌∙◌, subst, arith, append_assoc, append-nil, length-append}
 use Rattle.std.specs.Prelude.{Option, Some, None}
-use Rattle.plain_text.specs.Parts.{parts}
+use Rattle.plain_text.specs.Split.{split}
 use Rattle.command_set.specs.Command.{CommandData}
 use Rattle.script_plan.specs.Plan.{planned_at}
 use Rattle.editor.specs.History.{History}
@@ -170,7 +170,7 @@ pub within_none : (p : Editing) (blocks : Option ℕ) (text : List ℕ) → IsEd
 within_none p blocks text b = record { lines = []; split = refl; behind = b }
 
 -- one more line of a text was read
-pub within_more : (p : Editing) (blocks : Option ℕ) (lines : List EditSaid) (rest line behind text : List ℕ) → parts 10 rest ≡ line ∷ parts 10 behind
+pub within_more : (p : Editing) (blocks : Option ℕ) (lines : List EditSaid) (rest line behind text : List ℕ) → split 10 rest ≡ line ∷ split 10 behind
     → lines ++ edit_sayings (lines_of rest) ≡ edit_sayings (lines_of text) → IsEditing p blocks (lines ++ edit_said (without_return line) ∷ []) → IsWithinEdits p blocks behind text
 within_more p blocks lines rest line behind text e split b = record {
   lines = lines ++ edit_said (without_return line) ∷ [];
@@ -186,7 +186,7 @@ stopped_in_text why room blocks lines later all e stops =
     subst (λ (xs : List EditSaid). Stops why room (edits_behind blocks [] xs)) e
     (subst (λ (os : List Outcome). Stops why room os) (sym (outcomes_append blocks [] lines later)) (stops_more why room _ _ stops))
 
-pub stopped_at_line : (why : ScriptFault) (room : ℕ) (blocks : Option ℕ) (lines : List EditSaid) (rest line behind text : List ℕ) → parts 10 rest ≡ line ∷ parts 10 behind
+pub stopped_at_line : (why : ScriptFault) (room : ℕ) (blocks : Option ℕ) (lines : List EditSaid) (rest line behind text : List ℕ) → split 10 rest ≡ line ∷ split 10 behind
     → lines ++ edit_sayings (lines_of rest) ≡ edit_sayings (lines_of text) → Stops why room (edits_behind blocks [] (lines ++ edit_said (without_return line) ∷ []))
     → Stops why room (edit_text_outcomes blocks (edit_sayings (lines_of text)))
 stopped_at_line why room blocks lines rest line behind text e split stops =
@@ -194,18 +194,18 @@ stopped_at_line why room blocks lines rest line behind text e split stops =
     (append_assoc lines (edit_said (without_return line) ∷ []) (edit_sayings (lines_of behind))
     ∙ ap (λ (xs : List (List ℕ)). lines ++ edit_sayings xs) (sym (lines_first rest line behind e)) ∙ split) stops
 
-all_lines : (lines : List EditSaid) (rest text : List ℕ) → parts 10 rest ≡ rest ∷ [] → lines ++ edit_sayings (lines_of rest) ≡ edit_sayings (lines_of text)
+all_lines : (lines : List EditSaid) (rest text : List ℕ) → split 10 rest ≡ rest ∷ [] → lines ++ edit_sayings (lines_of rest) ≡ edit_sayings (lines_of text)
     → lines ++ edit_said rest ∷ [] ≡ edit_sayings (lines_of text)
 all_lines lines rest text e split = ap (λ (xs : List (List ℕ)). lines ++ edit_sayings xs) (sym (lines_last rest e)) ∙ split
 
-pub stopped_at_last : (why : ScriptFault) (room : ℕ) (blocks : Option ℕ) (lines : List EditSaid) (rest text : List ℕ) → parts 10 rest ≡ rest ∷ []
+pub stopped_at_last : (why : ScriptFault) (room : ℕ) (blocks : Option ℕ) (lines : List EditSaid) (rest text : List ℕ) → split 10 rest ≡ rest ∷ []
     → lines ++ edit_sayings (lines_of rest) ≡ edit_sayings (lines_of text) → Stops why room (edits_behind blocks [] (lines ++ edit_said rest ∷ []))
     → Stops why room (edit_text_outcomes blocks (edit_sayings (lines_of text)))
 stopped_at_last why room blocks lines rest text e split stops =
     stopped_in_text why room blocks (lines ++ edit_said rest ∷ []) [] (edit_sayings (lines_of text)) (append-nil _ ∙ all_lines lines rest text e split) stops
 
 -- all lines were read
-pub settled_at_end : (p : Editing) (blocks : Option ℕ) (room : ℕ) (lines : List EditSaid) (rest text : List ℕ) → parts 10 rest ≡ rest ∷ []
+pub settled_at_end : (p : Editing) (blocks : Option ℕ) (room : ℕ) (lines : List EditSaid) (rest text : List ℕ) → split 10 rest ≡ rest ∷ []
     → lines ++ edit_sayings (lines_of rest) ≡ edit_sayings (lines_of text) → IsEditing p blocks (lines ++ edit_said rest ∷ []) → length p.script ≤ room
     → (edit_text_outcomes blocks (edit_sayings (lines_of text)) ≡ all_given p.script) × (length p.script ≤ room)
 settled_at_end p blocks room lines rest text e split b few =

@@ -1,8 +1,8 @@
 -- One more line of a text.
 use Rattle.std.proofs.Common.{◌≡◌, ℕ, ◌+◌, ◌≤◌, List, [], ◌∷◌, ◌++◌, length, Bool, true, false, cond, refl, ap, sym, ◌∙◌, subst, arith, append_assoc, append-nil, length-append}
 use Rattle.std.specs.Prelude.{Option, Some, None, Result, Ok, Err, IfOk, IfErr, OnOk, OnErr}
-use Rattle.plain_text.specs.Parts.{parts}
-use Rattle.plain_text.proofs.Cuts.{parts_some}
+use Rattle.plain_text.specs.Split.{split}
+use Rattle.plain_text.proofs.Cuts.{split_some}
 use Rattle.midi_stream.specs.Messages.{is_unfinished}
 use Rattle.midi_stream.specs.Reading.{Reads}
 use Rattle.velocity_map.specs.declared.curve.Curve.{Curve}
@@ -223,20 +223,20 @@ behind_none p blocks reads none curve least number fed = record {
 
 -- ---- whole texts
 
-pub lines_first : (text line behind : List ℕ) → parts 10 text ≡ line ∷ parts 10 behind → lines_of text ≡ without_return line ∷ lines_of behind
+pub lines_first : (text line behind : List ℕ) → split 10 text ≡ line ∷ split 10 behind → lines_of text ≡ without_return line ∷ lines_of behind
 unfolding lines_of
-lines_first text line behind e = ap ended e ∙ by_more (parts 10 behind) (parts_some 10 behind)
+lines_first text line behind e = ap ended e ∙ by_more (split 10 behind) (split_some 10 behind)
   where
     by_more : (more : List (List ℕ)) → (more ≡ [] → ⊥) → ended (line ∷ more) ≡ without_return line ∷ ended more
     by_more [] some = absurd (some refl)
     by_more (next ∷ more) some = refl
 
-pub lines_last : (text : List ℕ) → parts 10 text ≡ text ∷ [] → lines_of text ≡ text ∷ []
+pub lines_last : (text : List ℕ) → split 10 text ≡ text ∷ [] → lines_of text ≡ text ∷ []
 unfolding lines_of
 lines_last text e = ap ended e
 
 -- one more line of a text was read
-pub within_more : (p : Progress) (blocks : Option ℕ) (lines : List Said) (rest line behind text : List ℕ) → parts 10 rest ≡ line ∷ parts 10 behind
+pub within_more : (p : Progress) (blocks : Option ℕ) (lines : List Said) (rest line behind text : List ℕ) → split 10 rest ≡ line ∷ split 10 behind
     → lines ++ sayings (lines_of rest) ≡ sayings (lines_of text) → IsBehind p blocks (lines ++ said (without_return line) ∷ []) → IsWithin p blocks behind text
 within_more p blocks lines rest line behind text e split b = record {
   lines = lines ++ said (without_return line) ∷ [];
@@ -257,7 +257,7 @@ stopped_in_text why room blocks lines later all e stops =
     (stops_more why room _ (text_end (lines ++ later))
     (subst (λ (os : List Outcome). Stops why room os) (sym (outcomes_append blocks [] lines later)) (stops_more why room _ _ stops)))
 
-pub stopped_at_line : (why : ScriptFault) (room : ℕ) (blocks : Option ℕ) (lines : List Said) (rest line behind text : List ℕ) → parts 10 rest ≡ line ∷ parts 10 behind
+pub stopped_at_line : (why : ScriptFault) (room : ℕ) (blocks : Option ℕ) (lines : List Said) (rest line behind text : List ℕ) → split 10 rest ≡ line ∷ split 10 behind
     → lines ++ sayings (lines_of rest) ≡ sayings (lines_of text) → Stops why room (outcomes_behind blocks [] (lines ++ said (without_return line) ∷ []))
     → Stops why room (text_outcomes blocks (sayings (lines_of text)))
 stopped_at_line why room blocks lines rest line behind text e split stops =
@@ -265,11 +265,11 @@ stopped_at_line why room blocks lines rest line behind text e split stops =
     (append_assoc lines (said (without_return line) ∷ []) (sayings (lines_of behind))
     ∙ ap (λ (xs : List (List ℕ)). lines ++ sayings xs) (sym (lines_first rest line behind e)) ∙ split) stops
 
-all_lines : (lines : List Said) (rest text : List ℕ) → parts 10 rest ≡ rest ∷ [] → lines ++ sayings (lines_of rest) ≡ sayings (lines_of text)
+all_lines : (lines : List Said) (rest text : List ℕ) → split 10 rest ≡ rest ∷ [] → lines ++ sayings (lines_of rest) ≡ sayings (lines_of text)
     → lines ++ said rest ∷ [] ≡ sayings (lines_of text)
 all_lines lines rest text e split = ap (λ (xs : List (List ℕ)). lines ++ sayings xs) (sym (lines_last rest e)) ∙ split
 
-pub stopped_at_last : (why : ScriptFault) (room : ℕ) (blocks : Option ℕ) (lines : List Said) (rest text : List ℕ) → parts 10 rest ≡ rest ∷ []
+pub stopped_at_last : (why : ScriptFault) (room : ℕ) (blocks : Option ℕ) (lines : List Said) (rest text : List ℕ) → split 10 rest ≡ rest ∷ []
     → lines ++ sayings (lines_of rest) ≡ sayings (lines_of text) → Stops why room (outcomes_behind blocks [] (lines ++ said rest ∷ []))
     → Stops why room (text_outcomes blocks (sayings (lines_of text)))
 stopped_at_last why room blocks lines rest text e split stops =
@@ -300,7 +300,7 @@ text_settled (Err why) p blocks room lines b few same whole cut unfinished =
     ∙ fails room p.feed.script (place.Line (fed_line 0 2 lines)) kind.Cut more few
     ∙ ap (λ (n : ℕ). Refused (place.Line n) kind.Cut) (sym b.fed))
 
-pub settled_at_end : (r : Result (List PlannedData) ScriptFault) (p : Progress) (blocks : Option ℕ) (room : ℕ) (lines : List Said) (rest text : List ℕ) → parts 10 rest ≡ rest ∷ []
+pub settled_at_end : (r : Result (List PlannedData) ScriptFault) (p : Progress) (blocks : Option ℕ) (room : ℕ) (lines : List Said) (rest text : List ℕ) → split 10 rest ≡ rest ∷ []
     → lines ++ sayings (lines_of rest) ≡ sayings (lines_of text) → IsBehind p blocks (lines ++ said rest ∷ []) → length p.feed.script ≤ room
     → IfOk r (λ script. script ≡ p.feed.script) → OnOk r (is_unfinished (stream_of (lines ++ said rest ∷ [])) ≡ false)
     → IfErr r (λ why. why ≡ faults.Refused (place.Line p.fed) kind.Cut) → OnErr r (is_unfinished (stream_of (lines ++ said rest ∷ [])) ≡ true)

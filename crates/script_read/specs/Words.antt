@@ -5,7 +5,7 @@ use Rattle.std.specs.Str.{all_ascii_digits}
 use Rattle.std.specs.Str.Parse.{digits_value}
 use Rattle.std.specs.Result.{result_ok}
 use Rattle.hex.specs.Hex.{decode_of}
-use Rattle.plain_text.specs.Parts.{parts}
+use Rattle.plain_text.specs.Split.{split}
 
 -- a line without a carriage return at its end
 abbrev pub without_return : List ℕ → List ℕ
@@ -19,7 +19,7 @@ ended (line ∷ next ∷ more) = without_return line ∷ ended (next ∷ more)
 
 -- the lines of a text; behind a last line feed there is an empty one
 unfoldable pub lines_of : List ℕ → List (List ℕ)
-lines_of text = ended (parts 10 text)
+lines_of text = ended (split 10 text)
 
 -- a word has one byte at least
 abbrev pub is_some_word : List ℕ → Bool
@@ -27,7 +27,7 @@ is_some_word word = nat_lt 0 (length word)
 
 -- the words of a line, which one or more spaces part; spaces at its ends don't count
 unfoldable pub words_of : List ℕ → List (List ℕ)
-words_of line = filter is_some_word (parts 32 line)
+words_of line = filter is_some_word (split 32 line)
 
 -- of the parts of a line, those behind its first word
 abbrev pub behind_word : List (List ℕ) → List (List ℕ)
@@ -36,7 +36,7 @@ behind_word (part ∷ more) = if is_some_word part then more else behind_word mo
 
 -- what stands behind the first word of a line and one space
 unfoldable pub text_behind : List ℕ → List ℕ
-text_behind line = join_with_byte 32 (behind_word (parts 32 line))
+text_behind line = join_with_byte 32 (behind_word (split 32 line))
 
 -- 1 to 10 digits, zeros in front among them
 abbrev pub is_numeral : List ℕ → Bool

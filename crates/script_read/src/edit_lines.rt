@@ -10,7 +10,7 @@ ghost use Rattle.script_outcome.specs.Reading.{Settles, Stops};
 use crate::edit_line::read_edit_line;
 use crate::editing::Editing;
 use crate::lines::without_return;
-use plain_text::cut;
+use plain_text::split_once;
 use script_outcome::{Bounds, ScriptFault};
 use script_plan::Script;
 use std::alloc::Global;
@@ -29,7 +29,7 @@ pub(crate) fn read_edit_lines(
         Err(_) => return Err(ScriptFault::Memory),
     };
     let mut rest = text;
-    while let Some((line, behind)) = cut(rest, b'\n') {
+    while let Some((line, behind)) = split_once(rest, b'\n') {
         match take_line(alloc, &mut editing, without_return(line), bounds) {
             Ok(()) => {}
             Err(fault) => return Err(fault),

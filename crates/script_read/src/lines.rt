@@ -9,7 +9,7 @@ ghost use Rattle.script_read.specs.Reading.{HasOrder, IsBehind};
 
 use crate::line::read_line;
 use crate::progress::Progress;
-use plain_text::cut;
+use plain_text::split_once;
 use script_outcome::{Bounds, ScriptFault};
 use script_plan::Script;
 use std::alloc::Global;
@@ -49,7 +49,7 @@ pub(crate) fn read_lines(
         Err(_) => return Err(ScriptFault::Memory),
     };
     let mut rest = text;
-    while let Some((line, behind)) = cut(rest, b'\n') {
+    while let Some((line, behind)) = split_once(rest, b'\n') {
         match take_line(alloc, &mut progress, without_return(line), maps, bounds) {
             Ok(()) => {}
             Err(fault) => return Err(fault),

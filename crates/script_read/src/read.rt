@@ -11,7 +11,7 @@ use crate::edit_lines::read_edit_lines;
 use crate::lines::{read_lines, without_return};
 use crate::stream::read_stream;
 use midi_file::read_midi_file;
-use plain_text::{cut, is_word};
+use plain_text::{is_word, split_once};
 use script_outcome::{Bounds, Place, ScriptFault, ScriptKind};
 use script_plan::Script;
 use std::alloc::Global;
@@ -92,7 +92,7 @@ fn read_text(
     requires { length text.now ≤ 536870912 }
     ensures { Settles result bounds.room (lines_outcomes bounds.blocks (lines_of text.now)) }
 {
-    match cut(text, b'\n') {
+    match split_once(text, b'\n') {
         Some((first, rest)) => read_kind(alloc, without_return(first), rest, maps, bounds),
         None => read_lone(alloc, text),
     }

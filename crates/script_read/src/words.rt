@@ -4,7 +4,7 @@ ghost use Rattle.std.specs.Prelude.{◌≡◌, ◌≤◌, ◌↔◌, ◌&&◌, [
 ghost use Rattle.std.specs.Int.{IsInRange};
 ghost use Rattle.script_read.specs.Words.{number_to, text_behind, words_of};
 
-use plain_text::cut;
+use plain_text::split_once;
 
 /// The most digits of a number, zeros in front among them.
 const DIGITS: usize = 10;
@@ -17,7 +17,7 @@ pub(crate) fn next_word(line: &[u8]) -> Option<(&[u8], &[u8])>
     ensures behind { IfSome result (λ r. text_behind line.now ≡ r.1.now) }
 {
     let mut rest = line;
-    while let Some((word, behind)) = cut(rest, b' ') {
+    while let Some((word, behind)) = split_once(rest, b' ') {
         if !word.is_empty() {
             return Some((word, behind));
         }

@@ -6,7 +6,8 @@ use Rattle.std.proofs.lemmas.List.Edits.{length-between}
 use Rattle.voice_record.specs.Voice.{greatest_value}
 use Rattle.voice_record.proofs.Voices.{greatest_small}
 use Rattle.sysex_frame.specs.Frame.{IsData, IsParamChange, IsOtherChange, IsRequest}
-use Rattle.sysex_frame.specs.FrameFault.{substatus, device, group, number, unknown_substatus, unknown_format, wrong_count, wanted_length, wrong_length, wrong_checksum, high_value, later_fault}
+use Rattle.sysex_frame.specs.FrameFault.{substatus, device, group, number, unknown_substatus, unknown_format, wrong_count, wanted_length, wrong_length, wrong_checksum, high_value}
+use Rattle.sysex_frame.specs.Halves.{later_fault}
 use Rattle.sysex_frame.proofs.Facts.{none_parts, row_free, row_none, IsPlain}
 use Rattle.sysex_frame.proofs.Conditions.{not_a_dump, not_a_change, length_of_change, change_length, request_length, value_known, value_good}
 use Rattle.sysex_frame.proofs.Shapes.{heads_3, heads_5, heads_6, tail_end, range_is_data, data_cons, data_none, plain_text}
@@ -80,7 +81,7 @@ param_frame text d g n =
       sixteen = omega arith;
       known = n;
       within = d.value g n;
-      spelled = cc (head, plain.first, plain.maker, two, three, four, end);
+      spelled = cc (head, plain.first, plain.manufacturer, two, three, four, end);
     }
 
 pub other_frame : (text : List ℕ) → IsChangeText text → (group text ≡ 0 → 155 < number text) → IsOtherChange text (device text) (group text) (number text)
@@ -104,7 +105,7 @@ other_frame text d other =
       bytes = range_is_data text 5 (length text - 1) (omega arith) (λ k a b. plain.bytes k (omega arith) (omega arith));
       least = omega arith;
       one = λ g. let seven : length text ≡ 7 = d.one g in omega (arith, seven, size);
-      spelled = cc (head, plain.first, plain.maker, two, three, four, tail, plain.ended);
+      spelled = cc (head, plain.first, plain.manufacturer, two, three, four, tail, plain.ended);
     }
 
 pub request_frame : (text : List ℕ) → IsPlain text → substatus text ≡ 2 → IsRequest text (device text)
@@ -119,7 +120,7 @@ request_frame text plain s =
       rest = slice_range text 3 (length text - 1);
       bytes = range_is_data text 3 (length text - 1) (omega arith) (λ k a b. plain.bytes k (omega arith) (omega arith));
       least = omega arith;
-      spelled = cc (head, plain.first, plain.maker, two, tail, plain.ended);
+      spelled = cc (head, plain.first, plain.manufacturer, two, tail, plain.ended);
     }
 
 -- ---- texts that are spelled so have these places

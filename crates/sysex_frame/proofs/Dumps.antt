@@ -5,7 +5,8 @@ use Rattle.std.proofs.lemmas.List.Edits.{length-between}
 use Rattle.std.proofs.lemmas.List.{get_or_at, take_at}
 use Rattle.sysex_frame.specs.Checksum.{IsChecksum, checksum_of}
 use Rattle.sysex_frame.specs.Frame.{IsData, IsDump}
-use Rattle.sysex_frame.specs.FrameFault.{substatus, device, format, group, payload, check, unknown_substatus, unknown_format, wrong_count, wanted_length, wrong_length, wrong_checksum, high_value, later_fault}
+use Rattle.sysex_frame.specs.FrameFault.{substatus, device, format, group, payload, check, unknown_substatus, unknown_format, wrong_count, wanted_length, wrong_length, wrong_checksum, high_value}
+use Rattle.sysex_frame.specs.Halves.{later_fault}
 use Rattle.sysex_frame.proofs.Facts.{none_parts, row_free, row_none, IsPlain}
 use Rattle.sysex_frame.proofs.Conditions.{format_known, format_good, not_a_change, count_known_voice, count_known_cartridge, count_good_voice, count_good_cartridge, length_of_dump, dump_length, wanted_voice, wanted_cartridge, check_known, check_good}
 use Rattle.sysex_frame.proofs.Shapes.{heads_6, tail_two, range_is_data, data_cons, data_none, data_append, plain_text}
@@ -84,7 +85,7 @@ dump_frame text form high low count d =
       bytes = range_is_data text 6 (length text - 2) (omega arith) (λ k a b. plain.bytes k (omega arith) (omega arith));
       check = check text;
       checked = rw (d.checked) (checksum_checks (payload text));
-      spelled = cc (head, plain.first, plain.maker, same, d.form_is, d.high_is, d.low_is, tail, plain.ended);
+      spelled = cc (head, plain.first, plain.manufacturer, same, d.form_is, d.high_is, d.low_is, tail, plain.ended);
     }
 
 -- a text that is spelled so has these places

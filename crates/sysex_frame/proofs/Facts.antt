@@ -6,7 +6,8 @@ use Rattle.std.specs.List.{slice_range, position, position_or_len}
 use Rattle.std.proofs.lemmas.Bool.{leb-false, ltb-false, eqb-true, eq-eqb, lt-leb, lt-ltb, le-ltb, cases_lt, or_parts, not-false}
 use Rattle.std.proofs.lemmas.List.Edits.{length-between, get_or-between}
 use Rattle.std.proofs.lemmas.List.Sums.{fails_before_first, position_or_len_is}
-use Rattle.sysex_frame.specs.FrameFault.{where_true, not_framed, not_yamaha, data_byte, too_short, first_fault, early_fault, later_fault}
+use Rattle.sysex_frame.specs.FrameFault.{where_true, not_framed, not_yamaha, data_byte, too_short, first_fault}
+use Rattle.sysex_frame.specs.Halves.{early_fault, later_fault}
 use Rattle.sysex_frame.specs.declared.frame.FrameFault.{FrameFault}
 use Rattle.sysex_frame.specs.declared.frame.FrameFault.TheVariants.{DataByte}
 
@@ -47,7 +48,7 @@ by_parts text =
 pub record IsPlain (text : List ℕ) : Type 0 where
   pub long : 5 ≤ length text
   pub first : get_or text 0 0 ≡ 0xF0
-  pub maker : get_or text 1 0 ≡ 0x43
+  pub manufacturer : get_or text 1 0 ≡ 0x43
   pub bytes : (k : ℕ) → 2 ≤ k → k + 1 < length text → get_or text k 0 < 128
   pub ended : get_or text (length text - 1) 0 ≡ 0xF7
 
@@ -76,7 +77,7 @@ plain_from_none text h =
     record {
       long = long;
       first = eqb-true _ _ (not-false _ both.0);
-      maker = eqb-true _ _ (not-false _ (row_free _ _ two.0));
+      manufacturer = eqb-true _ _ (not-false _ (row_free _ _ two.0));
       bytes = λ k two_on below.
           let size : length (slice_range text 2 (length text - 1)) ≡ length text - 1 - 2 = length-between text 2 (length text - 1) (omega arith) in
           let there : get_or (slice_range text 2 (length text - 1)) (k - 2) 0 ≡ get_or text (2 + (k - 2)) 0 = get_or-between text 2 (length text - 1) (k - 2) 0 (omega arith) in
@@ -90,7 +91,7 @@ pub none_from_plain : (text : List ℕ) → IsPlain text → early_fault text �
 none_from_plain text p =
     let framed : not_framed text ≡ None =
     row_none _ _ (rw (le-ltb _ _ (let l = p.long in let m : 2 ≤ length text = omega arith in m), eq-eqb _ _ p.first, eq-eqb _ _ p.ended)) in
-    let made : not_yamaha text ≡ None = row_none _ _ (rw (eq-eqb _ _ p.maker)) in
+    let made : not_yamaha text ≡ None = row_none _ _ (rw (eq-eqb _ _ p.manufacturer)) in
     let size : length (slice_range text 2 (length text - 1)) ≡ length text - 1 - 2 = length-between text 2 (length text - 1) (omega arith) in
     let clean : data_byte text ≡ None =
     position_none (slice_range text 2 (length text - 1)) (λ k l. rw (get_or-between text 2 (length text - 1) k 0 (omega arith)) (p.bytes (2 + k) (omega arith) (omega arith))) in

@@ -5,8 +5,10 @@ use Rattle.std.specs.Option.{option_or}
 use Rattle.std.specs.Result.{IsOk, IfOk, IfErr, IsOkAnd}
 use Rattle.std.proofs.lemmas.Bool.{cases_lt, cases_eq, eq-eqb, ne_eqb, le-leb, lt-leb, leb-false}
 use Rattle.sysex_frame.specs.Frame.{IsFrame, Content, VoiceDump, CartridgeDump, ParamChange, OtherChange, DumpRequest, content_of}
-use Rattle.sysex_frame.specs.FrameFault.{substatus, device, format, group, number, payload, unknown_substatus, first_fault, early_fault, later_fault}
-use Rattle.sysex_frame.specs.Reading.{reading, Answers}
+use Rattle.sysex_frame.specs.FrameFault.{substatus, device, format, group, number, payload, unknown_substatus, first_fault}
+use Rattle.sysex_frame.specs.Halves.{early_fault, later_fault}
+use Rattle.sysex_frame.specs.Reading.{reading}
+use Rattle.sysex_frame.specs.Halves.{Answers}
 use Rattle.sysex_frame.specs.declared.frame.Frame.{Frame}
 use Rattle.sysex_frame.specs.declared.frame.FrameFault.{FrameFault}
 use Rattle.sysex_frame.proofs.Facts.{none_parts, row_free, by_parts, IsPlain, plain_from_none, none_from_plain}

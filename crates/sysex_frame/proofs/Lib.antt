@@ -1,4 +1,3 @@
-pub mod Payloads
 pub mod Facts
 pub mod Conditions
 pub mod Shapes

@@ -31,7 +31,7 @@ heads_5 (a ∷ b ∷ []) h = absurd (omega (arith, h))
 heads_5 (a ∷ b ∷ c ∷ []) h = absurd (omega (arith, h))
 heads_5 (a ∷ b ∷ c ∷ d ∷ []) h = absurd (omega (arith, h))
 
--- what stands behind the first n places, up to the last one, and the last one
+-- what stands after the first n places, up to the last one, and the last one
 pub tail_end : (xs : List ℕ) (n : ℕ) → n + 1 ≤ length xs → drop n xs ≡ slice_range xs n (length xs - 1) ++ get_or xs (length xs - 1) 0 ∷ []
 tail_end xs n h =
     let rest : List ℕ = drop n xs in
@@ -50,9 +50,9 @@ tail_two xs n h =
     let k : ℕ = length xs - 2 - n in
     let more : take (k + 1) rest ≡ take k rest ++ get_or rest k 0 ∷ [] = take_more rest k 0 (omega arith) in
     let at : get_or rest k 0 ≡ get_or xs (length xs - 2) 0 = get_or-drop n xs k 0 ∙ ap (λ j. get_or xs j 0) (omega arith) in
-    let front : slice_range xs n (length xs - 1) ≡ take k rest ++ get_or xs (length xs - 2) 0 ∷ [] =
+    let prefix : slice_range xs n (length xs - 1) ≡ take k rest ++ get_or xs (length xs - 2) 0 ∷ [] =
     ap (λ m. take m rest) (let e : length xs - 1 - n ≡ k + 1 = omega arith in e) ∙ (more ∙ ap (λ x. take k rest ++ x ∷ []) at) in
-    tail_end xs n (omega arith) ∙ (ap (λ ys. ys ++ get_or xs (length xs - 1) 0 ∷ []) front ∙ append_assoc (take k rest) (get_or xs (length xs - 2) 0 ∷ []) (get_or xs (length xs - 1) 0 ∷ []))
+    tail_end xs n (omega arith) ∙ (ap (λ ys. ys ++ get_or xs (length xs - 1) 0 ∷ []) prefix ∙ append_assoc (take k rest) (get_or xs (length xs - 2) 0 ∷ []) (get_or xs (length xs - 1) 0 ∷ []))
 
 -- a part of the data bytes
 pub range_is_data : (xs : List ℕ) (n j : ℕ) → j ≤ length xs → ((k : ℕ) → n ≤ k → k < j → get_or xs k 0 < 128) → IsData (slice_range xs n j)
@@ -82,7 +82,7 @@ plain_text mid l h =
     record {
       long = omega arith;
       first = refl;
-      maker = refl;
+      manufacturer = refl;
       bytes = λ k two below.
           let e : k ≡ suc (suc (k - 2)) = omega arith in
           let small : k - 2 < length mid = omega arith in

@@ -1,4 +1,4 @@
--- What a whole system exclusive message of the DX7 is, and what it holds.
+-- What a whole SysEx message of the DX7 is, and what it holds.
 use Rattle.std.specs.Prelude.{ℕ, ◌≡◌, ◌+◌, ◌*◌, ◌/◌, ◌%◌, ◌<◌, ◌≤◌, List, [], ◌∷◌, ◌++◌, length, slice_index}
 use Rattle.voice_record.specs.Voice.{greatest_value}
 use Rattle.sysex_frame.specs.Checksum.{IsChecksum}

@@ -1,5 +1,6 @@
 -- The faults of a text that is no message, as a table of conditions on the whole text.
-use Rattle.std.specs.Prelude.{ℕ, ◌+◌, ◌-◌, ◌*◌, ◌/◌, ◌%◌, Bool, true, ◌&&◌, ◌||◌, not, nat_lt, nat_le, ◌==◌, if◌then◌else◌, List, [], ◌∷◌, length, slice_index, slice_range}
+use Rattle.std.specs.Prelude.{ℕ, ◌+◌, ◌-◌, ◌*◌, ◌/◌, ◌%◌, Bool, true, ◌&&◌, ◌||◌, not, nat_lt, nat_le, ◌==◌, if◌then◌else◌, List, []}
+use Rattle.std.specs.Prelude.{◌∷◌, length, slice_index, slice_range}
 use Rattle.std.specs.declared.option.Option.{Option}
 use Rattle.std.specs.declared.option.Option.TheVariants.{None, Some}
 use Rattle.std.specs.Option.{option_map, option_or}
@@ -7,7 +8,8 @@ use Rattle.std.specs.List.{position}
 use Rattle.voice_record.specs.Voice.{greatest_value}
 use Rattle.sysex_frame.specs.Checksum.{checksum_of}
 use Rattle.sysex_frame.specs.declared.frame.FrameFault.{FrameFault}
-use Rattle.sysex_frame.specs.declared.frame.FrameFault.TheVariants.{NotFramed, NotYamaha, DataByte, Short, UnknownSubstatus, UnknownFormat, CountBytes, Length, Checksum, ParamValue}
+use Rattle.sysex_frame.specs.declared.frame.FrameFault.TheVariants.{NotFramed, NotYamaha, DataByte, Short, UnknownSubstatus}
+use Rattle.sysex_frame.specs.declared.frame.FrameFault.TheVariants.{UnknownFormat, CountBytes, Length, Checksum, ParamValue}
 
 -- the parts of a text, by their places
 abbrev pub last : List ℕ → ℕ
@@ -108,7 +110,17 @@ high_value text =
 -- the rows in their order
 abbrev pub fault_table : List (List ℕ → Option FrameFault)
 fault_table =
-    not_framed ∷ not_yamaha ∷ data_byte ∷ too_short ∷ unknown_substatus ∷ unknown_format ∷ wrong_count ∷ wrong_length ∷ wrong_checksum ∷ high_value ∷ []
+    not_framed
+    ∷ not_yamaha
+    ∷ data_byte
+    ∷ too_short
+    ∷ unknown_substatus
+    ∷ unknown_format
+    ∷ wrong_count
+    ∷ wrong_length
+    ∷ wrong_checksum
+    ∷ high_value
+    ∷ []
 
 -- the first of some rows whose condition holds
 abbrev pub first_of : List (List ℕ → Option FrameFault) → List ℕ → Option FrameFault
@@ -118,10 +130,3 @@ first_of (row ∷ rows) text = option_or (row text) (first_of rows text)
 -- the first fault of a text, or none
 unfoldable pub first_fault : List ℕ → Option FrameFault
 first_fault text = first_of fault_table text
-
--- the first fault of the first four rows, and of the others
-abbrev pub early_fault : List ℕ → Option FrameFault
-early_fault text = first_of (not_framed ∷ not_yamaha ∷ data_byte ∷ too_short ∷ []) text
-
-abbrev pub later_fault : List ℕ → Option FrameFault
-later_fault text = first_of (unknown_substatus ∷ unknown_format ∷ wrong_count ∷ wrong_length ∷ wrong_checksum ∷ high_value ∷ []) text

@@ -2,3 +2,4 @@ pub mod Checksum
 pub mod Frame
 pub mod FrameFault
 pub mod Reading
+pub mod Halves

@@ -1,12 +1,7 @@
--- What a text without a fault holds, by its places.
-use Rattle.std.specs.Prelude.{ℕ, ◌≡◌, ◌&&◌, nat_le, ◌==◌, if◌then◌else◌, List, slice_index, MatchResult}
-use Rattle.std.specs.declared.option.Option.{Option}
-use Rattle.std.specs.declared.option.Option.TheVariants.{None, Some}
-use Rattle.std.specs.declared.result.Result.{Result}
-use Rattle.sysex_frame.specs.Frame.{Content, VoiceDump, CartridgeDump, ParamChange, OtherChange, DumpRequest, content_of}
+-- What a message without a fault holds, by its places.
+use Rattle.std.specs.Prelude.{ℕ, ◌&&◌, nat_le, ◌==◌, if◌then◌else◌, List, slice_index}
+use Rattle.sysex_frame.specs.Frame.{Content, VoiceDump, CartridgeDump, ParamChange, OtherChange, DumpRequest}
 use Rattle.sysex_frame.specs.FrameFault.{device, format, group, number, payload, substatus}
-use Rattle.sysex_frame.specs.declared.frame.Frame.{Frame}
-use Rattle.sysex_frame.specs.declared.frame.FrameFault.{FrameFault}
 
 abbrev pub dump : List ℕ → Content
 dump text = if format text == 0 then VoiceDump (device text) (payload text) else CartridgeDump (device text) (payload text)
@@ -18,7 +13,3 @@ change text =
 
 abbrev pub reading : List ℕ → Content
 reading text = if substatus text == 0 then dump text else (if substatus text == 1 then change text else DumpRequest (device text))
-
--- the answer is this content where there is no fault, or the fault
-abbrev pub Answers : Result Frame FrameFault → Option FrameFault → Content → Type 0
-Answers result fault content = MatchResult result (λ frame. (fault ≡ None) × (content_of frame ≡ content)) (λ e. fault ≡ Some e)

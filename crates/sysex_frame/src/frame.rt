@@ -20,7 +20,7 @@ pub enum Frame<'a> {
 pub enum FrameFault {
     /// It is shorter than 2 bytes, doesn't begin with `F0` or doesn't end with `F7`.
     NotFramed,
-    /// The maker's number isn't `43`.
+    /// The manufacturer ID isn't `43`.
     NotYamaha,
     /// A byte of 128 or more stands at this place.
     DataByte { place: u32 },

@@ -1,4 +1,4 @@
-//! System exclusive messages of the DX7: the dump of one voice and of 32 voices, the change of a
+//! SysEx messages of the DX7: the dump of one voice and of 32 voices, the change of a
 //! parameter and the request for a dump, each from `F0` to `F7`.
 #![tactic(auto)]
 

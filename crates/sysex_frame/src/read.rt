@@ -1,19 +1,20 @@
 //! Reading one message.
 
-ghost use Rattle.std.specs.Prelude.{ℕ, ◌≡◌, ◌+◌, ◌-◌, ◌%◌, ◌<◌, ◌≤◌, ◌↔◌, ◌&&◌, ◌==◌, not, nat_le, length, slice_index, slice_range, IsOk, IfOk, IfErr, OnOk, IsOkAnd};
+ghost use Rattle.std.specs.Prelude.{ℕ, ◌≡◌, ◌+◌, ◌-◌, ◌%◌, ◌<◌, ◌≤◌, ◌↔◌, ◌&&◌, ◌==◌, not, nat_le, length, slice_index, slice_range};
+ghost use Rattle.std.specs.Prelude.{IsOk, IfOk, IfErr, OnOk, IsOkAnd};
 ghost use Rattle.std.specs.Option.{option_or};
-ghost use Rattle.std.specs.List.{sum};
-ghost use Rattle.sysex_frame.specs.Checksum.{checksum_of};
+ghost use Rattle.std.specs.List.{position};
 ghost use Rattle.sysex_frame.specs.Frame.{Content, IsFrame, content_of};
-ghost use Rattle.sysex_frame.specs.FrameFault.{early_fault, first_fault, has_count, high_value, later_fault, not_framed, not_yamaha, payload};
+ghost use Rattle.sysex_frame.specs.FrameFault.{first_fault, has_count, high_value, not_framed, not_yamaha, payload};
 ghost use Rattle.sysex_frame.specs.FrameFault.{substatus, unknown_format, where_true, wrong_checksum, wrong_count, wrong_length};
-ghost use Rattle.sysex_frame.specs.Reading.{Answers, change, dump, reading};
+ghost use Rattle.sysex_frame.specs.Halves.{Answers, early_fault, later_fault};
+ghost use Rattle.sysex_frame.specs.Reading.{change, dump, reading};
 
 use crate::frame::{Frame, FrameFault};
-use crate::sums::data_sum;
+use crate::sums::checksum;
 use voice_record::greatest;
 
-/// The first fault of a text's ends and of its maker's number.
+/// The first fault of a text's ends and of its manufacturer ID.
 fn end_fault(bytes: &[u8]) -> Option<FrameFault>
     ensures { result ≡ option_or (not_framed bytes.now) (not_yamaha bytes.now) }
 {
@@ -63,27 +64,11 @@ fn head_fault(bytes: &[u8]) -> Option<FrameFault>
     }
 }
 
-/// The checksum of a dump's payload, from the sum of all its data bytes.
-fn payload_checksum(bytes: &[u8], total: u8) -> u8
-    requires long { 8 ≤ length bytes.now }
-    requires total { total ≡ sum (slice_range bytes.now 2 (length bytes.now - 1)) % 256 }
-    ensures { result ≡ checksum_of (payload bytes.now) }
-{
-    let rest = total
-        .wrapping_sub(bytes[2])
-        .wrapping_sub(bytes[3])
-        .wrapping_sub(bytes[4])
-        .wrapping_sub(bytes[5])
-        .wrapping_sub(bytes[bytes.len() - 2]);
-    (128 - rest % 128) % 128
-}
-
-/// A dump, with the sum of its data bytes.
-fn read_dump(bytes: &[u8], total: u8) -> Result<Frame<'_>, FrameFault>
+/// A dump.
+fn read_dump(bytes: &[u8]) -> Result<Frame<'_>, FrameFault>
     requires long { 5 ≤ length bytes.now }
     requires short { length bytes.now ≤ 536870912 }
     requires dump { substatus bytes.now ≡ 0 }
-    requires total { total ≡ sum (slice_range bytes.now 2 (length bytes.now - 1)) % 256 }
     ensures { Answers result
         (option_or (unknown_format bytes.now)
         (option_or (wrong_count bytes.now) (option_or (wrong_length bytes.now) (wrong_checksum bytes.now))))
@@ -93,13 +78,13 @@ fn read_dump(bytes: &[u8], total: u8) -> Result<Frame<'_>, FrameFault>
         return Err(fault);
     }
     let end = bytes.len() - 2;
+    let payload = &bytes[6..end];
     let found = bytes[end];
-    let wanted = payload_checksum(bytes, total);
+    let wanted = checksum(payload);
     if found != wanted {
         return Err(FrameFault::Checksum { found, wanted });
     }
     let device = bytes[2] % 16;
-    let payload = &bytes[6..end];
     Ok(if bytes[3] == 0 {
         Frame::Voice { device, payload }
     } else {
@@ -140,15 +125,14 @@ fn read_change(bytes: &[u8]) -> Result<Frame<'_>, FrameFault>
     })
 }
 
-/// A text whose ends and data bytes are good, with the sum of its data bytes.
-fn read_kind(bytes: &[u8], total: u8) -> Result<Frame<'_>, FrameFault>
+/// A message whose framing is good, by its substatus.
+fn read_kind(bytes: &[u8]) -> Result<Frame<'_>, FrameFault>
     requires long { 5 ≤ length bytes.now }
     requires short { length bytes.now ≤ 536870912 }
-    requires total { total ≡ sum (slice_range bytes.now 2 (length bytes.now - 1)) % 256 }
     ensures { Answers result (later_fault bytes.now) (reading bytes.now) }
 {
     match bytes[2] / 16 {
-        0 => read_dump(bytes, total),
+        0 => read_dump(bytes),
         1 => read_change(bytes),
         2 => Ok(Frame::Request {
             device: bytes[2] % 16,
@@ -157,27 +141,32 @@ fn read_kind(bytes: &[u8], total: u8) -> Result<Frame<'_>, FrameFault>
     }
 }
 
-/// The sum of the data bytes of a text whose ends and data bytes are good.
-fn read_envelope(bytes: &[u8]) -> Result<u8, FrameFault>
+/// Looks at the ends of a message, at its manufacturer ID, at its data bytes and at its least length.
+fn check_framing(bytes: &[u8]) -> Result<(), FrameFault>
     requires { length bytes.now ≤ 536870912 }
     ensures fault { IfErr result (λ e. early_fault bytes.now ≡ Some e) }
     ensures good { OnOk result (early_fault bytes.now ≡ None) }
     ensures long { OnOk result (5 ≤ length bytes.now) }
-    ensures total { IfOk result (λ total. total ≡ sum (slice_range bytes.now 2 (length bytes.now - 1)) % 256) }
 {
     if let Some(fault) = end_fault(bytes) {
         return Err(fault);
     }
-    let data = &bytes[2..bytes.len() - 1];
-    match data_sum(data) {
-        Err(place) => Err(FrameFault::DataByte {
+    match first_high_byte(&bytes[2..bytes.len() - 1]) {
+        Some(place) => Err(FrameFault::DataByte {
             place: place as u32 + 2,
         }),
-        Ok(_) if bytes.len() < 5 => Err(FrameFault::Short {
+        None if bytes.len() < 5 => Err(FrameFault::Short {
             length: bytes.len() as u32,
         }),
-        Ok(total) => Ok(total),
+        None => Ok(()),
     }
+}
+
+/// The first place of a byte that is no data byte: one of 128 or more.
+fn first_high_byte(bytes: &[u8]) -> Option<usize>
+    ensures { result ≡ position (λ b. nat_le 128 b) bytes.now }
+{
+    bytes.iter().position(|byte| *byte >= 128)
 }
 
 /// Reads one message from `F0` to `F7`. Where the text is none, its first fault is answered.
@@ -190,6 +179,6 @@ pub fn read_frame(bytes: &[u8]) -> Result<Frame<'_>, FrameFault>
     // A message of this content is read as it.
     ensures only { (content : Content) → IsFrame bytes.now content → IsOkAnd result (λ frame. content_of frame ≡ content) }
 {
-    let total = read_envelope(bytes)?;
-    read_kind(bytes, total)
+    check_framing(bytes)?;
+    read_kind(bytes)
 }

@@ -3,7 +3,7 @@ use Rattle.std.proofs.Common.{◌≡◌, ◌≢◌, ℕ, ◌+◌, ◌^◌, ◌<�
 use Rattle.std.specs.Prelude.{codes, decimal, IfNone, IfSome, MatchOption}
 use Rattle.std.proofs.lemmas.List.{append_cancel_left}
 use Rattle.plain_text.specs.Number.{number}
-use Rattle.plain_text.specs.Parts.{parts}
+use Rattle.plain_text.specs.Split.{split}
 use Rattle.plain_text.proofs.Numbers.{reads_decimal, written}
 use Rattle.command_set.specs.Entries.{LoggedData}
 use Rattle.command_set.specs.Text.{text}
@@ -25,17 +25,17 @@ unstripped whole front None h = h
 
 -- ---- one number and its space
 
-pub no_space : (whole : List ℕ) (n : ℕ) (rest : List ℕ) → parts 32 whole ≡ whole ∷ [] → n < 2 ^ 32 → whole ≢ decimal n ++ 32 ∷ rest
+pub no_space : (whole : List ℕ) (n : ℕ) (rest : List ℕ) → split 32 whole ≡ whole ∷ [] → n < 2 ^ 32 → whole ≢ decimal n ++ 32 ∷ rest
 no_space whole n rest e l = cut_none 32 whole (decimal n) rest e (decimal_whole 32 n (omega arith) l)
 
-pub no_number : (whole word behind rest : List ℕ) (least most n : ℕ) → parts 32 whole ≡ word ∷ parts 32 behind → None ≡ number least most word → most < 2 ^ 32
+pub no_number : (whole word behind rest : List ℕ) (least most n : ℕ) → split 32 whole ≡ word ∷ split 32 behind → None ≡ number least most word → most < 2 ^ 32
     → least ≤ n → n ≤ most → whole ≢ decimal n ++ 32 ∷ rest
 no_number whole word behind rest least most n e none range low high is =
     let h = cut_only 32 whole word behind (decimal n) rest e (decimal_whole 32 n (omega arith) (omega arith)) is in
     let some : number least most word ≡ Some n = reads_decimal least most n word range (h.0, low, high) in
     absurd (cc)
 
-pub number_found : (whole word behind : List ℕ) (least most n : ℕ) → parts 32 whole ≡ word ∷ parts 32 behind → Some n ≡ number least most word → most < 2 ^ 32
+pub number_found : (whole word behind : List ℕ) (least most n : ℕ) → split 32 whole ≡ word ∷ split 32 behind → Some n ≡ number least most word → most < 2 ^ 32
     → whole ≡ decimal n ++ 32 ∷ behind
 number_found whole word behind least most n e some range =
     cut_text 32 whole word behind e ∙ ap (λ (w : List ℕ). w ++ 32 ∷ behind) (written least most n word range (sym some)).0
@@ -118,7 +118,7 @@ header_found line rest last word blocks scripts e next more within some =
 
 -- ---- lengths
 
-pub front_short : (code : ℕ) (whole front rest : List ℕ) → parts code whole ≡ front ∷ parts code rest → length front ≤ length whole
+pub front_short : (code : ℕ) (whole front rest : List ℕ) → split code whole ≡ front ∷ split code rest → length front ≤ length whole
 front_short code whole front rest e =
     let count : length whole ≡ length front + length (code ∷ rest) = ap length (cut_text code whole front rest e) ∙ length-append front (code ∷ rest) in
     omega arith

@@ -13,8 +13,8 @@ use Rattle.std.proofs.lemmas.List.Splits.{slice_split_at, join_with_byte-slice_s
 use Rattle.hex.specs.Hex.{IsBytes, encode_lower, encode_with, lower_digits}
 use Rattle.voice_record.proofs.Every.{every, every_at}
 use Rattle.voice_record.proofs.Voices.{greatest_small}
-use Rattle.plain_text.specs.Parts.{parts, spaced}
-use Rattle.plain_text.proofs.Cuts.{parts_some}
+use Rattle.plain_text.specs.Split.{split, spaced}
+use Rattle.plain_text.proofs.Cuts.{split_some}
 use Rattle.command_set.specs.Command.{CommandData, StartsNote, EndsNote, Bends, Controls, PicksProgram, SetsNumber, StoresVoice, TakesVoice, TakesCartridge, IsInRange}
 use Rattle.command_set.specs.Entries.{LoggedData}
 use Rattle.command_set.specs.Text.{text, packed}
@@ -35,36 +35,36 @@ join_front code front [] some = absurd (some refl)
 join_front code front (p ∷ ps) some = refl
 
 -- a text that was cut is its front, the byte, and the rest
-pub cut_text : (code : ℕ) (whole front rest : List ℕ) → parts code whole ≡ front ∷ parts code rest → whole ≡ front ++ code ∷ rest
+pub cut_text : (code : ℕ) (whole front rest : List ℕ) → split code whole ≡ front ∷ split code rest → whole ≡ front ++ code ∷ rest
 cut_text code whole front rest e =
-    sym (join_with_byte-slice_split code whole) ∙ ap (join_with_byte code) e ∙ join_front code front (parts code rest) (parts_some code rest)
+    sym (join_with_byte-slice_split code whole) ∙ ap (join_with_byte code) e ∙ join_front code front (split code rest) (split_some code rest)
     ∙ ap (λ (bs : List ℕ). front ++ code ∷ bs) (join_with_byte-slice_split code rest)
 
 heads : (a b : List ℕ) (xs ys : List (List ℕ)) → a ∷ xs ≡ b ∷ ys → (a ≡ b) × (xs ≡ ys)
 heads a b xs ys e = (cc, cc)
 
-same_parts : (code : ℕ) (a b xs ys : List ℕ) → a ∷ parts code xs ≡ b ∷ parts code ys → (a ≡ b) × (xs ≡ ys)
+same_parts : (code : ℕ) (a b xs ys : List ℕ) → a ∷ split code xs ≡ b ∷ split code ys → (a ≡ b) × (xs ≡ ys)
 same_parts code a b xs ys e =
-    let h = heads a b (parts code xs) (parts code ys) e in
+    let h = heads a b (split code xs) (split code ys) e in
     (h.0, sym (join_with_byte-slice_split code xs) ∙ ap (join_with_byte code) h.1 ∙ join_with_byte-slice_split code ys)
 
-parts_at : (code : ℕ) (front rest : List ℕ) → HasNo code front → parts code (front ++ code ∷ rest) ≡ front ∷ parts code rest
+parts_at : (code : ℕ) (front rest : List ℕ) → HasNo code front → split code (front ++ code ∷ rest) ≡ front ∷ split code rest
 parts_at code front rest h = slice_split_at (λ byte. byte == code) front code rest h (eq-eqb code code refl)
 
 -- a text is cut at its first byte of the code
-pub cut_only : (code : ℕ) (whole front rest a b : List ℕ) → parts code whole ≡ front ∷ parts code rest → HasNo code a → whole ≡ a ++ code ∷ b
+pub cut_only : (code : ℕ) (whole front rest a b : List ℕ) → split code whole ≡ front ∷ split code rest → HasNo code a → whole ≡ a ++ code ∷ b
     → (front ≡ a) × (rest ≡ b)
-cut_only code whole front rest a b e h is = same_parts code front a rest b (sym e ∙ ap (parts code) is ∙ parts_at code a b h)
+cut_only code whole front rest a b e h is = same_parts code front a rest b (sym e ∙ ap (split code) is ∙ parts_at code a b h)
 
 -- a text that was not cut has no byte of the code
-pub cut_none : (code : ℕ) (whole a b : List ℕ) → parts code whole ≡ whole ∷ [] → HasNo code a → whole ≢ a ++ code ∷ b
+pub cut_none : (code : ℕ) (whole a b : List ℕ) → split code whole ≡ whole ∷ [] → HasNo code a → whole ≢ a ++ code ∷ b
 cut_none code whole a b e h is =
-    let h2 = heads a whole (parts code b) [] (sym (parts_at code a b h) ∙ sym (ap (parts code) is) ∙ e) in
-    parts_some code b h2.1
+    let h2 = heads a whole (split code b) [] (sym (parts_at code a b h) ∙ sym (ap (split code) is) ∙ e) in
+    split_some code b h2.1
 
 -- two texts with the same byte behind fronts without it
 pub front_same : (code : ℕ) (a b xs ys : List ℕ) → HasNo code a → HasNo code b → a ++ code ∷ xs ≡ b ++ code ∷ ys → (a ≡ b) × (xs ≡ ys)
-front_same code a b xs ys ha hb e = same_parts code a b xs ys (sym (parts_at code a xs ha) ∙ ap (parts code) e ∙ parts_at code b ys hb)
+front_same code a b xs ys ha hb e = same_parts code a b xs ys (sym (parts_at code a xs ha) ∙ ap (split code) e ∙ parts_at code b ys hb)
 
 -- ---- bytes of words
 
@@ -198,13 +198,13 @@ line_some l more e = let none : length (entry_text l ++ 10 ∷ more) ≡ 0 = ap 
   ends (x ∷ front) more none = absurd (omega arith)
 
 -- a text that begins with the line of an entry is cut behind it
-pub line_cut : (whole front rest : List ℕ) (l : LoggedData) → parts 10 whole ≡ front ∷ parts 10 rest → BeginsWith whole l → entry_text l ≡ front
+pub line_cut : (whole front rest : List ℕ) (l : LoggedData) → split 10 whole ≡ front ∷ split 10 rest → BeginsWith whole l → entry_text l ≡ front
 line_cut whole front rest l e b = sym (cut_only 10 whole front rest (entry_text l) b.more e (entry_whole l b.writable) (b.spelled ∙ line_more l b.more)).0
 
-pub line_uncut : (whole : List ℕ) (l : LoggedData) → parts 10 whole ≡ whole ∷ [] → ¬ BeginsWith whole l
+pub line_uncut : (whole : List ℕ) (l : LoggedData) → split 10 whole ≡ whole ∷ [] → ¬ BeginsWith whole l
 line_uncut whole l e b = cut_none 10 whole (entry_text l) b.more e (entry_whole l b.writable) (b.spelled ∙ line_more l b.more)
 
-pub line_read : (whole front rest : List ℕ) (l : LoggedData) → parts 10 whole ≡ front ∷ parts 10 rest → entry_text l ≡ front → whole ≡ order_line l ++ rest
+pub line_read : (whole front rest : List ℕ) (l : LoggedData) → split 10 whole ≡ front ∷ split 10 rest → entry_text l ≡ front → whole ≡ order_line l ++ rest
 line_read whole front rest l e is = cut_text 10 whole front rest e ∙ ap (λ (bs : List ℕ). bs ++ 10 ∷ rest) (sym is) ∙ sym (line_more l rest)
 
 -- ---- the first line
@@ -239,15 +239,15 @@ header_same a b c d xs ys la lb lc ld e =
     let n = header_text_same a b c d la lb lc ld h.0 in
     (n.0, n.1, h.1)
 
-pub header_cut : (whole front rest more : List ℕ) (blocks scripts : ℕ) → parts 10 whole ≡ front ∷ parts 10 rest → blocks < 2 ^ 32 → scripts < 2 ^ 32
+pub header_cut : (whole front rest more : List ℕ) (blocks scripts : ℕ) → split 10 whole ≡ front ∷ split 10 rest → blocks < 2 ^ 32 → scripts < 2 ^ 32
     → whole ≡ order_header blocks scripts ++ more → front ≡ header_text blocks scripts
 header_cut whole front rest more blocks scripts e lb ls is =
     (cut_only 10 whole front rest (header_text blocks scripts) more e (header_whole blocks scripts lb ls) (is ∙ header_more blocks scripts more)).0
 
-pub header_uncut : (whole more : List ℕ) (blocks scripts : ℕ) → parts 10 whole ≡ whole ∷ [] → blocks < 2 ^ 32 → scripts < 2 ^ 32 → whole ≢ order_header blocks scripts ++ more
+pub header_uncut : (whole more : List ℕ) (blocks scripts : ℕ) → split 10 whole ≡ whole ∷ [] → blocks < 2 ^ 32 → scripts < 2 ^ 32 → whole ≢ order_header blocks scripts ++ more
 header_uncut whole more blocks scripts e lb ls is = cut_none 10 whole (header_text blocks scripts) more e (header_whole blocks scripts lb ls) (is ∙ header_more blocks scripts more)
 
-pub header_read : (whole front rest : List ℕ) (blocks scripts : ℕ) → parts 10 whole ≡ front ∷ parts 10 rest → front ≡ header_text blocks scripts
+pub header_read : (whole front rest : List ℕ) (blocks scripts : ℕ) → split 10 whole ≡ front ∷ split 10 rest → front ≡ header_text blocks scripts
     → whole ≡ order_header blocks scripts ++ rest
 header_read whole front rest blocks scripts e is =
     cut_text 10 whole front rest e ∙ ap (λ (bs : List ℕ). bs ++ 10 ∷ rest) is ∙ sym (header_more blocks scripts rest)

@@ -2,7 +2,7 @@
 use Rattle.std.specs.Prelude.{ℕ, zero, suc, ◌+◌, ◌*◌, ◌≤◌, List, [], ◌∷◌, ◌++◌, ℤ, codes, decimal}
 use Rattle.std.specs.Int.{w16, w32, to_le_bytes, cast_unsigned}
 use Rattle.std.specs.List.{flat_map}
-use Rattle.plain_text.specs.Parts.{spaced}
+use Rattle.plain_text.specs.Split.{spaced}
 use Rattle.command_set.specs.Command.{IsInRange}
 use Rattle.command_set.specs.Entries.{LoggedData}
 use Rattle.command_set.specs.Text.{text}

@@ -6,7 +6,7 @@ ghost use Rattle.take_files.specs.Orders.{HasNoHeader};
 ghost use Rattle.take_files.specs.Reading.{IsHeader};
 
 use crate::words::{behind, number_before};
-use plain_text::{cut, number_in};
+use plain_text::{parse_number, split_once};
 
 /// How many blocks and scripts an order has by its first line, and what stands behind the line.
 pub(crate) fn read_header(text: &[u8]) -> Option<(u32, u32, &[u8])>
@@ -16,7 +16,7 @@ pub(crate) fn read_header(text: &[u8]) -> Option<(u32, u32, &[u8])>
     ensures shorter { IfSome result (λ h. length h.2.now ≤ length text.now) }
     ensures none { IfNone result (HasNoHeader text.now) }
 {
-    let (line, rest) = cut(text, b'\n')?;
+    let (line, rest) = split_once(text, b'\n')?;
     let (block_count, script_count) = header_numbers(line)?;
     Some((block_count, script_count, rest))
 }
@@ -29,6 +29,6 @@ fn header_numbers(line: &[u8]) -> Option<(u32, u32)>
     let line = behind(line, b"order engine 1 blocks ")?;
     let (block_count, line) = number_before(line, 1, 1_048_576)?;
     let line = behind(line, b"scripts ")?;
-    let script_count = number_in(line, 1, 256)?;
+    let script_count = parse_number(line, 1, 256)?;
     Some((block_count, script_count))
 }

@@ -9,7 +9,7 @@ ghost use Rattle.take_files.specs.Reading.{entry_text, numbered};
 
 use crate::words::number_before;
 use command_set::{Command, Entry, Logged, TextFault};
-use plain_text::cut;
+use plain_text::split_once;
 use std::alloc::Global;
 
 /// The numbers of a line: the block, the block at which the command was due, its script, and its place there.
@@ -29,7 +29,7 @@ pub(crate) fn read_line(alloc: Global, text: &[u8]) -> Result<(Logged, &[u8]), T
     ensures shorter { IfOk result (λ r. length r.1.now < length text.now) }
     ensures refused { result ≡ Err NotCommand → (l : LoggedData) → ¬ BeginsWith text.now l }
 {
-    match cut(text, b'\n') {
+    match split_once(text, b'\n') {
         Some((line, rest)) => match read_entry(alloc, line) {
             Ok(logged) => Ok((logged, rest)),
             Err(fault) => Err(fault),

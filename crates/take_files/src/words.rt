@@ -2,7 +2,7 @@
 
 ghost use Rattle.std.specs.Prelude.{ℕ, List, ◌≡◌, ◌≢◌, ◌≤◌, ◌∷◌, ◌++◌, IfNone, IfSome, decimal};
 
-use plain_text::{cut, number_in};
+use plain_text::{parse_number, split_once};
 
 /// What stands behind this front.
 pub(crate) fn behind<'a>(text: &'a [u8], front: &[u8]) -> Option<&'a [u8]>
@@ -18,7 +18,7 @@ pub(crate) fn number_before(text: &[u8], least: u32, most: u32) -> Option<(u32, 
     ensures range { IfSome result (λ r. (least ≤ r.0) × (r.0 ≤ most)) }
     ensures none { IfNone result ((n : ℕ) (rest : List ℕ) → least ≤ n → n ≤ most → text.now ≢ decimal n ++ 32 ∷ rest) }
 {
-    let (word, rest) = cut(text, b' ')?;
-    let number = number_in(word, least, most)?;
+    let (word, rest) = split_once(text, b' ')?;
+    let number = parse_number(word, least, most)?;
     Some((number, rest))
 }

@@ -6,7 +6,7 @@ use Rattle.std.proofs.lemmas.Grind.{take_at_read}
 use Rattle.std.proofs.lemmas.Option.{slice_get_past, slice_get-get_or}
 use Rattle.std.proofs.Math.Seq.{get_or-append_seam}
 use Rattle.midi_stream.specs.declared.message.MidiMessage.{MidiMessage}
-use Rattle.midi_stream.specs.Messages.{messages, last_exclusive}
+use Rattle.midi_stream.specs.Messages.{messages, last_sysex}
 use Rattle.midi_stream.specs.Standing.{Answers}
 use Rattle.tool_core.specs.Exclusives.{Exclusive, message_at, start_before, placed, is_exclusive, is_too_long, exclusive_at, exclusives_before}
 
@@ -41,9 +41,9 @@ pub placed_text : (m : Option MidiMessage) (place : ℕ) (text : Option (List �
 placed_text None place text e h = absurd (cc)
 placed_text (Some m) place text e h = chosen_text (is_exclusive m) place text e h
 
-pub exclusive_text : (file : List ℕ) (place : ℕ) (e : Exclusive) → exclusive_at file place ≡ Some e → last_exclusive (take (place + 1) file) ≡ Some e.text
+pub exclusive_text : (file : List ℕ) (place : ℕ) (e : Exclusive) → exclusive_at file place ≡ Some e → last_sysex (take (place + 1) file) ≡ Some e.text
 unfolding exclusive_at
-exclusive_text file place e h = placed_text (message_at file place) (start_before file place) (last_exclusive (take (place + 1) file)) e h
+exclusive_text file place e h = placed_text (message_at file place) (start_before file place) (last_sysex (take (place + 1) file)) e h
 
 pub kept_text : (text : Option (List ℕ)) (e : Exclusive) (kept : List ℕ) → text ≡ Some e.text → is_too_long e ≡ false
     → IfSome text (λ bytes. length bytes ≤ 5000 → kept ≡ bytes) → kept ≡ e.text

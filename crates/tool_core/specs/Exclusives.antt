@@ -2,7 +2,7 @@
 use Rattle.std.specs.Prelude.{ℕ, zero, suc, ◌+◌, ◌==◌, nat_lt, Bool, true, false, List, [], ◌++◌, length, take, slice_index, slice_get, Option, Some, None, option_map, option_to_list, if◌then◌else◌}
 use Rattle.midi_stream.specs.declared.message.MidiMessage.{MidiMessage}
 use Rattle.midi_stream.specs.declared.message.MidiMessage.TheVariants.{NoteOff, NoteOn, KeyPressure, Control, Program, ChannelPressure, Bend, SysEx, SysExTooLong}
-use Rattle.midi_stream.specs.Messages.{messages, last_exclusive}
+use Rattle.midi_stream.specs.Messages.{messages, last_sysex}
 
 -- the message that the stream gains with its byte at a place, none where its messages stay
 unfoldable pub message_at : List ℕ → ℕ → Option MidiMessage
@@ -42,7 +42,7 @@ placed (Some message) place text =
 
 -- the system exclusive message that ends with the byte at a place
 unfoldable pub exclusive_at : List ℕ → ℕ → Option Exclusive
-exclusive_at bytes place = placed (message_at bytes place) (start_before bytes place) (last_exclusive (take (place + 1) bytes))
+exclusive_at bytes place = placed (message_at bytes place) (start_before bytes place) (last_sysex (take (place + 1) bytes))
 
 -- those that end before a place, in order
 unfoldable pub exclusives_before : List ℕ → ℕ → List Exclusive

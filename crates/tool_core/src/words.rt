@@ -5,7 +5,7 @@ ghost use Rattle.tool_core.specs.Words as spec;
 ghost use Rattle.tool_core.specs.Words.{asked, asked_by, asked_of, asked_of_drawn, asked_of_order, bench_of, bench_of_words, file_of_words, gen_of, gen_of_words, pack_of_words, pick_of, pick_of_words, replay_of_words, verify_of_words, IsInRange};
 
 use crate::seed::seed_of;
-use plain_text::number_in;
+use plain_text::parse_number;
 
 /// What the words ask for.
 #[derive(Clone, Copy)]
@@ -211,7 +211,7 @@ fn read_three<'a>(file: &'a str, slot: &str, out: &'a str) -> Option<Request<'a>
     if out.is_empty() || !is_read(out, file) {
         return None;
     }
-    match number_in(slot.as_bytes(), 0, 31) {
+    match parse_number(slot.as_bytes(), 0, 31) {
         Some(slot) => Some(Request::Pick {
             file,
             slot: slot as u8,
@@ -296,8 +296,8 @@ fn read_gen(words: &[String]) -> Option<Request<'_>>
         return None;
     }
     let seed = seed_of(words[0].as_bytes());
-    let scripts = number_in(words[1].as_bytes(), 1, 256);
-    let commands = number_in(words[2].as_bytes(), 0, 100_000);
+    let scripts = parse_number(words[1].as_bytes(), 1, 256);
+    let commands = parse_number(words[2].as_bytes(), 0, 100_000);
     gen_request(seed, scripts, commands)
 }
 
@@ -332,7 +332,7 @@ fn read_bench(words: &[String]) -> Option<Request<'_>>
         return None;
     }
     let seed = seed_of(words[0].as_bytes());
-    let blocks = number_in(words[1].as_bytes(), 1, 100_000);
+    let blocks = parse_number(words[1].as_bytes(), 1, 100_000);
     bench_request(seed, blocks)
 }
 

@@ -1,3 +1,5 @@
+//! The three curves.
+
 /// What becomes of the velocity of a note that is played.
 #[derive(Clone, Copy, Debug, PartialEq, Eq)]
 pub enum Curve {

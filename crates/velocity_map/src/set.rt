@@ -1,3 +1,5 @@
+//! One map for each curve.
+
 ghost use Rattle.std.specs.Prelude.{◌≡◌};
 ghost use Rattle.velocity_map.specs.declared.curve.Curve.TheVariants.{Linear, Soft, Hard};
 ghost use Rattle.velocity_map.specs.Map.{curve_of};

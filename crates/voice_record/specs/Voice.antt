@@ -58,7 +58,7 @@ abbrev pub opening_operator : ℕ → List ℕ
 opening_operator level =
     99 ∷ 99 ∷ 99 ∷ 99 ∷ 99 ∷ 99 ∷ 99 ∷ 0 ∷ 39 ∷ 0 ∷ 0 ∷ 0 ∷ 0 ∷ 0 ∷ 0 ∷ 0 ∷ level ∷ 0 ∷ 1 ∷ 0 ∷ 7 ∷ []
 
--- what the opening voice has behind its operators; the name is INIT VOICE
+-- what the opening voice has after its operators; the name is INIT VOICE
 abbrev pub opening_common : List ℕ
 opening_common =
     99 ∷ 99 ∷ 99 ∷ 99 ∷ 50 ∷ 50 ∷ 50 ∷ 50 ∷ 0 ∷ 0 ∷ 1 ∷ 35 ∷ 0 ∷ 0 ∷ 0 ∷ 1 ∷ 0 ∷ 3 ∷ 24 ∷ codes "INIT VOICE"
@@ -66,4 +66,10 @@ opening_common =
 -- the voice before any other is chosen: a plain tone of operator 1
 unfoldable pub opening_voice : List ℕ
 opening_voice =
-    opening_operator 0 ++ (opening_operator 0 ++ (opening_operator 0 ++ (opening_operator 0 ++ (opening_operator 0 ++ (opening_operator 99 ++ opening_common)))))
+    opening_operator 0
+    ++ (opening_operator 0
+    ++ (opening_operator 0
+    ++ (opening_operator 0
+    ++ (opening_operator 0
+    ++ (opening_operator 99
+    ++ opening_common)))))

@@ -6,7 +6,7 @@ mod limits;
 mod packing;
 mod voice;
 
-pub use limits::{COMMON, OPERATOR_FIELDS, greatest};
+pub use limits::greatest;
 pub use voice::{ValueHigh, Voice};
 
 #[cfg(test)]

@@ -4,10 +4,10 @@ ghost use Rattle.std.specs.Prelude.{◌≡◌, ◌≤◌};
 ghost use Rattle.voice_record.specs.Voice.{greatest_value};
 
 /// How many numbers an operator has.
-pub const OPERATOR_FIELDS: u8 = 21;
+pub(crate) const OPERATOR_FIELDS: u8 = 21;
 
-/// The first number behind the six operators.
-pub const COMMON: u8 = 126;
+/// The first number after the six operators.
+pub(crate) const COMMON: u8 = 126;
 
 const OPERATOR_GREATEST: [u8; 21] = [
     99, 99, 99, 99, 99, 99, 99, 99, 99, 99, 99, 3, 3, 7, 3, 7, 99, 1, 31, 99, 14,

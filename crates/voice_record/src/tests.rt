@@ -1,6 +1,7 @@
 //! Known voices and packed bytes.
 
-use crate::{OPERATOR_FIELDS, ValueHigh, Voice, greatest};
+use crate::limits::OPERATOR_FIELDS;
+use crate::{ValueHigh, Voice, greatest};
 use hex::FromHex;
 use std::test::Fail;
 

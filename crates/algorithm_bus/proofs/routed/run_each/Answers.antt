@@ -23,7 +23,7 @@ loop-k-preserved c = λ p ea eo hf.
     let op : ◌≡◌ {A = OpBlock} (op_of c.args.ops.now (6 - k)) (get_or c.args.ops.now (5 - k) no_operator) = ap (λ i. get_or c.args.ops.now i no_operator) e in
     let at : p.op (6 - k) ≡ get_or c.args.ops.now (5 - k) no_operator = ap (λ f. f (6 - k)) eo ∙ op in
     c.route.ensures p ea at (λ h.
-    let P : OpBlock → Type 0 = λ o. IsBus (feedback_sample o p.feedback p.memory) c.args.fed_back.now in
+    let P : OpBlock → Type 0 = λ o. IsBus (feedback_sample o p.feedback p.feedback_state) c.args.fed_back.now in
     subst P op (hf (6 - k) h)) (c.loop-k.invariant p ea eo hf)
 
 pub returns : goal.returns

@@ -1,6 +1,6 @@
 use Rattle.std.proofs.Common.{ℕ, ◌≡◌, ◌≤◌, ◌+◌, ◌-◌, ◌*◌, ◌/◌, ◌%◌, ◌^◌, arith}
 use Rattle.std.proofs.Math.Nat.{pow-le-pow_right, mul-le-mul}
-use Rattle.block_rates.specs.Oscillators.{delay_rate}
+use Rattle.block_rates.specs.Lfos.{delay_rate}
 use Rattle.block_rates.proofs.delay.delay_rate.Goals as goal
 
 small : (delay : ℕ) → delay ≤ 99 → (16 + (99 - delay) % 16) * 2 ^ (1 + (99 - delay) / 16) ≤ 3968

@@ -1,4 +1,4 @@
--- The other slots lie before or behind the part that is written.
+-- The other slots lie before or after the part that is written.
 use Rattle.std.proofs.Common.{◌≡◌, ◌≢◌, ℕ, ◌+◌, ◌-◌, ◌*◌, ◌<◌, ◌≤◌, List, ◌++◌, length, get_or, take, drop, arith, ap, sym, ◌∙◌, inl, inr, length-append}
 use Rattle.std.proofs.lemmas.Bool.{cases_lt}
 use Rattle.std.proofs.lemmas.List.{length-take, length-drop, get_or_append_left, get_or-append_right, get_or-take, get_or-drop}
@@ -7,7 +7,7 @@ use Rattle.std.proofs.lemmas.Grind.{same_number_lists}
 use Rattle.cartridge.specs.Cartridge.{slot_bytes}
 use Rattle.cartridge.proofs.slots.write.Goals as goal
 
--- a list with a part exchanged, at a place before the part and behind it
+-- a list with a part exchanged, at a place before the part and after it
 low : (xs ys : List ℕ) (a j : ℕ) → j < a → a ≤ length xs → get_or (take a xs ++ (ys ++ drop 128 (drop a xs))) j 0 ≡ get_or xs j 0
 low xs ys a j l h =
     let size : length (take a xs) ≡ a = length-take a xs ∙ omega arith in

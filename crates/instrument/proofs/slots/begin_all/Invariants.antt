@@ -8,5 +8,5 @@ abbrev pub invariant-loop-i : goal.invariant-loop-i
 invariant-loop-i l = record {
   len : length l.slots ≡ 16;
   blocks_len : length l.blocks ≡ 16;
-  begun : (ws : ℕ → Option SlotData) → AreSlots l.fn.slots ws → AreBegunUpTo l.i (modulation_of l.movement) ws l.slots l.blocks;
+  begun : (ws : ℕ → Option SlotData) → AreSlots l.fn.slots ws → AreBegunUpTo l.i (modulation_of l.modulation) ws l.slots l.blocks;
 }

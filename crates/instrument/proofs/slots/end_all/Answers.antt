@@ -1,4 +1,4 @@
-use Rattle.operator_kernel.specs.Operator.{memory_of}
+use Rattle.operator_kernel.specs.Operator.{feedback_state_of}
 use Rattle.algorithm_bus.specs.declared.note_block.NoteBlock.{NoteBlock}
 use Rattle.std.proofs.Common.{ap, ◌∙◌, length-set, get_or, arith, rules}
 use Rattle.instrument.proofs.Begun.{ended_none, ended_next, ended_all}

@@ -1,18 +1,51 @@
-use Rattle.std.proofs.Common.{◌∷◌, [], ◌++◌, ap, sym, ◌∙◌}
+use Rattle.std.proofs.Common.{◌∷◌, [], ◌++◌, refl, ap, sym, ◌∙◌}
+use Rattle.std.proofs.lemmas.Bool.{lt-ltb}
 use Rattle.midi_stream.specs.declared.message.MidiMessage.{MidiMessage}
-use Rattle.midi_stream.specs.Messages.{messages_of}
-use Rattle.midi_stream.proofs.Steps.{running_one, answer_one, half_first, answer_first}
+use Rattle.midi_stream.specs.Growth.{extended}
+use Rattle.midi_stream.specs.Messages.{messages_of, sysex_at_end}
+use Rattle.midi_stream.proofs.Steps.{running_one, answer_one, half_first, answer_first, unused_begun}
 use Rattle.midi_stream.proofs.step.first_data.Goals as goal
 
-pub returns-then-takes_one-clause-stands : goal.returns-then-takes_one-clause-stands
-returns-then-takes_one-clause-stands c kept parts h u = running_one c.args.status parts c.args.byte (sym c.takes_one.ensures ∙ c.if-takes_one.true) h
+pub returns-then-takes_one-clause-begun : goal.returns-then-takes_one-clause-begun
+returns-then-takes_one-clause-begun c =
+    let one = sym c.takes_one.ensures ∙ c.if-takes_one.true in
+    record {
+      stands = λ kept parts h. running_one c.args.status parts c.args.byte one h.channel;
+      answer = λ kept parts h. answer_one c.args.status parts c.args.byte one h.channel ∙ ap (λ (m : MidiMessage). messages_of parts ++ m ∷ []) (sym c.with_one.ensures.value);
+      bytes = λ kept parts h. c.with_one.ensures.bytes (sysex_at_end (extended parts c.args.byte));
+      range = c.with_one.ensures.range;
+      holds = refl;
+    }
 
-pub returns-then-takes_one-clause-answer : goal.returns-then-takes_one-clause-answer
-returns-then-takes_one-clause-answer c parts h u =
-    answer_one c.args.status parts c.args.byte (sym c.takes_one.ensures ∙ c.if-takes_one.true) h ∙ ap (λ (m : MidiMessage). messages_of parts ++ m ∷ []) (sym c.with_one.ensures.value)
+pub returns-then-takes_one-clause-running : goal.returns-then-takes_one-clause-running
+returns-then-takes_one-clause-running c =
+    let one = sym c.takes_one.ensures ∙ c.if-takes_one.true in
+    record {
+      stands = λ kept parts h. running_one c.args.status parts c.args.byte one h.channel;
+      answer = λ kept parts h. answer_one c.args.status parts c.args.byte one h.channel ∙ ap (λ (m : MidiMessage). messages_of parts ++ m ∷ []) (sym c.with_one.ensures.value);
+      bytes = λ kept parts h. c.with_one.ensures.bytes (sysex_at_end (extended parts c.args.byte));
+      range = c.with_one.ensures.range;
+      holds = refl;
+    }
 
-pub returns-else-takes_one-clause-stands : goal.returns-else-takes_one-clause-stands
-returns-else-takes_one-clause-stands c kept parts h u = half_first c.args.status parts c.args.byte (sym c.takes_one.ensures ∙ c.if-takes_one.false) h u
+pub returns-else-takes_one-clause-begun : goal.returns-else-takes_one-clause-begun
+returns-else-takes_one-clause-begun c =
+    let two = sym c.takes_one.ensures ∙ c.if-takes_one.false in
+    record {
+      stands = λ kept parts h. half_first c.args.status parts c.args.byte two h.channel (unused_begun c.args.status parts two h);
+      answer = λ kept parts h. answer_first c.args.status parts c.args.byte two h.channel (unused_begun c.args.status parts two h);
+      bytes = λ kept parts h. tt;
+      range = tt;
+      holds = lt-ltb c.args.byte 128 c.requires;
+    }
 
-pub returns-else-takes_one-clause-answer : goal.returns-else-takes_one-clause-answer
-returns-else-takes_one-clause-answer c parts h u = answer_first c.args.status parts c.args.byte (sym c.takes_one.ensures ∙ c.if-takes_one.false) h u
+pub returns-else-takes_one-clause-running : goal.returns-else-takes_one-clause-running
+returns-else-takes_one-clause-running c =
+    let two = sym c.takes_one.ensures ∙ c.if-takes_one.false in
+    record {
+      stands = λ kept parts h. half_first c.args.status parts c.args.byte two h.channel h.unused;
+      answer = λ kept parts h. answer_first c.args.status parts c.args.byte two h.channel h.unused;
+      bytes = λ kept parts h. tt;
+      range = tt;
+      holds = lt-ltb c.args.byte 128 c.requires;
+    }

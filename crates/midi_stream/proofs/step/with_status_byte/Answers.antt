@@ -1,17 +1,18 @@
-use Rattle.std.proofs.Common.{subst}
-use Rattle.midi_stream.specs.declared.place.Place.{Place}
-use Rattle.midi_stream.specs.Standing.{StandsAt}
+use Rattle.std.proofs.Common.{sym, subst}
+use Rattle.midi_stream.specs.declared.state.ParserState.{ParserState}
+use Rattle.midi_stream.specs.Growth.{with_status}
+use Rattle.midi_stream.specs.Steps.{Advances}
 use Rattle.midi_stream.proofs.Steps.{outside_none, answer_none}
 use Rattle.midi_stream.proofs.step.with_status_byte.Goals as goal
 
-pub returns-in-Exclusive-clause-answer : goal.returns-in-Exclusive-clause-answer
-returns-in-Exclusive-clause-answer c kept parts h = c.status_in_exclusive.ensures.answer kept parts (subst (λ (p : Place). StandsAt p kept parts) c.in-Exclusive.is h)
+pub returns-in-InSysEx : goal.returns-in-InSysEx
+returns-in-InSysEx c = subst (λ (s : ParserState). Advances s c.args.byte with_status c.status_in_sysex.result) (sym c.in-InSysEx.is) c.status_in_sysex.ensures
 
-pub returns-in_default-clause-stands : goal.returns-in_default-clause-stands
-returns-in_default-clause-stands c kept parts h = c.behind.ensures.stands c.args.place kept parts (outside_none c.args.place kept parts c.args.byte c.in_default.not-Exclusive h)
-
-pub returns-in_default-clause-answer : goal.returns-in_default-clause-answer
-returns-in_default-clause-answer c kept parts h = answer_none parts c.args.byte (outside_none c.args.place kept parts c.args.byte c.in_default.not-Exclusive h)
-
-pub returns-in-Exclusive-clause-bytes : goal.returns-in-Exclusive-clause-bytes
-returns-in-Exclusive-clause-bytes c kept parts h = c.status_in_exclusive.ensures.bytes kept parts (subst (λ (p : Place). StandsAt p kept parts) c.in-Exclusive.is h)
+pub returns-in_default : goal.returns-in_default
+returns-in_default c = record {
+  stands = λ kept parts h. c.state_after.ensures.stands c.args.state kept parts (outside_none c.args.state kept parts c.args.byte c.in_default.not-InSysEx h);
+  answer = λ kept parts h. answer_none parts c.args.byte (outside_none c.args.state kept parts c.args.byte c.in_default.not-InSysEx h);
+  bytes = λ kept parts h. tt;
+  range = tt;
+  holds = c.state_after.ensures.holds;
+}

@@ -25,21 +25,21 @@ pub returns-clause-value : goal.returns-clause-value
 unfolding gain_of
 returns-clause-value c =
     let fl = c.ranges.level in
-    let fd = c.ranges.drop in
-    let f1 : SFits w32 (c.args.level -ℤ c.args.drop) = omega (arith, ints) in
+    let fd = c.ranges.attenuation in
+    let f1 : SFits w32 (c.args.level -ℤ c.args.attenuation) = omega (arith, ints) in
     let fm : SFits w32 c.max.result = record { sfits = c.max.type_inv } in
     let fe : SFits w32 c.exp.result = record { sfits = c.exp.type_inv } in
-    let e : c.max.result ≡ int_max (c.args.level -ℤ c.args.drop) (pos 0) = simp to_z-of_z at c.max.ensures.value in
-    let f2 : SFits w32 (c.max.result -ℤ pos 234881024) = max_fits c.max.result (c.args.level -ℤ c.args.drop) e (omega (arith, ints)) in
-    to_z-of_z w32 _ fe ∙ c.exp.ensures.value ∙ ap exponential (arg_bits c.max.result fm f2) ∙ ap (λ z. exponential (z -ℤ pos 234881024)) (e ∙ max_swapped (c.args.level -ℤ c.args.drop) (pos 0))
+    let e : c.max.result ≡ int_max (c.args.level -ℤ c.args.attenuation) (pos 0) = simp to_z-of_z at c.max.ensures.value in
+    let f2 : SFits w32 (c.max.result -ℤ pos 234881024) = max_fits c.max.result (c.args.level -ℤ c.args.attenuation) e (omega (arith, ints)) in
+    to_z-of_z w32 _ fe ∙ c.exp.ensures.value ∙ ap exponential (arg_bits c.max.result fm f2) ∙ ap (λ z. exponential (z -ℤ pos 234881024)) (e ∙ max_swapped (c.args.level -ℤ c.args.attenuation) (pos 0))
 
 pub returns-clause-high : goal.returns-clause-high
 returns-clause-high c =
     let fl = c.ranges.level in
-    let fd = c.ranges.drop in
-    let f1 : SFits w32 (c.args.level -ℤ c.args.drop) = omega (arith, ints) in
+    let fd = c.ranges.attenuation in
+    let f1 : SFits w32 (c.args.level -ℤ c.args.attenuation) = omega (arith, ints) in
     let fm : SFits w32 c.max.result = record { sfits = c.max.type_inv } in
     let fe : SFits w32 c.exp.result = record { sfits = c.exp.type_inv } in
-    let e : c.max.result ≡ int_max (c.args.level -ℤ c.args.drop) (pos 0) = simp to_z-of_z at c.max.ensures.value in
-    let f2 : SFits w32 (c.max.result -ℤ pos 234881024) = max_fits c.max.result (c.args.level -ℤ c.args.drop) e (omega (arith, ints)) in
-    simp to_z-of_z (c.exp.ensures.gain (rw (arg_bits c.max.result fm f2) (max_below c.max.result (c.args.level -ℤ c.args.drop) e (omega (arith, ints)))))
+    let e : c.max.result ≡ int_max (c.args.level -ℤ c.args.attenuation) (pos 0) = simp to_z-of_z at c.max.ensures.value in
+    let f2 : SFits w32 (c.max.result -ℤ pos 234881024) = max_fits c.max.result (c.args.level -ℤ c.args.attenuation) e (omega (arith, ints)) in
+    simp to_z-of_z (c.exp.ensures.gain (rw (arg_bits c.max.result fm f2) (max_below c.max.result (c.args.level -ℤ c.args.attenuation) e (omega (arith, ints)))))

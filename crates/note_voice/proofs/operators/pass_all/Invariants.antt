@@ -1,8 +1,8 @@
 use Rattle.std.proofs.Common.{◌≡◌, ℤ, length}
 use Rattle.note_voice.specs.Modulation.{Modulation}
-use Rattle.note_voice.specs.Note.{NoteData, heard}
-use Rattle.note_voice.specs.Running.{AreOperators, IsMoved}
-use Rattle.note_voice.proofs.Blocks.{ArePassedUpTo, AreHeardUpTo, HaveGainsUpTo}
+use Rattle.note_voice.specs.Note.{NoteData, after_block}
+use Rattle.note_voice.specs.Running.{AreOperators, IsModulated}
+use Rattle.note_voice.proofs.Blocks.{ArePassedUpTo, MeetsEquationUpTo, HaveGainsUpTo}
 use Rattle.note_voice.proofs.operators.pass_all.Given as goal
 
 abbrev pub invariant-loop-k : goal.invariant-loop-k
@@ -10,6 +10,6 @@ invariant-loop-k l = record {
   len : length l.operators ≡ 6;
   ops_len : length l.ops ≡ 6;
   gains : HaveGainsUpTo l.k l.ops;
-  states : (n : NoteData) (m : Modulation) (shift : ℤ) → IsMoved l.switch shift l.lfo l.delay n m → AreOperators l.fn.operators shift n → ArePassedUpTo l.k shift shift n (heard n m) l.operators;
-  blocks : (n : NoteData) (m : Modulation) (shift : ℤ) → IsMoved l.switch shift l.lfo l.delay n m → AreOperators l.fn.operators shift n → AreHeardUpTo l.k (heard n m) (length n.past) l.ops;
+  states : (n : NoteData) (m : Modulation) (shift : ℤ) → IsModulated l.switch shift l.lfo l.delay n m → AreOperators l.fn.operators shift n → ArePassedUpTo l.k shift shift n (after_block n m) l.operators;
+  blocks : (n : NoteData) (m : Modulation) (shift : ℤ) → IsModulated l.switch shift l.lfo l.delay n m → AreOperators l.fn.operators shift n → MeetsEquationUpTo l.k (after_block n m) (length n.past) l.ops;
 }

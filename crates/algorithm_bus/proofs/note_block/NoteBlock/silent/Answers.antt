@@ -1,5 +1,5 @@
 use Rattle.std.proofs.Common.{ℕ, ◌-◌, ◌≤◌, arith}
-use Rattle.algorithm_bus.proofs.Unheard.{no_output, silent_six}
+use Rattle.algorithm_bus.proofs.Inaudible.{no_output, silent_six}
 use Rattle.algorithm_bus.proofs.note_block.NoteBlock.silent.Goals as goal
 
 pub returns : goal.returns

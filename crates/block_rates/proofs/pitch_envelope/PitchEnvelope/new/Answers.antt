@@ -1,17 +1,17 @@
 use Rattle.std.proofs.Common.{ℕ, ℤ, ◌≡◌, ◌+◌, ◌∷◌, [], None, SFits, w32, refl, ◌∙◌, ap, arith}
 use Rattle.std.specs.Prelude.{slice_index}
 use Rattle.std.proofs.lemmas.Int.{to_z-of_z}
-use Rattle.block_rates.specs.declared.glide.Glide.{Glide}
+use Rattle.block_rates.specs.declared.pitch_segment.PitchSegment.{PitchSegment}
 use Rattle.block_rates.specs.Stages.{after, four_stages}
-use Rattle.block_rates.specs.Pitches.{PitchEnvelopeSettings, glide_at, gliding, pitch_of}
+use Rattle.block_rates.specs.Pitches.{PitchEnvelopeSettings, pitch_segment_at, pitch_motion, pitch_of}
 use Rattle.block_rates.proofs.pitch_envelope.PitchEnvelope.new.Goals as goal
 
-glide_is : (a : Glide) (t : ℤ) (p : ℕ) → a.target ≡ t → a.step ≡ p → a ≡ record { target = t; step = p }
+glide_is : (a : PitchSegment) (t : ℤ) (p : ℕ) → a.target ≡ t → a.step ≡ p → a ≡ record { target = t; step = p }
 glide_is a t p e f =
-    let glide : ℤ → ℕ → Glide = λ t p. record { target = t; step = p } in
-    ap (λ t. glide t a.step) e ∙ ap (glide t) f
+    let pitch_segment : ℤ → ℕ → PitchSegment = λ t p. record { target = t; step = p } in
+    ap (λ t. pitch_segment t a.step) e ∙ ap (pitch_segment t) f
 
-begun : (s : PitchEnvelopeSettings) (a b c : Glide) (x : ℤ) (n : ℕ) → a ≡ glide_at s 0 → b ≡ glide_at s 1 → c ≡ glide_at s 2 → x ≡ pitch_of (slice_index s.levels 3) → after gliding (a ∷ b ∷ c ∷ []) x n ≡ four_stages gliding (pitch_of (slice_index s.levels 3)) (glide_at s) (0 + n) None
+begun : (s : PitchEnvelopeSettings) (a b c : PitchSegment) (x : ℤ) (n : ℕ) → a ≡ pitch_segment_at s 0 → b ≡ pitch_segment_at s 1 → c ≡ pitch_segment_at s 2 → x ≡ pitch_of (slice_index s.levels 3) → after pitch_motion (a ∷ b ∷ c ∷ []) x n ≡ four_stages pitch_motion (pitch_of (slice_index s.levels 3)) (pitch_segment_at s) (0 + n) None
 unfolding four_stages
 begun s a b c x n d e f g =
     let z : 0 + n ≡ n = omega arith in

@@ -25,15 +25,15 @@ pub returns-clause-samples : goal.returns-clause-samples
 unfolding samples
 returns-clause-samples c = λ s h.
     let v = c.loop-j.invariant in
-    let stepped = c.next_movement-movement.ensures.stepped s h in
-    let moved = c.next_movement-movement.ensures.value s h in
+    let stepped = c.next_modulation-modulation.ensures.stepped s h in
+    let moved = c.next_modulation-modulation.ensures.value s h in
     fill_by_all _ c.loop-j.out 64 (pos 0) v.len (λ k lt.
     v.done k (omega arith) ∙ ap output_of (sum_is _ _ _ c.silence-mix.ensures (c.sound_all.ensures.samples s.slots stepped.slots) k lt ∙ ap (λ m. mix_of m s.slots 16 k) moved))
 
 pub returns-clause-passed : goal.returns-clause-passed
 unfolding passed
 returns-clause-passed c = λ s h.
-    let t = c.next_movement-movement.ensures.stepped s h in
+    let t = c.next_modulation-modulation.ensures.stepped s h in
     record {
       bank = t.bank;
       voice = t.voice;
@@ -43,5 +43,5 @@ returns-clause-passed c = λ s h.
       pedal = t.pedal;
       next = t.next;
       oscillator = t.oscillator;
-      slots = subst (λ m. AreSlots c.sound_all.new.slots (λ i. slot_later m (s.slots i))) (c.next_movement-movement.ensures.value s h) (c.sound_all.ensures.passed s.slots t.slots);
+      slots = subst (λ m. AreSlots c.sound_all.new.slots (λ i. slot_later m (s.slots i))) (c.next_modulation-modulation.ensures.value s h) (c.sound_all.ensures.passed s.slots t.slots);
     }

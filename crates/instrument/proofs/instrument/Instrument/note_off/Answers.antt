@@ -1,5 +1,5 @@
 use Rattle.std.proofs.Common.{subst}
-use Rattle.instrument.specs.State.{apply, lifted}
+use Rattle.instrument.specs.State.{apply, key_up}
 use Rattle.instrument.specs.Running.{AreSlots}
 use Rattle.instrument.proofs.instrument.Instrument.note_off.Goals as goal
 
@@ -14,5 +14,5 @@ returns c = λ s h. record {
   pedal = h.pedal;
   next = h.next;
   oscillator = h.oscillator;
-  slots = subst (λ p. AreSlots c.lift_all.new.slots (λ i. lifted p c.args.channel c.args.key (s.slots i))) h.pedal (c.lift_all.ensures s.slots h.slots);
+  slots = subst (λ p. AreSlots c.key_up_all.new.slots (λ i. key_up p c.args.channel c.args.key (s.slots i))) h.pedal (c.key_up_all.ensures s.slots h.slots);
 }

@@ -1,8 +1,9 @@
 use Rattle.std.proofs.Common.{◌≡◌, ℕ, List, ◌∷◌, [], ◌++◌, sym, subst, arith}
 use Rattle.std.specs.Prelude.{None, IfSome}
 use Rattle.std.proofs.lemmas.Bool.{lt-ltb, le-ltb}
-use Rattle.midi_stream.specs.Segments.{Segment, clean, segments, with_byte}
-use Rattle.midi_stream.specs.Messages.{messages, messages_of, last_exclusive, exclusive_at_end}
+use Rattle.midi_stream.specs.Segments.{Segment, clean, segments}
+use Rattle.midi_stream.specs.Growth.{with_byte}
+use Rattle.midi_stream.specs.Messages.{messages, messages_of, last_sysex, sysex_at_end}
 use Rattle.midi_stream.specs.Reading.{Reads}
 use Rattle.midi_stream.specs.Standing.{StandsAt, kept_with, Answers, HasBytes}
 use Rattle.midi_stream.proofs.Answered.{none_exactly, some_exactly}
@@ -22,8 +23,8 @@ unfolding Reads
 returns-clause-stands c stream h =
     let parts = segments (clean stream) in
     let e : segments (clean (stream ++ c.args.byte ∷ [])) ≡ with_byte parts c.args.byte = segments_byte stream c.args.byte (lt-ltb c.args.byte 248 (omega arith)) in
-    subst (λ (kept : List ℕ). StandsAt c.next_step-step.result.place kept (segments (clean (stream ++ c.args.byte ∷ [])))) (sym c.keep.ensures.items)
-    (subst (λ (now : List Segment). StandsAt c.next_step-step.result.place (kept_with c.args.self.now.place c.args.self.now.kept.items c.args.byte) now) (sym e)
+    subst (λ (kept : List ℕ). StandsAt c.next_step-step.result.state kept (segments (clean (stream ++ c.args.byte ∷ [])))) (sym c.keep.ensures.items)
+    (subst (λ (now : List Segment). StandsAt c.next_step-step.result.state (kept_with c.args.self.now.state c.args.self.now.kept.items c.args.byte) now) (sym e)
     (c.next_step-step.ensures.stands c.args.self.now.kept.items parts h))
 
 pub returns-clause-answer : goal.returns-clause-answer
@@ -47,9 +48,9 @@ pub returns-clause-some : goal.returns-clause-some
 returns-clause-some c stream message h = some_exactly _ message _ _ (returns-clause-answer c stream h)
 
 pub returns-clause-bytes : goal.returns-clause-bytes
-unfolding Reads last_exclusive
+unfolding Reads last_sysex
 returns-clause-bytes c stream h =
     let parts = segments (clean stream) in
     let e : segments (clean (stream ++ c.args.byte ∷ [])) ≡ with_byte parts c.args.byte = segments_byte stream c.args.byte (lt-ltb c.args.byte 248 (omega arith)) in
-    subst (λ (now : List Segment). IfSome c.next_step-step.result.message (λ message. HasBytes message (exclusive_at_end now))) (sym e)
+    subst (λ (now : List Segment). IfSome c.next_step-step.result.message (λ message. HasBytes message (sysex_at_end now))) (sym e)
     (c.next_step-step.ensures.bytes c.args.self.now.kept.items parts h)

@@ -1,9 +1,9 @@
 use Rattle.std.proofs.Common.{◌≡◌, length, refl, SFits, w32, rules}
 use Rattle.std.proofs.lemmas.Int.{to_z-of_z}
 use Rattle.note_voice.specs.Modulation.{Modulation}
-use Rattle.note_voice.specs.Note.{NoteData, heard, pitch_settings, pitch_shift_in}
-use Rattle.note_voice.specs.Running.{IsMoved, IsSounding}
-use Rattle.note_voice.proofs.Blocks.{shift_is, patch_is, pitch_heard}
+use Rattle.note_voice.specs.Note.{NoteData, after_block, pitch_settings, pitch_shift_in}
+use Rattle.note_voice.specs.Running.{IsModulated, IsSounding}
+use Rattle.note_voice.proofs.Blocks.{shift_is, patch_is, pitch_after_block}
 use Rattle.note_voice.proofs.sounding.Sounding.begin_block.Goals as goal
 
 pub returns-clause-block : goal.returns-clause-block
@@ -18,8 +18,8 @@ returns-clause-block c =
     let blocks = simp to_z-of_z at c.pass_all-ops.ensures.blocks in
     λ n r.
     let s = shift_is n m _ _ _ _ r.set.depth_is r.set.sensitivity_is shift (c.step-level.ensures.value (pitch_settings n.voice) (length n.past) n.off r.set.pitch_is) in
-    let moved : IsMoved c.args.self.now.switch c.pitch_modulation-shift.result c.args.lfo c.args.delay n m = record { switch_is = r.set.switch_is; shift_is = s; lfo_is = refl; delay_is = refl } in
-    patch_is n m _ _ _ c.args.self.now.memory r.set.algorithm_is r.set.feedback_is (blocks n m _ moved (tuned n r.set.operators_are)) r.memory_is
+    let moved : IsModulated c.args.self.now.switch c.pitch_modulation-shift.result c.args.lfo c.args.delay n m = record { switch_is = r.set.switch_is; shift_is = s; lfo_is = refl; delay_is = refl } in
+    patch_is n m _ _ _ c.args.self.now.feedback_state r.set.algorithm_is r.set.feedback_is (blocks n m _ moved (tuned n r.set.operators_are)) r.memory_is
 
 pub returns-clause-begun : goal.returns-clause-begun
 returns-clause-begun c =
@@ -33,7 +33,7 @@ returns-clause-begun c =
     let passed = simp to_z-of_z at c.pass_all-ops.ensures.passed in
     λ n r.
     let s = shift_is n m _ _ _ _ r.set.depth_is r.set.sensitivity_is shift (c.step-level.ensures.value (pitch_settings n.voice) (length n.past) n.off r.set.pitch_is) in
-    let moved : IsMoved c.args.self.now.switch c.pitch_modulation-shift.result c.args.lfo c.args.delay n m = record { switch_is = r.set.switch_is; shift_is = s; lfo_is = refl; delay_is = refl } in
+    let moved : IsModulated c.args.self.now.switch c.pitch_modulation-shift.result c.args.lfo c.args.delay n m = record { switch_is = r.set.switch_is; shift_is = s; lfo_is = refl; delay_is = refl } in
     record {
       algorithm_is = r.set.algorithm_is;
       feedback_is = r.set.feedback_is;
@@ -41,5 +41,5 @@ returns-clause-begun c =
       sensitivity_is = r.set.sensitivity_is;
       switch_is = r.set.switch_is;
       operators_are = simp to_z-of_z (passed n m _ moved (tuned n r.set.operators_are));
-      pitch_is = pitch_heard _ n m (c.step-level.ensures.stands (pitch_settings n.voice) (length n.past) n.off r.set.pitch_is);
+      pitch_is = pitch_after_block _ n m (c.step-level.ensures.stands (pitch_settings n.voice) (length n.past) n.off r.set.pitch_is);
     }

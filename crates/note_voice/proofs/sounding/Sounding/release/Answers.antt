@@ -1,6 +1,6 @@
 use Rattle.std.proofs.Common.{length}
 use Rattle.note_voice.specs.Note.{pitch_settings}
-use Rattle.note_voice.proofs.Blocks.{memory_let_go}
+use Rattle.note_voice.proofs.Blocks.{state_released}
 use Rattle.note_voice.proofs.sounding.Sounding.release.Goals as goal
 
 pub returns : goal.returns
@@ -14,5 +14,5 @@ returns c = λ n r. record {
     operators_are = c.release_all.ensures n _ r.set.operators_are;
     pitch_is = c.release.ensures (pitch_settings n.voice) (length n.past) n.off r.set.pitch_is;
   };
-  memory_is = memory_let_go n c.args.self.now.memory r.memory_is;
+  memory_is = state_released n c.args.self.now.feedback_state r.memory_is;
 }

@@ -1,6 +1,6 @@
 use Rattle.std.proofs.Common.{SFits, w32, refl}
 use Rattle.std.proofs.lemmas.Int.{to_z-of_z}
-use Rattle.note_voice.proofs.Blocks.{memory_at_start, pitch_begun}
+use Rattle.note_voice.proofs.Blocks.{state_at_start, pitch_begun}
 use Rattle.note_voice.proofs.sounding.Sounding.start.Goals as goal
 
 pub returns : goal.returns
@@ -16,5 +16,5 @@ returns c =
         operators_are = c.start_all.ensures c.args.switch c.args.key (simp to_z-of_z c.played_note-note.ensures.value);
         pitch_is = pitch_begun _ _ _ _ c.pitch_rates.ensures.value c.pitch_levels.ensures.value c.new.ensures;
       };
-      memory_is = memory_at_start _;
+      memory_is = state_at_start _;
     }

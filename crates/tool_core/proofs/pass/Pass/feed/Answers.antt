@@ -1,7 +1,7 @@
 use Rattle.std.proofs.Common.{◌≡◌, ℕ, ◌+◌, ◌∷◌, [], ◌++◌, take, get_or, sym, ◌∙◌, ap, subst, if◌then◌else◌}
 use Rattle.std.specs.Prelude.{◌==◌, Option, IfSome}
 use Rattle.midi_stream.specs.declared.message.MidiMessage.{MidiMessage}
-use Rattle.midi_stream.specs.Messages.{messages, last_exclusive}
+use Rattle.midi_stream.specs.Messages.{messages, last_sysex}
 use Rattle.midi_stream.specs.Standing.{Answers, HasBytes}
 use Rattle.tool_core.specs.Exclusives.{placed, start_before, exclusive_at}
 use Rattle.tool_core.specs.Passes.{TellsOf}
@@ -23,9 +23,9 @@ returns-clause-ended c file below is h =
     let next : take (c.args.place + 1) file ≡ take c.args.place file ++ c.args.byte ∷ [] = take_next file c.args.place c.args.byte below is in
     let answer : Answers c.feed-message.result (messages (take c.args.place file)) (messages (take (c.args.place + 1) file)) =
     rw next (c.feed-message.ensures.answer (take c.args.place file) h.reads) in
-    let bytes : IfSome c.feed-message.result (λ m. HasBytes m (last_exclusive (take (c.args.place + 1) file))) =
+    let bytes : IfSome c.feed-message.result (λ m. HasBytes m (last_sysex (take (c.args.place + 1) file))) =
     rw next (c.feed-message.ensures.bytes (take c.args.place file) h.reads) in
-    subst (λ (m : Option MidiMessage). TellsOf c.ending_of.result (placed m (start_before file c.args.place) (last_exclusive (take (c.args.place + 1) file))))
+    subst (λ (m : Option MidiMessage). TellsOf c.ending_of.result (placed m (start_before file c.args.place) (last_sysex (take (c.args.place + 1) file))))
     (sym (message_told c.feed-message.result file c.args.place answer))
-    (subst (λ (s : ℕ). TellsOf c.ending_of.result (placed c.feed-message.result s (last_exclusive (take (c.args.place + 1) file)))) h.start
-    (c.ending_of.ensures (last_exclusive (take (c.args.place + 1) file)) bytes))
+    (subst (λ (s : ℕ). TellsOf c.ending_of.result (placed c.feed-message.result s (last_sysex (take (c.args.place + 1) file)))) h.start
+    (c.ending_of.ensures (last_sysex (take (c.args.place + 1) file)) bytes))

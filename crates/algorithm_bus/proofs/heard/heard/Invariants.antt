@@ -1,9 +1,0 @@
-use Rattle.std.proofs.Common.{◌≡◌, length}
-use Rattle.algorithm_bus.specs.Heard.{AreClosed}
-use Rattle.algorithm_bus.proofs.heard.heard.Given as goal
-
-abbrev pub invariant-loop-k : goal.invariant-loop-k
-invariant-loop-k l = record {
-  len : length l.kept ≡ 6;
-  closed : AreClosed l.algorithm l.ops l.k l.kept;
-}

@@ -1,0 +1,62 @@
+//! One stage of a pitch envelope: where it leads, and how fast.
+
+ghost use Rattle.std.specs.Prelude.{◌≡◌, ◌≤◌};
+ghost use Rattle.block_rates.specs.Pitches.{IsPitch, IsPitchSegment, pitch_of, pitch_step, pitch_moved};
+
+use dx_tables::constants::{pitch_level, pitch_rate};
+
+/// Where a stage of a pitch envelope leads, and by how much it moves.
+#[derive(Clone, Copy)]
+pub(crate) struct PitchSegment {
+    pub(crate) target: i32,
+    pub(crate) step: u32,
+}
+
+impl PitchSegment {
+    /// The segment for a stage's rate and level.
+    pub(crate) fn new(rate: u8, parameter: u8) -> PitchSegment
+        requires rate { rate ≤ 99 }
+        requires parameter { parameter ≤ 99 }
+        ensures target { result.target ≡ pitch_of parameter }
+        ensures step { result.step ≡ pitch_step rate }
+        ensures bound { IsPitchSegment result }
+    {
+        PitchSegment {
+            target: pitch(parameter),
+            step: step(rate),
+        }
+    }
+
+    /// The pitch one step on from `level`.
+    pub(crate) fn stepped(self, level: i32) -> i32
+        requires pitch_segment { IsPitchSegment self }
+        requires level { IsPitch level }
+        ensures value { result ≡ pitch_moved self level 1 }
+        ensures bound { IsPitch result }
+    {
+        let step = self.step as i32;
+        if self.target <= level {
+            self.target.max(level - step)
+        } else {
+            self.target.min(level + step)
+        }
+    }
+}
+
+/// The pitch of a level parameter, where 2^24 is one octave.
+pub(crate) fn pitch(parameter: u8) -> i32
+    requires { parameter ≤ 99 }
+    ensures value { result ≡ pitch_of parameter }
+    ensures bound { IsPitch result }
+{
+    i32::from(pitch_level(parameter)) * 524_288
+}
+
+/// What a stage moves by, for its rate parameter.
+fn step(rate: u8) -> u32
+    requires { rate ≤ 99 }
+    ensures value { result ≡ pitch_step rate }
+    ensures bound { result ≤ 291465 }
+{
+    u32::from(pitch_rate(rate)) * 1143
+}
