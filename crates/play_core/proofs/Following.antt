@@ -11,7 +11,7 @@ use Rattle.script_plan.specs.Plan.{PlannedData, dues}
 use Rattle.players.specs.Players.{entries}
 use Rattle.take_files.specs.Orders.{IsWritable, HasBlock, Follows, count_of, last_block}
 use Rattle.turns.specs.Turns.{blocks_of, plan_of}
-use Rattle.turns.specs.Timed.{IsBegun, ArePlayed}
+use Rattle.turns.specs.Timed.{IsScriptBegun, ArePlayed}
 use Rattle.play_core.proofs.Counts.{length_entries, length_blocks}
 
 -- where an entry stands among its script's

@@ -13,7 +13,7 @@ use Rattle.take_files.specs.Files.{order, order_header, wav, wav_blocks, wav_hea
 use Rattle.take_files.specs.Orders.{Follows, IsOrdered, entry_limit}
 use Rattle.turns.specs.declared.target.Target.{Target}
 use Rattle.turns.specs.Turns.{plan_of}
-use Rattle.turns.specs.Timed.{ArePlayed, IsBegun as IsScriptBegun, IsTimed}
+use Rattle.turns.specs.Timed.{ArePlayed, IsScriptBegun, IsTimed}
 use Rattle.turns.specs.Written.{order_lines, both_appended, BothBegun}
 use Rattle.play_core.specs.Words.{RequestData}
 use Rattle.play_core.specs.Verdict.{blocks_of_run, places_of_run, count_all}
