@@ -3,6 +3,7 @@ use Rattle.std.specs.Prelude.{ℕ, List, Option, None}
 use Rattle.outside.specs.declared.disk.DiskShelf.{DiskShelf}
 use Rattle.outside.specs.declared.disk.StdOut.{StdOut}
 use Rattle.outside.specs.Files.{Files}
+use Rattle.outside.specs.Held.{held_by}
 
 -- files on disk are not told
 abbrev pub disk_files : {R File Dir : Type 0} → DiskShelf R File Dir → Option Files
@@ -17,6 +18,10 @@ disk_writing shelf = shelf.writing
 -- its reads are not counted
 abbrev pub disk_reads : {R File Dir : Type 0} → DiskShelf R File Dir → ℕ
 disk_reads shelf = 0
+
+-- how many bytes of a file are held back
+abbrev pub disk_held : {R File Dir : Type 0} → DiskShelf R File Dir → List ℕ → ℕ
+disk_held shelf name = held_by shelf.held name
 
 -- what was put on the standard output is not told
 abbrev pub output_bytes : {R : Type 0} → StdOut R → Option (List ℕ)

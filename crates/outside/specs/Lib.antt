@@ -4,3 +4,5 @@ pub mod Calls
 pub mod Memory
 pub mod Sure
 pub mod Disk
+pub mod Held
+pub mod Snapshot

@@ -1,5 +1,5 @@
 -- What a shelf serves that never fails.
-use Rattle.std.specs.Prelude.{ℕ, Option, None}
+use Rattle.std.specs.Prelude.{ℕ, List, Option, None}
 use Rattle.outside.specs.declared.sure.SureShelf.{SureShelf}
 use Rattle.outside.specs.Files.{Files}
 use Rattle.outside.specs.Memory.{files_in}
@@ -14,3 +14,7 @@ sure_files shelf = None
 
 abbrev pub sure_faults : SureShelf → ℕ
 sure_faults shelf = 0
+
+-- it holds nothing back
+abbrev pub sure_held : SureShelf → List ℕ → ℕ
+sure_held shelf name = 0

@@ -1,8 +1,9 @@
-ghost use Rattle.std.specs.Prelude.{◌≡◌, ◌≤◌, ◌<◌, ◌+◌, length, take, drop, IfOk, OnOk, OnErr, IfSome, IsSomeAnd, IsErr, option_map};
+//! The files of the system, and its standard output.
+ghost use Rattle.std.specs.Prelude.{◌≡◌, ◌≢◌, ◌≤◌, ◌<◌, ◌+◌, ℕ, List, [], length, take, drop, IfOk, OnOk, OnErr, IfSome, IsSomeAnd, IsErr, option_map};
 ghost use Rattle.std.specs.FinMap.{get};
 ghost use Rattle.outside.specs.Files.{Lacks, ReadsFrom, appended, created, said};
 ghost use Rattle.outside.specs.Faults.{HasCause, one_more};
-ghost use Rattle.outside.specs.Disk.{disk_files, disk_reading, disk_reads, disk_writing, output_bytes, output_faults};
+ghost use Rattle.outside.specs.Disk.{disk_files, disk_held, disk_reading, disk_reads, disk_writing, output_bytes, output_faults};
 
 use crate::held::HeldFiles;
 use crate::{Failed, Out, Shelf};
@@ -63,6 +64,8 @@ impl<R: Files> Shelf for DiskShelf<'_, R> {
 
     ghost reads = { disk_reads };
 
+    ghost held = { disk_held };
+
     fn read_at(&mut self, name: &str, at: u64, into: &mut [u8]) -> Result<usize, Failed>
         ensures count { IfOk result (λ count. count ≤ length into.old) }
         ensures rest { IfOk result (λ count. drop count into.new ≡ drop count into.old) }
@@ -115,6 +118,8 @@ impl<R: Files> Shelf for DiskShelf<'_, R> {
         ensures cause { HasCause (disk_writing self.old) (disk_writing self.new) (disk_reading self.old) (disk_reading self.new)
             (Lacks (disk_files self.old) name.now) result }
         ensures reads { disk_reads self.new ≡ disk_reads self.old }
+        ensures written_out { OnOk result (bytes.now ≡ [] → disk_held self.new name.now ≡ 0) }
+        ensures held { (other : List ℕ) → other ≢ name.now → disk_held self.new other ≤ disk_held self.old other }
 
         // The count of writing faults rises by one exactly where the call fails.
         ensures by_one { OnErr result (disk_writing self.new ≡ one_more (disk_writing self.old)) }

@@ -1,3 +1,4 @@
+//! Calls that are made to fail by their numbers.
 ghost use Rattle.std.specs.Prelude.{◌≡◌, ◌↔◌, IfOk, IsTrue, [], ◌∷◌};
 ghost use Rattle.outside.specs.Calls.{FailsNext, calls_of, next_of};
 

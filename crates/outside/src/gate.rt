@@ -1,4 +1,6 @@
-/// What is called before and after the sends and takes of an actor in a turn. Actor k is script k; with n scripts, actor n is the half of a turn that takes.
+//! What is called round the sends and takes of a turn.
+/// What is called before and after the sends and takes of an actor in a turn. Actor k is script k; with n scripts, actor n is the half
+/// of a turn that takes.
 ///
 /// It has no meaning for what a run makes. A test can hold an actor back with it.
 pub trait Gate: Sync {

@@ -1,8 +1,9 @@
-ghost use Rattle.std.specs.Prelude.{◌≡◌, ◌≤◌, ◌<◌, ◌+◌, Some, length, take, drop, IfOk, OnOk, OnErr, IfSome, IsSomeAnd, IsErr, option_map};
+//! A shelf in memory.
+ghost use Rattle.std.specs.Prelude.{◌≡◌, ◌≢◌, ◌≤◌, ◌<◌, ◌+◌, ℕ, List, [], Some, length, take, drop, IfOk, OnOk, OnErr, IfSome, IsSomeAnd, IsErr, option_map};
 ghost use Rattle.std.specs.FinMap.{empty, get, insert};
 ghost use Rattle.outside.specs.Files.{Lacks, ReadsFrom, appended, created, file_of};
 ghost use Rattle.outside.specs.Faults.{HasCause, one_more};
-ghost use Rattle.outside.specs.Memory.{reading_faults, read_calls, shelf_calls, shelf_files, writing_faults};
+ghost use Rattle.outside.specs.Memory.{reading_faults, read_calls, shelf_calls, shelf_files, shelf_held, writing_faults};
 ghost use Rattle.outside.specs.Calls.{FailsNext, next_of};
 
 use crate::copy::copy_from;
@@ -72,6 +73,8 @@ impl Shelf for MemShelf {
 
     ghost reads = { read_calls };
 
+    ghost held = { shelf_held };
+
     fn read_at(&mut self, name: &str, at: u64, into: &mut [u8]) -> Result<usize, Failed>
         ensures count { IfOk result (λ count. count ≤ length into.old) }
         ensures rest { IfOk result (λ count. drop count into.new ≡ drop count into.old) }
@@ -134,12 +137,15 @@ impl Shelf for MemShelf {
         ensures cause { HasCause (writing_faults self.old) (writing_faults self.new) (reading_faults self.old) (reading_faults self.new)
             (Lacks (shelf_files self.old) name.now) result }
         ensures reads { read_calls self.new ≡ read_calls self.old }
+        ensures written_out { OnOk result (bytes.now ≡ [] → shelf_held self.new name.now ≡ 0) }
+        ensures held { (other : List ℕ) → other ≢ name.now → shelf_held self.new other ≤ shelf_held self.old other }
 
         // The call is counted. Where it is listed it fails and its count rises by one; else the count stays at a lacking name,
         // and rises by one where the call fails at a file that is there. All the bytes are taken.
         ensures called { shelf_calls self.new ≡ next_of (shelf_calls self.old) }
         ensures listed { FailsNext (shelf_calls self.old) → IsErr result × (writing_faults self.new ≡ one_more (writing_faults self.old)) }
-        ensures unlisted { ¬ FailsNext (shelf_calls self.old) → Lacks (shelf_files self.old) name.now → writing_faults self.new ≡ writing_faults self.old }
+        ensures unlisted { ¬ FailsNext (shelf_calls self.old)
+            → Lacks (shelf_files self.old) name.now → writing_faults self.new ≡ writing_faults self.old }
         ensures by_one { ¬ Lacks (shelf_files self.old) name.now → OnErr result (writing_faults self.new ≡ one_more (writing_faults self.old)) }
         ensures whole { IfOk result (λ count. count ≡ length bytes.now) }
     {

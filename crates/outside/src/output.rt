@@ -1,3 +1,4 @@
+//! An output in memory.
 ghost use Rattle.std.specs.Prelude.{◌≡◌, ◌≤◌, ◌<◌, ◌+◌, [], Some, length, take, IfOk, OnErr, IsErr, option_map};
 ghost use Rattle.outside.specs.Files.{said};
 ghost use Rattle.outside.specs.Faults.{HasCause, one_more};

@@ -1,3 +1,4 @@
+//! Files in a map in memory.
 ghost use Rattle.std.specs.Prelude.{◌≡◌, ◌++◌, if◌then◌else◌, is_some, true, IfOk, OnOk, OnErr, option_map};
 ghost use Rattle.std.specs.FinMap.{get, insert};
 ghost use Rattle.outside.specs.Files.{appended};
@@ -53,10 +54,10 @@ pub(crate) fn append_to(
     Ok(true)
 }
 
-fn joined(alloc: Global, front: &[u8], back: &[u8]) -> Result<Vec<u8>, AllocError>
-    ensures { IfOk result (λ bytes. bytes.items ≡ front.now ++ back.now) }
+fn joined(alloc: Global, first: &[u8], second: &[u8]) -> Result<Vec<u8>, AllocError>
+    ensures { IfOk result (λ bytes. bytes.items ≡ first.now ++ second.now) }
 {
-    let mut bytes = front.to_vec(alloc)?;
-    bytes.extend_from_slice(back)?;
+    let mut bytes = first.to_vec(alloc)?;
+    bytes.extend_from_slice(second)?;
     Ok(bytes)
 }

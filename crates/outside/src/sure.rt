@@ -1,8 +1,9 @@
-ghost use Rattle.std.specs.Prelude.{◌≡◌, ◌≤◌, ◌<◌, ◌+◌, None, length, take, drop, IfOk, OnOk, OnErr, IfSome, IsSomeAnd, IsOk, IsErr, option_map};
+//! A shelf that never fails.
+ghost use Rattle.std.specs.Prelude.{◌≡◌, ◌≢◌, ◌≤◌, ◌<◌, ◌+◌, ℕ, List, [], None, length, take, drop, IfOk, OnOk, OnErr, IfSome, IsSomeAnd, IsOk, IsErr, option_map};
 ghost use Rattle.std.specs.FinMap.{empty, get, insert};
 ghost use Rattle.outside.specs.Files.{Lacks, ReadsFrom, appended, content, created};
 ghost use Rattle.outside.specs.Faults.{HasCause};
-ghost use Rattle.outside.specs.Sure.{served, sure_faults, sure_files};
+ghost use Rattle.outside.specs.Sure.{served, sure_faults, sure_files, sure_held};
 
 use crate::copy::copy_from;
 use crate::store::{Store, find, put};
@@ -46,6 +47,8 @@ impl Shelf for SureShelf {
     ghost writing = { sure_faults };
 
     ghost reads = { sure_faults };
+
+    ghost held = { sure_held };
 
     fn read_at(&mut self, name: &str, at: u64, into: &mut [u8]) -> Result<usize, Failed>
         ensures count { IfOk result (λ count. count ≤ length into.old) }
@@ -92,6 +95,8 @@ impl Shelf for SureShelf {
         ensures cause { HasCause (sure_faults self.old) (sure_faults self.new) (sure_faults self.old) (sure_faults self.new)
             (Lacks (sure_files self.old) _name.now) result }
         ensures reads { sure_faults self.new ≡ sure_faults self.old }
+        ensures written_out { OnOk result (bytes.now ≡ [] → sure_held self.new _name.now ≡ 0) }
+        ensures held { (other : List ℕ) → other ≢ _name.now → sure_held self.new other ≤ sure_held self.old other }
 
         // It never fails, swallows all, and serves as before.
         ensures sure { IsOk result }

@@ -1,3 +1,4 @@
+//! Tests of the shelves and outputs.
 use super::*;
 use std::test::Fail;
 

@@ -1,4 +1,5 @@
-ghost use Rattle.std.specs.Prelude.{◌≡◌, ◌⊎◌, ◌≤◌, ◌<◌, ◌+◌, length, option_map, IfOk, OnOk, OnErr, IfSome, IsSomeAnd, IsErr, IsErrOf};
+//! Whole files read, and whole pieces appended or put.
+ghost use Rattle.std.specs.Prelude.{◌≡◌, ◌≢◌, ◌⊎◌, ℕ, List, ◌≤◌, ◌<◌, ◌+◌, length, option_map, IfOk, OnOk, OnErr, IfSome, IsSomeAnd, IsErr, IsErrOf};
 ghost use Rattle.std.specs.FinMap.{get};
 ghost use Rattle.outside.specs.Files.{Lacks, AppendedSome, SaidSome, appended, said};
 ghost use Rattle.outside.specs.Faults.{Rose, HasCause};
@@ -80,13 +81,15 @@ pub fn append_all<S: Shelf>(shelf: &mut S, name: &str, bytes: &[u8]) -> Result<(
     Ok(())
 }
 
-/// Has a shelf write out what it may hold back of the named file, by an append of no bytes. The files stay as they are.
+/// Has a shelf write out what it holds back of the named file, by an append of no bytes. The files stay as they are.
 pub fn write_out<S: Shelf>(shelf: &mut S, name: &str) -> Result<(), Failed>
     ensures files { S.files shelf.new ≡ S.files shelf.old }
     ensures lacks { Lacks (S.files shelf.old) name.now → IsErr result }
     ensures cause { HasCause (S.writing shelf.old) (S.writing shelf.new) (S.reading shelf.old) (S.reading shelf.new)
         (Lacks (S.files shelf.old) name.now) result }
     ensures reads { S.reads shelf.new ≡ S.reads shelf.old }
+    ensures written_out { OnOk result (S.held shelf.new name.now ≡ 0) }
+    ensures held { (other : List ℕ) → other ≢ name.now → S.held shelf.new other ≤ S.held shelf.old other }
 {
     match shelf.append(name, &[]) {
         Ok(_) => Ok(()),

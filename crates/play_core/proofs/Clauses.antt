@@ -22,21 +22,23 @@ use Rattle.turns.specs.Timed.{ArePlayed, IsTimed}
 use Rattle.play_core.specs.declared.totals.Totals.{Totals}
 use Rattle.play_core.specs.declared.refusal.Refusal.{Refusal}
 use Rattle.play_core.specs.declared.refusal.Refusal.TheVariants as why
-use Rattle.play_core.specs.Words.{Asked, asked_by}
-use Rattle.play_core.specs.Verdict.{Verdict, Lacking, LongFile, LongScripts, Faulty, ManyCommands, ManyBlocks, Plays, IsPlayed, verdict, plans_in, blocks_of_run, places_of_run, count_all, nothing, command_limit, with_script, with_plan, of_plan, of_file, of_blocks, of_scripts}
+use Rattle.play_core.specs.Words.{RequestData, requested_by}
+use Rattle.play_core.specs.Limits.{command_limit}
+use Rattle.play_core.specs.Verdict.{Verdict, Lacking, LongFile, LongScripts, Faulty, ManyCommands, ManyBlocks, Plays, IsPlayed, verdict, plans_in, blocks_of_run, places_of_run, count_all, nothing, with_script, with_plan, of_plan, of_file, of_blocks, of_scripts}
 use Rattle.play_core.specs.Refused.{HasCause, IsUnread, Tells}
 use Rattle.play_core.specs.Lines.{refusal_line, refusal_status, report, fault_line}
 use Rattle.play_core.specs.Files.{AreBegun, with_two}
-use Rattle.play_core.specs.Run.{Moment, HavePlans, IsRefused, IsStoppedRun, IsDone, IsRun, IsPlayedRun, SaysOfStop, report_of, left_of, sound_of, order_of, played}
+use Rattle.outside.specs.Snapshot.{Snapshot}
+use Rattle.play_core.specs.Run.{HavePlans, IsRefused, IsStoppedRun, IsDone, IsRun, IsPlayedRun, SaysOfStop, report_of, left_of, sound_of, order_of, played}
 use Rattle.play_core.proofs.Counts.{all_played, some_left, length_blocks, length_part}
 use Rattle.play_core.specs.Headline.{Answers, Asks, HasAll, IsComplete, IsLimit, LacksSome, Lists, Played, PlayedAs, Told, WasPlayed, limit_line}
 
 -- the words ask for this, over files that may be told
 
-pub asked_for : (words : List (List ℕ)) (a : Asked) (P : Asked → Type 0) → asked_by words ≡ Some a → P a → Asks words P
+pub asked_for : (words : List (List ℕ)) (a : RequestData) (P : RequestData → Type 0) → requested_by words ≡ Some a → P a → Asks words P
 asked_for words a P asks p = rw asks p
 
-pub told_of : (words : List (List ℕ)) (files : Option Files) (a : Asked) (P : Asked → Files → Type 0) → asked_by words ≡ Some a
+pub told_of : (words : List (List ℕ)) (files : Option Files) (a : RequestData) (P : RequestData → Files → Type 0) → requested_by words ≡ Some a
     → ((told : Files) → files ≡ Some told → P a told) → Told words files P
 told_of words None a P asks p = rw asks tt
 told_of words (Some told) a P asks p = rw asks (p told refl)
@@ -53,7 +55,7 @@ left_status left status is = by_test (left == 0) is
     by_test true e = inl e
     by_test false e = inr e
 
-refused_status : (why : Refusal) (status : ℕ) → status ≡ refusal_status why → WasPlayed status ⊎ (status ≡ 3) → ⊥
+pub refused_status : (why : Refusal) (status : ℕ) → status ≡ refusal_status why → WasPlayed status ⊎ (status ≡ 3) → ⊥
 refused_status (why.Unread k) status is (inl (inl e)) = absurd (omega arith)
 refused_status (why.Unread k) status is (inl (inr e)) = absurd (omega arith)
 refused_status (why.Unread k) status is (inr e) = absurd (omega arith)
@@ -76,7 +78,7 @@ refused_status why.Memory status is (inl (inl e)) = absurd (omega arith)
 refused_status why.Memory status is (inl (inr e)) = absurd (omega arith)
 refused_status why.Memory status is (inr e) = absurd (omega arith)
 
-module _ (a : Asked) (before now : Moment) (status : ℕ) where
+module _ (a : RequestData) (before now : Snapshot) (status : ℕ) where
   done_of : IsRun a before now status → WasPlayed status → IsDone a before now status
   done_of (inl r) was = absurd (refused_status r.why status r.status_is (inl was))
   done_of (inr (inl s)) (inl e) = let is = s.status_is in absurd (omega arith)
@@ -122,7 +124,7 @@ module _ (a : Asked) (before now : Moment) (status : ℕ) where
   not_usage (inr (inr d)) is = ⊎_elim (λ (e : status ≡ 0). omega arith) (λ (e : status ≡ 5). omega arith) (left_status (left_of d.plans d.journal) status d.status_is)
 
 -- the plans of the run and those of the verdict are the same
-plans_told : (a : Asked) (files : Option Files) (told : Files) (plans : List (List PlannedData)) → HavePlans a files plans → files ≡ Some told → verdict a told ≡ Plays plans
+plans_told : (a : RequestData) (files : Option Files) (told : Files) (plans : List (List PlannedData)) → HavePlans a files plans → files ≡ Some told → verdict a told ≡ Plays plans
 plans_told a files told plans planned is = if_told (λ x. verdict a x ≡ Plays plans) files told is planned.1
 
 -- ---- numbers of commands
@@ -143,7 +145,7 @@ other_status : (status n : ℕ) → status ≡ n → n ≢ 0 → n ≢ 5 → ¬ 
 other_status status n is a b (inl e) = a (sym is ∙ e)
 other_status status n is a b (inr e) = b (sym is ∙ e)
 
-few_places : (a : Asked) (plans : List (List PlannedData)) (journal : List LoggedData) → IsTimed journal plans (places_of_run a.places plans) → 0 < count_all plans - length journal
+few_places : (a : RequestData) (plans : List (List PlannedData)) (journal : List LoggedData) → IsTimed journal plans (places_of_run a.places plans) → 0 < count_all plans - length journal
     → places_of_run a.places plans < count_all plans
 few_places a plans journal timed left =
     let lacks = some_left plans journal timed.played left in
@@ -199,7 +201,7 @@ lacks_none told name lacks = by_get (get told name) lacks
     by_get None e = refl
     by_get (Some x) e = absurd (cc)
 
-lacking_verdict : (a : Asked) (told : Files) (k : ℕ) (before now : ℕ) → IsUnread k a.blocks (Some told) a.scripts before now → ¬ (Rose before now)
+lacking_verdict : (a : RequestData) (told : Files) (k : ℕ) (before now : ℕ) → IsUnread k a.blocks (Some told) a.scripts before now → ¬ (Rose before now)
     → verdict a told ≡ Lacking (slice_index_or a.scripts k [])
 unfolding verdict
 lacking_verdict a told k before now u none =
@@ -215,7 +217,7 @@ eight (Faulty number place what) status is = inr (inl is)
 eight ManyCommands status is = inr (inl is)
 eight ManyBlocks status is = inr (inl is)
 
-module _ (a : Asked) (before now : Moment) (status : ℕ) where
+module _ (a : RequestData) (before now : Snapshot) (status : ℕ) where
   refused_answers : (told : Files) → before.files ≡ Some told → ¬ (Rose before.reading now.reading) → (why : Refusal) → status ≡ refusal_status why
       → HasCause why a.blocks before.files a.scripts before.reading now.reading → Tells why (verdict a told) → Answers (verdict a told) status
   refused_answers told is none (why.Unread k) e cause tells =
@@ -281,11 +283,11 @@ module _ (a : Asked) (before now : Moment) (status : ℕ) where
       by_why why.Memory e line = line
 
   -- the same of the files that are told, whatever the words
-  told_tells : (words : List (List ℕ)) (v : Verdict) → asked_by words ≡ Some a → ((told : Files) → before.files ≡ Some told → verdict a told ≡ v)
+  told_tells : (words : List (List ℕ)) (v : Verdict) → requested_by words ≡ Some a → ((told : Files) → before.files ≡ Some told → verdict a told ≡ v)
       → Told words before.files (λ b told. verdict b told ≡ v)
   told_tells words v asks f = told_of words before.files a (λ b told. verdict b told ≡ v) asks f
 
-  fault_of : (words : List (List ℕ)) → asked_by words ≡ Some a → IsRefused a before now status → status ≡ 4
+  fault_of : (words : List (List ℕ)) → requested_by words ≡ Some a → IsRefused a before now status → status ≡ 4
       → (k : ℕ) × (place : Place) × (what : ScriptKind) × Told words before.files (λ b told. verdict b told ≡ Faulty k place what)
       × Says (fault_line k place what) before.written now.written before.faults now.faults
   fault_of words asks r four = by_why r.why r.status_is (λ told is. if_told (λ x. Tells r.why (verdict a x)) before.files told is r.tells) r.line
@@ -302,7 +304,7 @@ module _ (a : Asked) (before now : Moment) (status : ℕ) where
       by_why why.ManyBlocks e tells line = absurd (omega arith)
       by_why why.Memory e tells line = absurd (omega arith)
 
-  limit_of : (words : List (List ℕ)) → asked_by words ≡ Some a → IsRefused a before now status → status ≡ 6
+  limit_of : (words : List (List ℕ)) → requested_by words ≡ Some a → IsRefused a before now status → status ≡ 6
       → (v : Verdict) × IsLimit v × Told words before.files (λ b told. verdict b told ≡ v) × Says (limit_line v) before.written now.written before.faults now.faults
   limit_of words asks r six = by_why r.why r.status_is (λ told is. if_told (λ x. Tells r.why (verdict a x)) before.files told is r.tells) r.line
     where
@@ -351,12 +353,12 @@ module _ (a : Asked) (before now : Moment) (status : ℕ) where
       (left_status (left_of d.plans d.journal) status d.status_is)
 
 -- what an order file says, of a journal with its plans
-abbrev pub data_of : Asked → List (List PlannedData) → List LoggedData → OrderData
+abbrev pub data_of : RequestData → List (List PlannedData) → List LoggedData → OrderData
 data_of a plans journal = record { journal = journal; blocks = blocks_of_run a.blocks plans; scripts = length plans }
 
-module _ (words : List (List ℕ)) (a : Asked) (before now : Moment) (status : ℕ) (asks : asked_by words ≡ Some a) (differ : a.out ≢ a.order) (run : IsRun a before now status) where
+module _ (words : List (List ℕ)) (a : RequestData) (before now : Snapshot) (status : ℕ) (asks : requested_by words ≡ Some a) (differ : a.out ≢ a.order) (run : IsRun a before now status) where
   -- a fact of the run's end, of the files that are told
-  of_done : (P : Asked → List (List PlannedData) → Type 0) → ((d : IsDone a before now status) (told : Files) → before.files ≡ Some told → P a d.plans) → Played words status before.files P
+  of_done : (P : RequestData → List (List PlannedData) → Type 0) → ((d : IsDone a before now status) (told : Files) → before.files ≡ Some told → P a d.plans) → Played words status before.files P
   of_done P f = λ was. told_of words before.files a (λ b told. P b (plans_in (verdict b told))) asks
       (λ told is. let d = done_of a before now status run was in
       subst (λ (v : Verdict). P a (plans_in v)) (sym (plans_told a before.files told d.plans d.planned is)) (f d told is))
@@ -378,7 +380,7 @@ module _ (words : List (List ℕ)) (a : Asked) (before now : Moment) (status : �
       (record { ordered = d.ordered; spelled = refl })
 
   -- a fact of the journal that the order file lists
-  pub of_order : (P : Asked → List (List PlannedData) → OrderData → Type 0)
+  pub of_order : (P : RequestData → List (List PlannedData) → OrderData → Type 0)
       → ((d : IsDone a before now status) (told : Files) → before.files ≡ Some told → P a d.plans (data_of a d.plans d.journal)) → PlayedAs words status before.files now.files P
   of_order P f = of_done (λ b plans. (o : OrderData) → Lists now.files b.order o → P b plans o)
       (λ d told is o lists. subst (λ (x : OrderData). P a d.plans x) (sym (same_order d told is o lists)) (f d told is))

@@ -11,7 +11,7 @@ use Rattle.command_queue.proofs.Counts.{below, below_more, below_none, below_all
 use Rattle.script_plan.specs.Plan.{PlannedData}
 use Rattle.players.specs.Players.{entries}
 use Rattle.turns.specs.Turns.{plan_of, blocks_of}
-use Rattle.turns.specs.Timed.{IsBegun, ArePlayed}
+use Rattle.turns.specs.Timed.{IsScriptBegun, ArePlayed}
 use Rattle.play_core.specs.Verdict.{count_all}
 use Rattle.play_core.specs.Headline.{HasAll, LacksSome}
 

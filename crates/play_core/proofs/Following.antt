@@ -11,7 +11,7 @@ use Rattle.script_plan.specs.Plan.{PlannedData, dues}
 use Rattle.players.specs.Players.{entries}
 use Rattle.take_files.specs.Orders.{IsWritable, HasBlock, Follows, count_of, last_block}
 use Rattle.turns.specs.Turns.{blocks_of, plan_of}
-use Rattle.turns.specs.Timed.{IsBegun, ArePlayed}
+use Rattle.turns.specs.Timed.{IsScriptBegun, ArePlayed}
 use Rattle.play_core.proofs.Counts.{length_entries, length_blocks}
 
 -- where an entry stands among its script's
@@ -62,10 +62,10 @@ entries_at script seq (c ∷ plan) (suc j) e below =
     let rest = entries_at script (seq + 1) plan j e (omega arith) in
     (rest.0 ∙ (let same : seq + 1 + j ≡ seq + suc j = omega arith in same), rest.1)
 
-front_due : (sent left : List PlannedData) (j : ℕ) → j < length sent → slice_index (dues (sent ++ left)) j ≡ slice_index (dues sent) j
-front_due [] left j below = absurd (omega arith)
-front_due (c ∷ sent) left zero below = refl
-front_due (c ∷ sent) left (suc j) below = front_due sent left j (omega arith)
+prefix_due : (sent left : List PlannedData) (j : ℕ) → j < length sent → slice_index (dues (sent ++ left)) j ≡ slice_index (dues sent) j
+prefix_due [] left j below = absurd (omega arith)
+prefix_due (c ∷ sent) left zero below = refl
+prefix_due (c ∷ sent) left (suc j) below = prefix_due sent left j (omega arith)
 
 due_at : (ds blocks : List ℕ) (j : ℕ) → j < length blocks → AreDue ds blocks → slice_index ds j ≤ slice_index blocks j
 due_at ds [] j below due = absurd (omega arith)
@@ -119,7 +119,7 @@ all_follow journal plans blocks played taken ranges some few scripts many i d be
     let numbers = entries_at k 0 sent j l.entry within in
     let seq : l.entry.seq ≡ j = ap (λ (x : EntryData). x.seq) (sym entry) ∙ numbers.0 ∙ (let same : 0 + j ≡ j = omega arith in same) in
     let sent_at : l.entry.sent_at ≡ slice_index (dues (plan_of plans k)) j =
-    ap (λ (x : EntryData). x.sent_at) (sym entry) ∙ numbers.1 ∙ sym (front_due sent begun.left j within) ∙ ap (λ (p : List PlannedData). slice_index (dues p) j) (sym begun.split) in
+    ap (λ (x : EntryData). x.sent_at) (sym entry) ∙ numbers.1 ∙ sym (prefix_due sent begun.left j within) ∙ ap (λ (p : List PlannedData). slice_index (dues p) j) (sym begun.split) in
     let in_blocks : j < length (blocks_of k journal) = omega (arith, at.within, length_blocks k journal) in
     let due : l.entry.sent_at ≤ l.block = rw (sent_at, ← at.block) (due_at (dues (plan_of plans k)) (blocks_of k journal) j in_blocks begun.due) in
     let past : l.block ≤ blocks - 1 = all_at (λ x. x.block ≤ blocks - 1) journal i d below taken.past in

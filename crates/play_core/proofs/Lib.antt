@@ -1,4 +1,4 @@
-pub mod Surveys
+pub mod Scans
 pub mod Grammar
 pub mod Writes
 pub mod Counts
@@ -6,4 +6,4 @@ pub mod Clauses
 pub mod Runs
 pub mod Stages
 pub mod Following
-pub mod Sure
+pub mod NeverFailing

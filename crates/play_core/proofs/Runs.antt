@@ -3,7 +3,7 @@ use Rattle.std.proofs.Common.{◌≡◌, ◌≢◌, ◌⊎◌, ℕ, zero, suc, �
 use Rattle.std.specs.Prelude.{◌==◌, Option, Some, None, All, option_map, slice_index_or, if◌then◌else◌}
 use Rattle.std.proofs.Math.Seq.{take-length}
 use Rattle.std.proofs.lemmas.List.Elements.{All-nil}
-use Rattle.outside.specs.Files.{Files, SaidSome, appended, said}
+use Rattle.outside.specs.Files.{IsBegun, Files, SaidSome, appended, said}
 use Rattle.outside.specs.Faults.{Rose}
 use Rattle.outside.proofs.Shelves.{then_mapped}
 use Rattle.fault_lines.specs.Lines.{Says, cannot_write}
@@ -13,13 +13,18 @@ use Rattle.take_files.specs.Files.{order, order_header, wav, wav_blocks, wav_hea
 use Rattle.take_files.specs.Orders.{Follows, IsOrdered, entry_limit}
 use Rattle.turns.specs.declared.target.Target.{Target}
 use Rattle.turns.specs.Turns.{plan_of}
-use Rattle.turns.specs.Timed.{ArePlayed, IsBegun as IsScriptBegun, IsTimed}
+use Rattle.turns.specs.Timed.{ArePlayed, IsScriptBegun, IsTimed}
 use Rattle.turns.specs.Written.{order_lines, both_appended, BothBegun}
-use Rattle.play_core.specs.Words.{Asked}
+use Rattle.play_core.specs.Words.{RequestData}
 use Rattle.play_core.specs.Verdict.{blocks_of_run, places_of_run, count_all}
-use Rattle.play_core.specs.Files.{AreBegun, IsBegun, IsStopped, with_two}
-use Rattle.play_core.specs.Run.{Moment, HavePlans, HasReported, IsStoppedRun, IsDone, IsPlayedRun, SaysOfStop, left_of, order_of, played, report_of, sound_of}
+use Rattle.play_core.specs.Files.{AreBegun, IsStopped, with_two}
+use Rattle.outside.specs.Snapshot.{Snapshot}
+use Rattle.play_core.specs.Run.{HavePlans, HasReported, IsStoppedRun, IsDone, IsPlayedRun, SaysOfStop, left_of, order_of, played, report_of, sound_of}
 use Rattle.play_core.proofs.Writes.{sound_grows, text_grows, begun_both, begun_whole, stopped_begun}
+
+-- a count that rose stays risen
+pub rose_on : (a b c : ℕ) → Rose a b → b ≤ c → Rose a c
+rose_on a b c rose le = omega (arith, rose, le)
 
 -- nothing was played yet
 pub none_played : (plans : List (List PlannedData)) → ArePlayed [] plans
@@ -28,15 +33,15 @@ none_played plans = record {
   each = λ k below. record { sent = []; left = plan_of plans k; split = refl; entries_are = refl; due = tt };
 }
 
--- a front of some bytes is one of longer ones
-front_longer : (count : ℕ) (x more : List ℕ) → take count x ≡ take (min count (length x)) (x ++ more)
-front_longer zero x more = let none : min 0 (length x) ≡ 0 = omega arith in rw none refl
-front_longer (suc n) [] more = let none : min (suc n) 0 ≡ 0 = omega arith in rw none refl
-front_longer (suc n) (b ∷ x) more = let one : min (suc n) (suc (length x)) ≡ suc (min n (length x)) = omega arith in rw one (ap (λ (l : List ℕ). b ∷ l) (front_longer n x more))
+-- a prefix of some bytes is one of longer ones
+prefix_longer : (count : ℕ) (x more : List ℕ) → take count x ≡ take (min count (length x)) (x ++ more)
+prefix_longer zero x more = let none : min 0 (length x) ≡ 0 = omega arith in rw none refl
+prefix_longer (suc n) [] more = let none : min (suc n) 0 ≡ 0 = omega arith in rw none refl
+prefix_longer (suc n) (b ∷ x) more = let one : min (suc n) (suc (length x)) ≡ suc (min n (length x)) = omega arith in rw one (ap (λ (l : List ℕ). b ∷ l) (prefix_longer n x more))
 
 begun_longer : (before now : Option (List ℕ)) (x more : List ℕ) → IsBegun before now x → IsBegun before now (x ++ more)
 begun_longer before now x more (inl same) = inl same
-begun_longer before now x more (inr (count, is)) = inr (min count (length x), is ∙ ap (λ (l : List ℕ). Some l) (front_longer count x more))
+begun_longer before now x more (inr (count, is)) = inr (min count (length x), is ∙ ap (λ (l : List ℕ). Some l) (prefix_longer count x more))
 
 are_begun_longer : (before now : Option Files) (out x more name y rest : List ℕ) → AreBegun before now out x name y → AreBegun before now out (x ++ more) name (y ++ rest)
 are_begun_longer before now out x more name y rest begun = record {
@@ -63,7 +68,7 @@ both_grow out name ne o before now x y z w was is =
     text_grows out name ne o (option_map (appended out z) before) now (x ++ z) y w (sound_grows out name ne o before (option_map (appended out z) before) x y z was refl)
     (is ∙ sym (then_mapped (appended out z) (appended name w) before))
 
-module _ (a : Asked) (before now : Moment) (status : ℕ) (plans : List (List PlannedData)) (differ : a.out ≢ a.order) (planned : HavePlans a before.files plans) where
+module _ (a : RequestData) (before now : Snapshot) (status : ℕ) (plans : List (List PlannedData)) (differ : a.out ≢ a.order) (planned : HavePlans a before.files plans) where
   abbrev blocks : ℕ
   blocks = blocks_of_run a.blocks plans
 

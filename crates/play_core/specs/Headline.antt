@@ -8,24 +8,24 @@ use Rattle.script_plan.specs.Plan.{PlannedData}
 use Rattle.take_files.specs.Orders.{OrderData, IsOrder}
 use Rattle.players.specs.Players.{entries}
 use Rattle.turns.specs.Turns.{plan_of}
-use Rattle.play_core.specs.Words.{Asked, asked_by}
+use Rattle.play_core.specs.Words.{RequestData, requested_by}
 use Rattle.play_core.specs.Verdict.{Verdict, Lacking, LongFile, LongScripts, Faulty, ManyCommands, ManyBlocks, Plays, verdict, plans_in, places_of_run, count_all}
 use Rattle.play_core.specs.Lines.{limit_scripts, limit_blocks}
 
 -- the words ask for this
-abbrev pub Asks : List (List ℕ) → (Asked → Type 0) → Type 0
-Asks words P = IfSome (asked_by words) P
+abbrev pub Asks : List (List ℕ) → (RequestData → Type 0) → Type 0
+Asks words P = IfSome (requested_by words) P
 
 -- the words ask for this, and the files are told
-abbrev pub Told : List (List ℕ) → Option Files → (Asked → Files → Type 0) → Type 0
-Told words files P = IfSome (asked_by words) (λ a. IfSome files (λ told. P a told))
+abbrev pub Told : List (List ℕ) → Option Files → (RequestData → Files → Type 0) → Type 0
+Told words files P = IfSome (requested_by words) (λ a. IfSome files (λ told. P a told))
 
 -- all turns were played
 abbrev pub WasPlayed : ℕ → Type 0
 WasPlayed status = (status ≡ 0) ⊎ (status ≡ 5)
 
 -- where all turns were played over told files: this holds of what was asked for and of the plans of the scripts' bytes as they were at entry
-abbrev pub Played : List (List ℕ) → ℕ → Option Files → (Asked → List (List PlannedData) → Type 0) → Type 0
+abbrev pub Played : List (List ℕ) → ℕ → Option Files → (RequestData → List (List PlannedData) → Type 0) → Type 0
 Played words status files P = WasPlayed status → Told words files (λ a told. P a (plans_in (verdict a told)))
 
 -- the named file is the order that says this
@@ -33,7 +33,7 @@ abbrev pub Lists : Option Files → List ℕ → OrderData → Type 0
 Lists files name o = IsSomeAnd (file_of files name) (λ text. IsOrder text o)
 
 -- the same of the journal, the blocks and the scripts that the order file lists
-abbrev pub PlayedAs : List (List ℕ) → ℕ → Option Files → Option Files → (Asked → List (List PlannedData) → OrderData → Type 0) → Type 0
+abbrev pub PlayedAs : List (List ℕ) → ℕ → Option Files → Option Files → (RequestData → List (List PlannedData) → OrderData → Type 0) → Type 0
 PlayedAs words status files now P = Played words status files (λ a plans. (o : OrderData) → Lists now a.order o → P a plans o)
 
 -- the journal has each command of each script exactly once, in the script's order, numbered from 0 on, with the block that it was due at
@@ -74,8 +74,9 @@ Answers (Faulty number place what) status = IsOneOf status (4 ∷ 8 ∷ [])
 Answers ManyCommands status = IsOneOf status (6 ∷ 8 ∷ [])
 Answers ManyBlocks status = IsOneOf status (6 ∷ 8 ∷ [])
 
--- where all is right and nothing fails: all commands are played, where the line has a place for each, and else some may be left; unless memory runs out
-abbrev pub IsComplete : Asked → Verdict → ℕ → Type 0
+-- where all is right and nothing fails: all commands are played, where the line has a place for each, and else some may be left; unless
+-- memory runs out
+abbrev pub IsComplete : RequestData → Verdict → ℕ → Type 0
 IsComplete a said status =
     (plans : List (List PlannedData)) → said ≡ Plays plans
     → IsOneOf status (0 ∷ 5 ∷ 8 ∷ []) × (count_all plans ≤ places_of_run a.places plans → IsOneOf status (0 ∷ 8 ∷ []))

@@ -1,7 +1,8 @@
+pub mod Limits
 pub mod Words
 pub mod Verdict
 pub mod Refused
-pub mod Survey
+pub mod Scan
 pub mod Lines
 pub mod Files
 pub mod Run

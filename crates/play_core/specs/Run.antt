@@ -2,6 +2,7 @@
 use Rattle.std.specs.Prelude.{◌≡◌, ◌⊎◌, ℕ, ◌-◌, ◌≤◌, ◌==◌, List, length, Option, IfSome, IsSomeAnd, option_map, if◌then◌else◌}
 use Rattle.outside.specs.Files.{Files, SaidSome, said}
 use Rattle.outside.specs.Faults.{Rose}
+use Rattle.outside.specs.Snapshot.{Snapshot}
 use Rattle.fault_lines.specs.Lines.{Says, cannot_write}
 use Rattle.command_set.specs.Entries.{LoggedData}
 use Rattle.script_plan.specs.Plan.{PlannedData}
@@ -9,25 +10,14 @@ use Rattle.take_files.specs.Files.{order, wav}
 use Rattle.take_files.specs.Orders.{IsOrdered}
 use Rattle.turns.specs.Timed.{ArePlayed, IsTimed}
 use Rattle.play_core.specs.declared.refusal.Refusal.{Refusal}
-use Rattle.play_core.specs.Words.{Asked}
+use Rattle.play_core.specs.Words.{RequestData}
 use Rattle.play_core.specs.Verdict.{Plays, verdict, blocks_of_run, places_of_run, count_all}
 use Rattle.play_core.specs.Refused.{HasCause, Tells}
 use Rattle.play_core.specs.Lines.{refusal_line, refusal_status, report}
 use Rattle.play_core.specs.Files.{AreBegun, with_two}
 
--- what a shelf and an output show at a moment: the files, the counts of faults of reading and of writing, the output's bytes and its count of faults
-pub record Moment : Type 0 where
-  pub files : Option Files
-  pub reading : ℕ
-  pub writing : ℕ
-  pub written : Option (List ℕ)
-  pub faults : ℕ
-
-abbrev pub moment : Option Files → ℕ → ℕ → Option (List ℕ) → ℕ → Moment
-moment files reading writing written faults = record { files = files; reading = reading; writing = writing; written = written; faults = faults }
-
 -- nothing was played: no file was touched, and the line of the refusal was put
-pub record IsRefused (a : Asked) (before now : Moment) (status : ℕ) : Type 0 where
+pub record IsRefused (a : RequestData) (before now : Snapshot) (status : ℕ) : Type 0 where
   pub why : Refusal
   pub status_is : status ≡ refusal_status why
   pub files : now.files ≡ before.files
@@ -37,18 +27,18 @@ pub record IsRefused (a : Asked) (before now : Moment) (status : ℕ) : Type 0 w
   pub line : Says (refusal_line why a.scripts) before.written now.written before.faults now.faults
 
 -- the plans of all scripts, where the files are told
-abbrev pub HavePlans : Asked → Option Files → List (List PlannedData) → Type 0
+abbrev pub HavePlans : RequestData → Option Files → List (List PlannedData) → Type 0
 HavePlans a files plans = (length plans ≡ length a.scripts) × IfSome files (λ told. verdict a told ≡ Plays plans)
 
 -- the bytes of the sound of a journal, of as many blocks as the run has, and those of its order
-abbrev pub sound_of : Asked → List (List PlannedData) → List LoggedData → List ℕ
+abbrev pub sound_of : RequestData → List (List PlannedData) → List LoggedData → List ℕ
 sound_of a plans journal = wav journal (blocks_of_run a.blocks plans)
 
-abbrev pub order_of : Asked → List (List PlannedData) → List LoggedData → List ℕ
+abbrev pub order_of : RequestData → List (List PlannedData) → List LoggedData → List ℕ
 order_of a plans journal = order journal (blocks_of_run a.blocks plans) (length plans)
 
 -- the files with the two of a journal
-abbrev pub played : Asked → List (List PlannedData) → List LoggedData → Files → Files
+abbrev pub played : RequestData → List (List PlannedData) → List LoggedData → Files → Files
 played a plans journal files = with_two a.out (sound_of a plans journal) a.order (order_of a plans journal) files
 
 -- how many commands were left
@@ -56,12 +46,12 @@ abbrev pub left_of : List (List PlannedData) → List LoggedData → ℕ
 left_of plans journal = count_all plans - length journal
 
 -- the report of a run
-abbrev pub report_of : Asked → List (List PlannedData) → List LoggedData → List ℕ
+abbrev pub report_of : RequestData → List (List PlannedData) → List LoggedData → List ℕ
 report_of a plans journal = report (left_of plans journal) (blocks_of_run a.blocks plans) (length journal)
 
--- What is said where a write or the put of the report failed. Where a write failed, one of the two files is named that could not be written; where none did, both files are whole, and of the report
--- no more than a front was put.
-abbrev pub SaysOfStop : Asked → List (List PlannedData) → List LoggedData → Moment → Moment → Type 0
+-- What is said where a write or the put of the report failed. Where a write failed, one of the two files is named that could not be written;
+-- where none did, both files are whole, and of the report no more than a prefix was put.
+abbrev pub SaysOfStop : RequestData → List (List PlannedData) → List LoggedData → Snapshot → Snapshot → Type 0
 SaysOfStop a plans journal before now =
     (Rose before.writing now.writing × (Says (cannot_write a.out) before.written now.written before.faults now.faults
     ⊎ Says (cannot_write a.order) before.written now.written before.faults now.faults))
@@ -69,7 +59,7 @@ SaysOfStop a plans journal before now =
     × ((now.written ≡ before.written) ⊎ SaidSome (report_of a plans journal) before.written now.written))
 
 -- a write or the put of the report failed: each of the two files is as before or begun, by one journal
-pub record IsStoppedRun (a : Asked) (before now : Moment) (status : ℕ) : Type 0 where
+pub record IsStoppedRun (a : RequestData) (before now : Snapshot) (status : ℕ) : Type 0 where
   pub plans : List (List PlannedData)
   pub journal : List LoggedData
   pub status_is : status ≡ 3
@@ -81,7 +71,7 @@ pub record IsStoppedRun (a : Asked) (before now : Moment) (status : ℕ) : Type 
   pub line : SaysOfStop a plans journal before now
 
 -- all turns were played: both files are whole, and the report was added; 0 where no command is left, else 5
-pub record IsDone (a : Asked) (before now : Moment) (status : ℕ) : Type 0 where
+pub record IsDone (a : RequestData) (before now : Snapshot) (status : ℕ) : Type 0 where
   pub plans : List (List PlannedData)
   pub journal : List LoggedData
   pub status_is : status ≡ (if left_of plans journal == 0 then 0 else 5)
@@ -96,14 +86,14 @@ pub record IsDone (a : Asked) (before now : Moment) (status : ℕ) : Type 0 wher
   pub faults : now.faults ≡ before.faults
 
 -- what a run comes to whose scripts all have a plan
-abbrev pub IsPlayedRun : Asked → Moment → Moment → ℕ → Type 0
+abbrev pub IsPlayedRun : RequestData → Snapshot → Snapshot → ℕ → Type 0
 IsPlayedRun a before now status = IsStoppedRun a before now status ⊎ IsDone a before now status
 
 -- what a run comes to
-abbrev pub IsRun : Asked → Moment → Moment → ℕ → Type 0
+abbrev pub IsRun : RequestData → Snapshot → Snapshot → ℕ → Type 0
 IsRun a before now status = IsRefused a before now status ⊎ IsPlayedRun a before now status
 
--- the report was put, and the status is the run's; or the output failed, no more than a front of it was put, and the status is 3
+-- the report was put, and the status is the run's; or the output failed, no more than a prefix of it was put, and the status is 3
 abbrev pub HasReported : List ℕ → ℕ → Option (List ℕ) → Option (List ℕ) → ℕ → ℕ → ℕ → Type 0
 HasReported line status before now faults_before faults_now result =
     ((result ≡ status) × (now ≡ option_map (said line) before) × (faults_now ≡ faults_before))

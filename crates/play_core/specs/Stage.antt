@@ -4,7 +4,8 @@ use Rattle.lateness.specs.Late.{AllBelow}
 use Rattle.script_plan.specs.Plan.{PlannedData, dues}
 use Rattle.turns.specs.Turns.{AreFresh, IsFreshRenderer, plans_of}
 use Rattle.play_core.specs.declared.stage.Stage.{Stage}
-use Rattle.play_core.specs.Verdict.{blocks_of_run, places_of_run, block_limit, count_all}
+use Rattle.play_core.specs.Limits.{block_limit}
+use Rattle.play_core.specs.Verdict.{blocks_of_run, places_of_run, count_all}
 
 -- each command of each script is due below the number of blocks
 abbrev pub AreInTime : ℕ → List (List PlannedData) → Type 0

@@ -1,4 +1,5 @@
--- What the scripts of a run come to. They are judged one after the other: each is read, its bytes are added to those before, and then its commands are read.
+-- What the scripts of a run come to. They are judged one after the other: each is read, its bytes are added to those before, and then its
+-- commands are read.
 use Rattle.std.specs.Prelude.{ℕ, ◌+◌, ◌-◌, max, nat_lt, List, [], ◌∷◌, ◌++◌, length, map, sum, Option, Some, None, if◌then◌else◌}
 use Rattle.std.specs.FinMap.{get}
 use Rattle.outside.specs.Files.{Files}
@@ -8,24 +9,11 @@ use Rattle.script_outcome.specs.declared.fault.ScriptKind.{ScriptKind}
 use Rattle.script_outcome.specs.Plan.{Plan, Commands, Refused, TooMany}
 use Rattle.script_read.specs.Plan.{plan}
 use Rattle.play_core.specs.declared.totals.Totals.{Totals}
-use Rattle.play_core.specs.Words.{Asked}
+use Rattle.play_core.specs.Limits.{script_limit, scripts_limit, command_limit, block_limit}
+use Rattle.play_core.specs.Words.{RequestData}
 
--- the most bytes of a script, and of all scripts of a run together
-abbrev pub script_limit : ℕ
-script_limit = 16777216
-
-abbrev pub scripts_limit : ℕ
-scripts_limit = 67108864
-
--- the most commands of a run, and the most blocks
-abbrev pub command_limit : ℕ
-command_limit = 1000000
-
-abbrev pub block_limit : ℕ
-block_limit = 1048576
-
--- What decides of a run: there is no file of this name; a script or all together have too many bytes; the script with this number has a fault; there are too many commands, or too many blocks;
--- or each script has a plan.
+-- What decides of a run: there is no file of this name; a script or all together have too many bytes; the script with this number has a
+-- fault; there are too many commands, or too many blocks; or each script has a plan.
 pub data Verdict : Type 0 where
   Lacking : List ℕ → Verdict
   LongFile : Verdict
@@ -107,7 +95,7 @@ of_blocks blocks ManyCommands = ManyCommands
 of_blocks blocks ManyBlocks = ManyBlocks
 
 -- what decides of a run with these files
-unfoldable pub verdict : Asked → Files → Verdict
+unfoldable pub verdict : RequestData → Files → Verdict
 verdict a told = of_blocks a.blocks (of_scripts told a.blocks nothing a.scripts)
 
 -- each script has a plan

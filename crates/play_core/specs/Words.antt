@@ -1,11 +1,13 @@
 -- The words that the program takes.
-use Rattle.std.specs.Prelude.{ℕ, List, [], ◌∷◌, Option, Some, None, option_map, option_and_then, Bool, not, ◌&&◌, nat_lt, nat_le, length, map, string_bytes, bytes_eq, codes, if◌then◌else◌}
+use Rattle.std.specs.Prelude.{◌≢◌, ℕ, ◌≤◌, List, [], ◌∷◌, Option, Some, None, IfSome, option_map, option_and_then, Bool, not, ◌&&◌, nat_lt, nat_le, length, map, string_bytes, bytes_eq, codes, if◌then◌else◌}
 use Rattle.std.specs.List.{list_all}
 use Rattle.play_core.specs.declared.words.Request.{Request}
 use Rattle.plain_text.specs.Number.{number}
+use Rattle.play_core.specs.Limits.{block_limit, place_limit}
 
--- What is asked for: the two files to write, the number of blocks and of places, or none of its own where the word is `-`, and the scripts to read.
-pub record Asked : Type 0 where
+-- What is asked for: the two files to write, the number of blocks and of places, or none of its own where the word is `-`, and the scripts to
+-- read.
+pub record RequestData : Type 0 where
   pub out : List ℕ
   pub order : List ℕ
   pub blocks : Option ℕ
@@ -13,8 +15,15 @@ pub record Asked : Type 0 where
   pub scripts : List (List ℕ)
 
 -- the same of a value of the program
-abbrev pub asked : Request → Asked
-asked r = record { out = r.out.now; order = r.order.now; blocks = r.blocks; places = r.places; scripts = map string_bytes r.scripts.now }
+abbrev pub request_data : Request → RequestData
+request_data r = record { out = r.out.now; order = r.order.now; blocks = r.blocks; places = r.places; scripts = map string_bytes r.scripts.now }
+
+-- what the words may ask for: two names that differ, one to 256 scripts, and numbers of blocks and places within their limits
+pub record IsRequest (r : Request) : Type 0 where
+  pub differ : r.out.now ≢ r.order.now
+  pub scripts : (1 ≤ length r.scripts.now) × (length r.scripts.now ≤ 256)
+  pub blocks : IfSome r.blocks (λ b. (1 ≤ b) × (b ≤ block_limit))
+  pub places : IfSome r.places (λ p. (1 ≤ p) × (p ≤ place_limit))
 
 -- `-`, or a number within these bounds
 abbrev pub choice : ℕ → ℕ → List ℕ → Option (Option ℕ)
@@ -33,12 +42,13 @@ abbrev pub are_files : List ℕ → List ℕ → Bool
 are_files out order = nat_lt 0 (length out) && nat_lt 0 (length order) && not (bytes_eq out order)
 
 -- OUT ORDER BLOCKS PLACES SCRIPT...
-abbrev pub asked_of : List ℕ → List ℕ → List ℕ → List ℕ → List (List ℕ) → Option Asked
-asked_of out order blocks places scripts =
+abbrev pub request_of : List ℕ → List ℕ → List ℕ → List ℕ → List (List ℕ) → Option RequestData
+request_of out order blocks places scripts =
     if are_files out order && are_scripts out order scripts
-    then option_and_then (λ b. option_map (λ p. record { out = out; order = order; blocks = b; places = p; scripts = scripts }) (choice 1 1000000 places)) (choice 1 1048576 blocks)
+    then option_and_then (λ b. option_map (λ p. record { out = out; order = order; blocks = b; places = p; scripts = scripts })
+    (choice 1 place_limit places)) (choice 1 block_limit blocks)
     else None
 
-abbrev pub asked_by : List (List ℕ) → Option Asked
-asked_by (out ∷ order ∷ blocks ∷ places ∷ scripts) = asked_of out order blocks places scripts
-asked_by words = None
+abbrev pub requested_by : List (List ℕ) → Option RequestData
+requested_by (out ∷ order ∷ blocks ∷ places ∷ scripts) = request_of out order blocks places scripts
+requested_by words = None

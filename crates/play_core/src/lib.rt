@@ -2,19 +2,19 @@
 #![tactic(auto)]
 
 mod lines;
+mod never_failing;
 mod play;
 mod refusal;
+mod scan;
 mod stage;
-mod surely;
-mod survey;
 mod top;
 mod totals;
 mod words;
 mod writing;
 
+pub use never_failing::play_never_failing;
 pub use refusal::Refusal;
 pub use stage::Stage;
-pub use surely::play_surely;
 pub use top::play_main;
 pub use totals::Totals;
 pub use words::Request;

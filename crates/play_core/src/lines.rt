@@ -52,7 +52,8 @@ fn push_place(into: &mut LineText, place: Place)
 
 #[tactic(auto, unfolding(crate::specs::Lines::fault_line))]
 fn say_fault<O: Out>(out: &mut O, script: u32, place: Place, kind: &ScriptKind)
-    ensures { Says (lines.fault_line script place kind.now) (O.written out.old) (O.written out.new) (O.faults out.old) (O.faults out.new) }
+    ensures { Says (lines.fault_line script place kind.now)
+        (O.written out.old) (O.written out.new) (O.faults out.old) (O.faults out.new) }
 {
     let mut line = LineText::new();
     push_text(&mut line, b"script ");
@@ -68,7 +69,8 @@ fn say_fault<O: Out>(out: &mut O, script: u32, place: Place, kind: &ScriptKind)
 pub(crate) fn refuse<O: Out>(out: &mut O, why: Refusal, names: &[String]) -> u8
     requires { IsWithin why (length names.now) }
     ensures status { result ≡ lines.refusal_status why }
-    ensures line { Says (lines.refusal_line why (map string_bytes names.now)) (O.written out.old) (O.written out.new) (O.faults out.old) (O.faults out.new) }
+    ensures line { Says (lines.refusal_line why (map string_bytes names.now))
+        (O.written out.old) (O.written out.new) (O.faults out.old) (O.faults out.new) }
 {
     match why {
         Refusal::Unread(number) => {
@@ -108,7 +110,8 @@ pub(crate) fn refuse<O: Out>(out: &mut O, why: Refusal, names: &[String]) -> u8
 
 fn say_unread<O: Out>(out: &mut O, names: &[String], number: u32)
     requires { number < length names.now }
-    ensures { Says (cannot_read (slice_index_or (map string_bytes names.now) number [])) (O.written out.old) (O.written out.new) (O.faults out.old) (O.faults out.new) }
+    ensures { Says (cannot_read (slice_index_or (map string_bytes names.now) number []))
+        (O.written out.old) (O.written out.new) (O.faults out.old) (O.faults out.new) }
 {
     say_cannot_read(out, &names[number as usize]);
 }

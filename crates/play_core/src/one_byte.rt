@@ -17,6 +17,8 @@ impl<S: Shelf> Shelf for OneByteShelf<S> {
 
     ghost reads = { λ shelf. S.reads shelf.inner };
 
+    ghost held = { λ shelf. S.held shelf.inner };
+
     fn read_at(&mut self, name: &str, at: u64, into: &mut [u8]) -> Result<usize, Failed> {
         self.inner.read_at(name, at, into)
     }

@@ -1,11 +1,15 @@
 //! A run: the scripts are read, all is made ready, both files are begun, all turns are played, and the report is put.
 ghost use Rattle.std.specs.Prelude.{◌≡◌, ◌≢◌, ◌⊎◌, ◌≤◌, ◌<◌, ◌-◌, ◌==◌, IfSome, IfOk, IfErr, OnOk, length, map, option_map, string_bytes, if◌then◌else◌};
-ghost use Rattle.play_core.specs.Words.{asked};
-ghost use Rattle.play_core.specs.Verdict.{block_limit, command_limit, count_all, verdict};
+ghost use Rattle.play_core.specs.Words.{IsRequest, request_data};
+ghost use Rattle.play_core.specs.Limits.{block_limit, command_limit};
+ghost use Rattle.play_core.specs.Verdict.{count_all, verdict};
 ghost use Rattle.play_core.specs.Refused.{HasCause, IsWithin, Tells};
-ghost use Rattle.play_core.specs.Run.{HavePlans, HasReported, IsPlayedRun, IsRun, moment};
+ghost use Rattle.outside.specs.Snapshot.{snapshot};
+ghost use Rattle.play_core.specs.Run.{HavePlans, HasReported, IsPlayedRun, IsRun};
+ghost use Rattle.play_core.specs.Headline.{WasPlayed};
 ghost use Rattle.play_core.specs.Stage.{IsStage};
 ghost use Rattle.turns.specs.Turns.{plans_of};
+ghost use Rattle.turns.specs.Written.{HoldsNothing};
 ghost use Rattle.outside.specs.Faults.{HasCause as HasFault};
 ghost use Rattle.fault_lines.specs.Lines.{Says, cannot_write};
 ghost use Rattle.take_files.specs.Files.{wav_header as wav_bytes, order_header as order_bytes};
@@ -14,13 +18,13 @@ ghost use Rattle.play_core.specs.Files.{IsStopped, with_two};
 
 use crate::lines::{refuse, report_of};
 use crate::refusal::Refusal;
+use crate::scan::read_scripts;
 use crate::stage::{Stage, choose_blocks, set_stage};
-use crate::survey::read_scripts;
 use crate::words::Request;
 use crate::writing::write_files;
 use fault_lines::say_cannot_write;
 use instrument::Engine;
-use outside::{Gate, Out, Shelf, put_all};
+use outside::{Gate, Out, Shelf, put_all, write_out};
 use plain_text::LineText;
 use std::alloc::Global;
 use std::sync::Wait;
@@ -39,13 +43,11 @@ pub(crate) fn play<R: Threads + Wait + Sync, S: Shelf, O: Out, G: Gate>(
     gate: &G,
     maps: &MapSet,
 ) -> u8
-    requires differ { request.out.now ≢ request.order.now }
-    requires scripts { (1 ≤ length request.scripts.now) × (length request.scripts.now ≤ 256) }
-    requires blocks { IfSome request.blocks (λ b. (1 ≤ b) × (b ≤ block_limit)) }
-    requires places { IfSome request.places (λ p. (1 ≤ p) × (p ≤ 1000000)) }
-    ensures { IsRun (asked request.entry)
-        (moment (S.files shelf.old) (S.reading shelf.old) (S.writing shelf.old) (O.written out.old) (O.faults out.old))
-        (moment (S.files shelf.new) (S.reading shelf.new) (S.writing shelf.new) (O.written out.new) (O.faults out.new)) result }
+    requires { IsRequest request }
+    ensures run { IsRun (request_data request.entry)
+        (snapshot (S.files shelf.old) (S.reading shelf.old) (S.writing shelf.old) (O.written out.old) (O.faults out.old))
+        (snapshot (S.files shelf.new) (S.reading shelf.new) (S.writing shelf.new) (O.written out.new) (O.faults out.new)) result }
+    ensures written_out { WasPlayed result → HoldsNothing (S.held shelf.new) request.entry.out.now request.entry.order.now }
 {
     match prepare(alloc, shelf, request, maps) {
         Ok(stage) => perform(rt, shelf, out, request, stage, gate),
@@ -60,14 +62,13 @@ fn prepare<S: Shelf>(
     request: Request<'_>,
     maps: &MapSet,
 ) -> Result<Stage, Refusal>
-    requires scripts { (1 ≤ length request.scripts.now) × (length request.scripts.now ≤ 256) }
-    requires blocks { IfSome request.blocks (λ b. (1 ≤ b) × (b ≤ block_limit)) }
-    requires places { IfSome request.places (λ p. (1 ≤ p) × (p ≤ 1000000)) }
+    requires { IsRequest request }
     ensures stage { IfOk result (λ stage. IsStage request.entry.blocks request.entry.places (plans_of stage.players.items) stage) }
-    ensures plans { IfOk result (λ stage. HavePlans (asked request.entry) (S.files shelf.old) (plans_of stage.players.items)) }
+    ensures plans { IfOk result (λ stage. HavePlans (request_data request.entry) (S.files shelf.old) (plans_of stage.players.items)) }
     ensures kept { OnOk result (S.reading shelf.new ≡ S.reading shelf.old) }
-    ensures tells { IfErr result (λ why. IfSome (S.files shelf.old) (λ told. Tells why (verdict (asked request.entry) told))) }
-    ensures cause { IfErr result (λ why. HasCause why request.entry.blocks (S.files shelf.old) (map string_bytes request.entry.scripts.now) (S.reading shelf.old) (S.reading shelf.new)) }
+    ensures tells { IfErr result (λ why. IfSome (S.files shelf.old) (λ told. Tells why (verdict (request_data request.entry) told))) }
+    ensures cause { IfErr result (λ why. HasCause why request.entry.blocks (S.files shelf.old) (map string_bytes request.entry.scripts.now)
+        (S.reading shelf.old) (S.reading shelf.new)) }
     ensures few { IfOk result (λ stage. count_all (plans_of stage.players.items) ≤ command_limit) }
     ensures within { IfErr result (λ why. IsWithin why (length request.entry.scripts.now)) }
     ensures files { S.files shelf.new ≡ S.files shelf.old }
@@ -89,11 +90,13 @@ fn prepare<S: Shelf>(
 
 // Makes both files with their first bytes.
 fn begin_files<S: Shelf>(shelf: &mut S, request: Request<'_>, blocks: u32) -> Result<(), Target>
-    requires differ { request.out.now ≢ request.order.now }
+    requires request { IsRequest request }
     requires blocks { blocks ≤ block_limit }
-    requires scripts { length request.scripts.now ≤ 256 }
-    ensures whole { OnOk result (S.files shelf.new ≡ option_map (with_two request.entry.out.now (wav_bytes blocks) request.entry.order.now (order_bytes blocks (length request.entry.scripts.now))) (S.files shelf.old)) }
-    ensures stopped { IfErr result (λ target. IsStopped target (S.files shelf.old) (S.files shelf.new) request.entry.out.now (wav_bytes blocks) request.entry.order.now (order_bytes blocks (length request.entry.scripts.now))) }
+    ensures whole { OnOk result (S.files shelf.new ≡ option_map
+        (with_two request.entry.out.now (wav_bytes blocks) request.entry.order.now (order_bytes blocks (length request.entry.scripts.now)))
+        (S.files shelf.old)) }
+    ensures stopped { IfErr result (λ target. IsStopped target (S.files shelf.old) (S.files shelf.new)
+        request.entry.out.now (wav_bytes blocks) request.entry.order.now (order_bytes blocks (length request.entry.scripts.now))) }
     ensures cause { HasFault (S.writing shelf.old) (S.writing shelf.new) (S.reading shelf.old) (S.reading shelf.new) ⊥ result }
 {
     let mut line = LineText::new();
@@ -113,20 +116,20 @@ fn perform<R: Threads + Wait + Sync, S: Shelf, O: Out, G: Gate>(
     stage: Stage,
     gate: &G,
 ) -> u8
-    requires differ { request.out.now ≢ request.order.now }
-    requires scripts { (1 ≤ length request.scripts.now) × (length request.scripts.now ≤ 256) }
+    requires request { IsRequest request }
     requires stage { IsStage request.blocks request.places (plans_of stage.players.items) stage }
-    requires plans { HavePlans (asked request) (S.files shelf.old) (plans_of stage.players.items) }
+    requires plans { HavePlans (request_data request) (S.files shelf.old) (plans_of stage.players.items) }
     requires few { count_all (plans_of stage.players.items) ≤ command_limit }
-    ensures { IsPlayedRun (asked request.entry)
-        (moment (S.files shelf.old) (S.reading shelf.old) (S.writing shelf.old) (O.written out.old) (O.faults out.old))
-        (moment (S.files shelf.new) (S.reading shelf.new) (S.writing shelf.new) (O.written out.new) (O.faults out.new)) result }
+    ensures run { IsPlayedRun (request_data request.entry)
+        (snapshot (S.files shelf.old) (S.reading shelf.old) (S.writing shelf.old) (O.written out.old) (O.faults out.old))
+        (snapshot (S.files shelf.new) (S.reading shelf.new) (S.writing shelf.new) (O.written out.new) (O.faults out.new)) result }
+    ensures written_out { WasPlayed result → HoldsNothing (S.held shelf.new) request.entry.out.now request.entry.order.now }
 {
     let blocks = stage.blocks;
     let commands = stage.commands;
     match begin_files(shelf, request, blocks) {
         Ok(()) => {}
-        Err(target) => return say_stopped(out, request, target),
+        Err(target) => return stop(shelf, out, request, target),
     }
     let (journal, result) = play_scripts(
         rt,
@@ -142,16 +145,21 @@ fn perform<R: Threads + Wait + Sync, S: Shelf, O: Out, G: Gate>(
     );
     match result {
         Ok(()) => put_report(out, commands, journal.len() as u32, blocks),
-        Err(target) => say_stopped(out, request, target),
+        Err(target) => stop(shelf, out, request, target),
     }
 }
 
-// Names the file that could not be written.
-fn say_stopped<O: Out>(out: &mut O, request: Request<'_>, target: Target) -> u8
+// Names the file that could not be written. What the shelf holds back of the two files is written out before, as far as that goes.
+fn stop<S: Shelf, O: Out>(shelf: &mut S, out: &mut O, request: Request<'_>, target: Target) -> u8
     ensures status { result ≡ 3 }
+    ensures files { S.files shelf.new ≡ S.files shelf.old }
+    ensures reading { S.reading shelf.new ≡ S.reading shelf.old }
+    ensures writing { S.writing shelf.old ≤ S.writing shelf.new }
     ensures line { Says (cannot_write request.entry.out.now) (O.written out.old) (O.written out.new) (O.faults out.old) (O.faults out.new)
         ⊎ Says (cannot_write request.entry.order.now) (O.written out.old) (O.written out.new) (O.faults out.old) (O.faults out.new) }
 {
+    let _ = write_out(shelf, request.out);
+    let _ = write_out(shelf, request.order);
     match target {
         Target::Sound => say_cannot_write(out, request.out),
         Target::Order => say_cannot_write(out, request.order),
@@ -162,7 +170,8 @@ fn say_stopped<O: Out>(out: &mut O, request: Request<'_>, target: Target) -> u8
 // Puts the report: of so many commands, so many are in the journal.
 fn put_report<O: Out>(out: &mut O, all: u32, commands: u32, blocks: u32) -> u8
     requires { commands ≤ all }
-    ensures { HasReported (report (all - commands) blocks commands) (if all - commands == 0 then 0 else 5) (O.written out.old) (O.written out.new) (O.faults out.old) (O.faults out.new) result }
+    ensures { HasReported (report (all - commands) blocks commands) (if all - commands == 0 then 0 else 5)
+        (O.written out.old) (O.written out.new) (O.faults out.old) (O.faults out.new) result }
 {
     let line = report_of(all - commands, blocks, commands);
     match put_all(out, line.as_slice()) {

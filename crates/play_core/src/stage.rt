@@ -1,8 +1,9 @@
 //! All that a run needs, made before a file is touched.
 ghost use Rattle.std.specs.Prelude.{◌≡◌, ◌+◌, ◌<◌, ◌≤◌, ℕ, Option, All, IfOk, IfSome, IfNone, max, length, map, sum, vec_len, vec_capacity, slice_index};
-ghost use Rattle.play_core.specs.Verdict.{block_limit, blocks_of_run, command_limit, count_all, greatest_due, places_of_run};
+ghost use Rattle.play_core.specs.Limits.{block_limit, command_limit};
+ghost use Rattle.play_core.specs.Verdict.{blocks_of_run, count_all, greatest_due, places_of_run};
 ghost use Rattle.play_core.specs.Stage.{IsStage, AreInTime};
-ghost use Rattle.play_core.specs.Survey.{AreBelow};
+ghost use Rattle.play_core.specs.Scan.{AreBelow};
 
 use command_queue::{Line, SendEnd};
 use instrument::Engine;

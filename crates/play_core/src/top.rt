@@ -8,15 +8,17 @@ ghost use Rattle.command_set.specs.Entries.{LoggedData};
 ghost use Rattle.take_files.specs.Files.{wav};
 ghost use Rattle.take_files.specs.Orders.{IsOrdered, OrderData};
 ghost use Rattle.turns.specs.Timed.{ArePlayed, IsTimed};
+ghost use Rattle.turns.specs.Written.{HoldsNothing};
 ghost use Rattle.script_outcome.specs.declared.fault.Place.{Place};
 ghost use Rattle.script_outcome.specs.declared.fault.ScriptKind.{ScriptKind};
 ghost use Rattle.script_plan.specs.Plan.{PlannedData};
-ghost use Rattle.play_core.specs.Words.{asked_by};
+ghost use Rattle.play_core.specs.Words.{requested_by};
 ghost use Rattle.play_core.specs.Verdict.{Verdict, Faulty, IsPlayed, blocks_of_run, count_all, places_of_run, verdict};
 ghost use Rattle.play_core.specs.Refused.{IsUnread};
 ghost use Rattle.play_core.specs.Lines.{fault_line, report, usage};
 ghost use Rattle.play_core.specs.Files.{AreBegun};
-ghost use Rattle.play_core.specs.Run.{HavePlans, SaysOfStop, moment, report_of, sound_of, order_of};
+ghost use Rattle.outside.specs.Snapshot.{snapshot};
+ghost use Rattle.play_core.specs.Run.{HavePlans, SaysOfStop, report_of, sound_of, order_of};
 ghost use Rattle.play_core.specs.Headline.{Answers, Asks, HasAll, IsComplete, IsLimit, LacksSome, Lists, Played, PlayedAs, Told, WasPlayed, limit_line};
 
 use crate::lines::say_usage;
@@ -28,10 +30,11 @@ use std::sync::Wait;
 use std::thread::Threads;
 use velocity_map::MapSet;
 
-/// Does what the words `OUT ORDER BLOCKS PLACES SCRIPT...` ask for: it plays the scripts beside each other, each on an end of its own of one line, renders block by block what comes out of the line,
-/// writes the sound to OUT and the order in which the commands came to ORDER, and puts a line. The answer is the status: 0 all commands were played, 1 other words, 2 not read, 3 not written,
-/// 4 a fault of a script, 5 some commands were left when the blocks ended, 6 past a limit, 8 out of memory. `gate` is called before and after each script's and the renderer's part of a turn. It may
-/// wait; its promises hold if it returns.
+/// Does what the words `OUT ORDER BLOCKS PLACES SCRIPT...` ask for: it plays the scripts beside each other, each on an end of its own of one
+/// line, renders block by block what comes out of the line, writes the sound to OUT and the order in which the commands came to ORDER, and
+/// puts a line. The answer is the status: 0 all commands were played, 1 other words, 2 not read, 3 not written, 4 a fault of a script, 5 some
+/// commands were left when the blocks ended, 6 past a limit, 8 out of memory. `gate` is called before and after each script's and the
+/// renderer's part of a turn. It may wait; its promises hold if it returns.
 pub fn play_main<R: Threads + Wait + Sync, S: Shelf, O: Out, G: Gate>(
     rt: &R,
     alloc: Global,
@@ -43,52 +46,73 @@ pub fn play_main<R: Threads + Wait + Sync, S: Shelf, O: Out, G: Gate>(
 ) -> u8
     ensures status { IsOneOf result (0 ∷ 1 ∷ 2 ∷ 3 ∷ 4 ∷ 5 ∷ 6 ∷ 8 ∷ []) }
 
-    // The headline: 0 and 5 over told files. ORDER is the order of just one journal, with as many scripts as were named. All that follows speaks of this journal.
-    ensures order { Played (map string_bytes words.now) result (S.files shelf.old) (λ a plans. (o : OrderData) × Lists (S.files shelf.new) a.order o × (o.scripts ≡ length a.scripts)) }
+    // The headline: 0 and 5 over told files. ORDER is the order of just one journal, with as many scripts as were named. All that follows
+    // speaks of this journal.
+    ensures order { Played (map string_bytes words.now) result (S.files shelf.old)
+        (λ a plans. (o : OrderData) × Lists (S.files shelf.new) a.order o × (o.scripts ≡ length a.scripts)) }
     // It has as many blocks as were asked for, or 201 more than the greatest block that a command is due at.
-    ensures blocks { PlayedAs (map string_bytes words.now) result (S.files shelf.old) (S.files shelf.new) (λ a plans o. o.blocks ≡ blocks_of_run a.blocks plans) }
+    ensures blocks { PlayedAs (map string_bytes words.now) result (S.files shelf.old) (S.files shelf.new)
+        (λ a plans o. o.blocks ≡ blocks_of_run a.blocks plans) }
     // OUT is, block by block and bit for bit, what one thread renders after the commands that the journal lists up to that block.
-    ensures sound { PlayedAs (map string_bytes words.now) result (S.files shelf.old) (S.files shelf.new) (λ a plans o. file_of (S.files shelf.new) a.out ≡ Some (wav o.journal o.blocks)) }
+    ensures sound { PlayedAs (map string_bytes words.now) result (S.files shelf.old) (S.files shelf.new)
+        (λ a plans o. file_of (S.files shelf.new) a.out ≡ Some (wav o.journal o.blocks)) }
     // 0: the journal has each command of each script's plan exactly once, in order; and no others.
-    ensures all { result ≡ 0 → PlayedAs (map string_bytes words.now) result (S.files shelf.old) (S.files shelf.new) (λ a plans o. HasAll o.journal plans) }
+    ensures all { result ≡ 0 → PlayedAs (map string_bytes words.now) result (S.files shelf.old) (S.files shelf.new)
+        (λ a plans o. HasAll o.journal plans) }
     // 0 and 5: of each script it has the first commands; with 5 not all of some script's.
     ensures played { PlayedAs (map string_bytes words.now) result (S.files shelf.old) (S.files shelf.new) (λ a plans o. ArePlayed o.journal plans) }
-    ensures left { result ≡ 5 → PlayedAs (map string_bytes words.now) result (S.files shelf.old) (S.files shelf.new) (λ a plans o. LacksSome o.journal plans) }
+    ensures left { result ≡ 5 → PlayedAs (map string_bytes words.now) result (S.files shelf.old) (S.files shelf.new)
+        (λ a plans o. LacksSome o.journal plans) }
     // Each is logged at its due block or above; above it, or not at all, only where the line has few places.
-    ensures timed { PlayedAs (map string_bytes words.now) result (S.files shelf.old) (S.files shelf.new) (λ a plans o. IsTimed o.journal plans (places_of_run a.places plans)) }
+    ensures timed { PlayedAs (map string_bytes words.now) result (S.files shelf.old) (S.files shelf.new)
+        (λ a plans o. IsTimed o.journal plans (places_of_run a.places plans)) }
     // All other files are as before, and just the report was added.
-    ensures others { Played (map string_bytes words.now) result (S.files shelf.old) (λ a plans. (other : List ℕ) → other ≢ a.out → other ≢ a.order → file_of (S.files shelf.new) other ≡ file_of (S.files shelf.old) other) }
-    ensures report { PlayedAs (map string_bytes words.now) result (S.files shelf.old) (S.files shelf.new) (λ a plans o. O.written out.new ≡ option_map (said (report_of a plans o.journal)) (O.written out.old)) }
+    ensures others { Played (map string_bytes words.now) result (S.files shelf.old) (λ a plans.
+        (other : List ℕ) → other ≢ a.out → other ≢ a.order → file_of (S.files shelf.new) other ≡ file_of (S.files shelf.old) other) }
+    ensures report { PlayedAs (map string_bytes words.now) result (S.files shelf.old) (S.files shelf.new)
+        (λ a plans o. O.written out.new ≡ option_map (said (report_of a plans o.journal)) (O.written out.old)) }
     // The report stands on every output that tells, whether or not the files are told.
-    ensures line { WasPlayed result → Asks (map string_bytes words.now) (λ a. (left : ℕ) × (blocks : ℕ) × (commands : ℕ) × (result ≡ (if left == 0 then 0 else 5)) × IfSome a.blocks (λ b. blocks ≡ b)
+    ensures line { WasPlayed result → Asks (map string_bytes words.now) (λ a. (left : ℕ) × (blocks : ℕ) × (commands : ℕ)
+        × (result ≡ (if left == 0 then 0 else 5)) × IfSome a.blocks (λ b. blocks ≡ b)
         × (O.written out.new ≡ option_map (said (report left blocks commands)) (O.written out.old))) }
     // Every script was there, within the limits, and had a plan; so it was after 3.
-    ensures right { WasPlayed result ⊎ (result ≡ 3) → Told (map string_bytes words.now) (S.files shelf.old) (λ a told. IsPlayed (verdict a told)) }
+    ensures right { WasPlayed result ⊎ (result ≡ 3)
+        → Told (map string_bytes words.now) (S.files shelf.old) (λ a told. IsPlayed (verdict a told)) }
 
     // 1 exactly where the words are not of the grammar.
-    ensures words { result ≡ 1 ↔ asked_by (map string_bytes words.now) ≡ None }
+    ensures words { result ≡ 1 ↔ requested_by (map string_bytes words.now) ≡ None }
     // 2 only where a read of a script failed and was counted, or the told files lack it, and all scripts before it are good; the line names it.
-    ensures unread { result ≡ 2 → Asks (map string_bytes words.now) (λ a. (k : ℕ) × IsUnread k a.blocks (S.files shelf.old) a.scripts (S.reading shelf.old) (S.reading shelf.new)
+    ensures unread { result ≡ 2 → Asks (map string_bytes words.now) (λ a. (k : ℕ)
+        × IsUnread k a.blocks (S.files shelf.old) a.scripts (S.reading shelf.old) (S.reading shelf.new)
         × Says (cannot_read (slice_index_or a.scripts k [])) (O.written out.old) (O.written out.new) (O.faults out.old) (O.faults out.new)) }
     // 3 only where a write or a put failed and was counted.
     ensures write { result ≡ 3 → Rose (S.writing shelf.old) (S.writing shelf.new) ⊎ Rose (O.faults out.old) (O.faults out.new) }
-    // Then there is one journal, such as an order lists, of the first commands of each script's plan. Each of both files is as before or a front of what this journal gives, and all others are as
-    // before. The line names one of the two; or no write failed, both are whole, and no more than a front of the journal's report was put.
-    ensures stopped { result ≡ 3 → Asks (map string_bytes words.now) (λ a. (plans : List (List PlannedData)) × (journal : List LoggedData) × HavePlans a (S.files shelf.old) plans
+    // Then there is one journal, such as an order lists, of the first commands of each script's plan. Each of both files is as before or a
+    // prefix of what this journal gives, and all others are as before. The line names one of the two; or no write failed, both are whole, and
+    // no more than a prefix of the journal's report was put.
+    ensures stopped { result ≡ 3 → Asks (map string_bytes words.now) (λ a. (plans : List (List PlannedData)) × (journal : List LoggedData)
+        × HavePlans a (S.files shelf.old) plans
         × IsOrdered journal (blocks_of_run a.blocks plans) (length plans) × ArePlayed journal plans
         × AreBegun (S.files shelf.old) (S.files shelf.new) a.out (sound_of a plans journal) a.order (order_of a plans journal)
         × SaysOfStop a plans journal
-        (moment (S.files shelf.old) (S.reading shelf.old) (S.writing shelf.old) (O.written out.old) (O.faults out.old))
-        (moment (S.files shelf.new) (S.reading shelf.new) (S.writing shelf.new) (O.written out.new) (O.faults out.new))) }
+        (snapshot (S.files shelf.old) (S.reading shelf.old) (S.writing shelf.old) (O.written out.old) (O.faults out.old))
+        (snapshot (S.files shelf.new) (S.reading shelf.new) (S.writing shelf.new) (O.written out.new) (O.faults out.new))) }
     // 4 and 6 only where the told files say so, by the line that was put.
-    ensures fault { result ≡ 4 → (k : ℕ) × (place : Place) × (kind : ScriptKind) × Told (map string_bytes words.now) (S.files shelf.old) (λ a told. verdict a told ≡ Faulty k place kind)
+    ensures fault { result ≡ 4 → (k : ℕ) × (place : Place) × (kind : ScriptKind)
+        × Told (map string_bytes words.now) (S.files shelf.old) (λ a told. verdict a told ≡ Faulty k place kind)
         × Says (fault_line k place kind) (O.written out.old) (O.written out.new) (O.faults out.old) (O.faults out.new) }
-    ensures limit { result ≡ 6 → (why : Verdict) × IsLimit why × Told (map string_bytes words.now) (S.files shelf.old) (λ a told. verdict a told ≡ why)
+    ensures limit { result ≡ 6 → (why : Verdict) × IsLimit why
+        × Told (map string_bytes words.now) (S.files shelf.old) (λ a told. verdict a told ≡ why)
         × Says (limit_line why) (O.written out.old) (O.written out.new) (O.faults out.old) (O.faults out.new) }
     // What the told files say decides, where no read fails.
-    ensures judged { Told (map string_bytes words.now) (S.files shelf.old) (λ a told. ¬ (Rose (S.reading shelf.old) (S.reading shelf.new)) → Answers (verdict a told) result) }
+    ensures judged { Told (map string_bytes words.now) (S.files shelf.old) (λ a told.
+        ¬ (Rose (S.reading shelf.old) (S.reading shelf.new)) → Answers (verdict a told) result) }
     // 5 only where a number of places was asked for that is below the number of commands.
-    ensures places { result ≡ 5 → Asks (map string_bytes words.now) (λ a. (plans : List (List PlannedData)) × HavePlans a (S.files shelf.old) plans × IsSomeAnd a.places (λ p. p < count_all plans)) }
+    ensures places { result ≡ 5 → Asks (map string_bytes words.now) (λ a. (plans : List (List PlannedData))
+        × HavePlans a (S.files shelf.old) plans × IsSomeAnd a.places (λ p. p < count_all plans)) }
+
+    // What the shelf holds back of both files was written out.
+    ensures written_out { WasPlayed result → Asks (map string_bytes words.now) (λ a. HoldsNothing (S.held shelf.new) a.out a.order) }
 
     // No counted fault is passed over, and after all other statuses no file has changed.
     ensures reads { result ≢ 2 → S.reading shelf.new ≡ S.reading shelf.old }
@@ -99,7 +123,8 @@ pub fn play_main<R: Threads + Wait + Sync, S: Shelf, O: Out, G: Gate>(
     ensures memory { result ≡ 8 → Says out_of_memory (O.written out.old) (O.written out.new) (O.faults out.old) (O.faults out.new) }
 
     // Where all is right and nothing fails, all commands are played where the line has places for them, unless memory runs out.
-    ensures complete { ¬ (Rose (S.reading shelf.old) (S.reading shelf.new)) → ¬ (Rose (S.writing shelf.old) (S.writing shelf.new)) → ¬ (Rose (O.faults out.old) (O.faults out.new))
+    ensures complete { ¬ (Rose (S.reading shelf.old) (S.reading shelf.new)) → ¬ (Rose (S.writing shelf.old) (S.writing shelf.new))
+        → ¬ (Rose (O.faults out.old) (O.faults out.new))
         → Told (map string_bytes words.now) (S.files shelf.old) (λ a told. IsComplete a (verdict a told) result) }
 {
     match read_words(words) {

@@ -18,11 +18,8 @@ pub struct Request<'a> {
 
 /// What the words ask for, and `None` where they are not of the grammar.
 pub fn read_words(words: &[String]) -> Option<Request<'_>>
-    ensures asked { option_map grammar.asked result ≡ grammar.asked_by (map string_bytes words.now) }
-    ensures differ { IfSome result (λ r. r.out.now ≢ r.order.now) }
-    ensures scripts { IfSome result (λ r. (1 ≤ length r.scripts.now) × (length r.scripts.now ≤ 256)) }
-    ensures blocks { IfSome result (λ r. IfSome r.blocks (λ b. (1 ≤ b) × (b ≤ 1048576))) }
-    ensures places { IfSome result (λ r. IfSome r.places (λ p. (1 ≤ p) × (p ≤ 1000000))) }
+    ensures asked { option_map grammar.request_data result ≡ grammar.requested_by (map string_bytes words.now) }
+    ensures request { IfSome result grammar.IsRequest }
 {
     if words.len() < 4 {
         return None;
@@ -37,11 +34,9 @@ fn read_five<'a>(
     places: &str,
     scripts: &'a [String],
 ) -> Option<Request<'a>>
-    ensures asked { option_map grammar.asked result ≡ grammar.asked_of out.entry.now order.entry.now blocks.now places.now (map string_bytes scripts.entry.now) }
-    ensures differ { IfSome result (λ r. r.out.now ≢ r.order.now) }
-    ensures scripts { IfSome result (λ r. (1 ≤ length r.scripts.now) × (length r.scripts.now ≤ 256)) }
-    ensures blocks { IfSome result (λ r. IfSome r.blocks (λ b. (1 ≤ b) × (b ≤ 1048576))) }
-    ensures places { IfSome result (λ r. IfSome r.places (λ p. (1 ≤ p) × (p ≤ 1000000))) }
+    ensures asked { option_map grammar.request_data result
+        ≡ grammar.request_of out.entry.now order.entry.now blocks.now places.now (map string_bytes scripts.entry.now) }
+    ensures request { IfSome result grammar.IsRequest }
 {
     if !are_files(out, order) || !are_scripts(out, order, scripts) {
         return None;

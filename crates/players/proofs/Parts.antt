@@ -11,23 +11,23 @@ use Rattle.players.proofs.Turns.{begins}
 pub none_turned : (t : ℕ) (ps : List PlayerView) → NoneIsDue t ps → AllTurned t ps ps
 none_turned t ps none k d lt = (begins t (get_or ps k d), inl (none k d lt, refl))
 
--- the front and the back of a list
-pub front_all : (P : PlayerView → Type 0) (xs ys : List PlayerView) → All P (xs ++ ys) → All P xs
-front_all P xs ys all k d lt = let l = length-append xs ys in subst P (get_or_append_left xs ys d k lt) (all k d (omega (arith, l, lt)))
+-- the first and the second part of a list
+pub first_all : (P : PlayerView → Type 0) (xs ys : List PlayerView) → All P (xs ++ ys) → All P xs
+first_all P xs ys all k d lt = let l = length-append xs ys in subst P (get_or_append_left xs ys d k lt) (all k d (omega (arith, l, lt)))
 
-pub back_all : (P : PlayerView → Type 0) (xs ys : List PlayerView) → All P (xs ++ ys) → All P ys
-back_all P xs ys all k d lt =
+pub second_all : (P : PlayerView → Type 0) (xs ys : List PlayerView) → All P (xs ++ ys) → All P ys
+second_all P xs ys all k d lt =
     let l = length-append xs ys in
     let e : (length xs + k) - length xs ≡ k = omega arith in
     subst P (get_or-append_right xs ys (length xs) (length xs + k) d refl (omega arith) ∙ ap (λ (i : ℕ). get_or ys i d) e) (all (length xs + k) d (omega (arith, l, lt)))
 
 pub both_turned : (t : ℕ) (xs ys xs' ys' : List PlayerView) → length xs' ≡ length xs → AllTurned t xs xs' → AllTurned t ys ys' → AllTurned t (xs ++ ys) (xs' ++ ys')
-both_turned t xs ys xs' ys' same front back k d lt = at (cases_lt k (length xs)) where
+both_turned t xs ys xs' ys' same first second k d lt = at (cases_lt k (length xs)) where
   at : (k < length xs) ⊎ (length xs ≤ k) → Turned t (get_or (xs ++ ys) k d) (get_or (xs' ++ ys') k d)
-  at (inl inside) = rw (get_or_append_left xs ys d k inside, get_or_append_left xs' ys' d k (omega (arith, inside, same))) (front k d inside)
-  at (inr behind) =
+  at (inl inside) = rw (get_or_append_left xs ys d k inside, get_or_append_left xs' ys' d k (omega (arith, inside, same))) (first k d inside)
+  at (inr after) =
       let l = length-append xs ys in
-      rw (get_or-append_right xs ys (length xs) k d refl behind, get_or-append_right xs' ys' (length xs) k d same behind) (back (k - length xs) d (omega (arith, l, lt, behind)))
+      rw (get_or-append_right xs ys (length xs) k d refl after, get_or-append_right xs' ys' (length xs) k d same after) (second (k - length xs) d (omega (arith, l, lt, after)))
 
 -- a list of one player
 pub one_turned : (t : ℕ) (ps : List PlayerView) (p q : PlayerView) → length ps ≡ 1 → p ≡ get_or ps 0 p → Turned t p q → AllTurned t ps (set ps 0 q)

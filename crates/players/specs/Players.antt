@@ -33,8 +33,10 @@ AreReady line players = All (λ p. IsReady line p) players
 
 -- what one send did: it sent the first command, which is due; or the line was full; or nothing that is left is due
 abbrev pub Stepped : Step → ℕ → PlayerView → PlayerView → Type 0
-Stepped step.Sent t p q = (c : PlannedData) × (p.left ≡ c ∷ q.left) × (c.due ≤ t) × (q.end ≡ accepted p.end (entry_of p.end c.due c.command)) × (q.logged ≡ p.logged)
-Stepped step.Refused t p q = (q ≡ record p { end = refused p.end }) × FirstBelow (t + 1) (dues p.left) × (p.end.line.places ≤ length p.end.list + others_of p.end)
+Stepped step.Sent t p q =
+    (c : PlannedData) × (p.left ≡ c ∷ q.left) × (c.due ≤ t) × (q.end ≡ accepted p.end (entry_of p.end c.due c.command)) × (q.logged ≡ p.logged)
+Stepped step.Refused t p q =
+    (q ≡ record p { end = refused p.end }) × FirstBelow (t + 1) (dues p.left) × (p.end.line.places ≤ length p.end.list + others_of p.end)
 Stepped step.NotDue t p q = (q ≡ p) × AllFrom (t + 1) (dues p.left)
 
 -- the entries of commands of a script, from the number seq on
@@ -57,7 +59,8 @@ abbrev pub Stayed : ℕ → PlayerView → PlayerView → Type 0
 Stayed t p q = AllFrom (t + 1) (dues q.left) × (q.end.refusals ≡ p.end.refusals)
 
 abbrev pub WasStopped : ℕ → PlayerView → PlayerView → Type 0
-WasStopped t p q = FirstBelow (t + 1) (dues q.left) × (q.end.line.places ≤ length q.end.list + others_of q.end) × (q.end.refusals ≡ one_up p.end.refusals)
+WasStopped t p q =
+    FirstBelow (t + 1) (dues q.left) × (q.end.line.places ≤ length q.end.list + others_of q.end) × (q.end.refusals ≡ one_up p.end.refusals)
 
 -- what a turn did
 abbrev pub Turned : ℕ → PlayerView → PlayerView → Type 0

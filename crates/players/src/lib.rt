@@ -6,4 +6,4 @@ mod player;
 mod together;
 
 pub use player::Player;
-pub use together::{are_due, play_all};
+pub use together::{are_due, last_due, play_all};

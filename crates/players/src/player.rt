@@ -1,3 +1,4 @@
+//! A script that an end sends, turn by turn.
 ghost use Rattle.std.specs.Prelude.{◌≡◌, ◌+◌, ◌<◌, ◌≤◌, MatchBool, IsTrue, length, ◌↔◌};
 ghost use Rattle.lateness.specs.Late.{AllFrom, FirstBelow};
 ghost use Rattle.script_plan.specs.Plan.{dues};
@@ -133,7 +134,8 @@ impl Player {
         unreachable!()
     }
 
-    /// A turn: sends the commands that are due at it or before, in order, up to the first refusal. It calls the gate with its end's number where something is due.
+    /// A turn: sends the commands that are due at it or before, in order, up to the first refusal. It calls the gate with its end's number
+    /// where something is due.
     pub fn turn<R: Wait, G: Gate>(&mut self, rt: &R, line: &Line, turn: u32, gate: &G)
         requires { IsReady line.now self.old }
         ensures ready { IsReady line.now self.new }

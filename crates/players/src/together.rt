@@ -1,5 +1,5 @@
 //! One turn of all players, beside each other.
-ghost use Rattle.std.specs.Prelude.{◌≡◌, ◌<◌, MatchBool, length};
+ghost use Rattle.std.specs.Prelude.{◌≡◌, ◌<◌, ◌≤◌, MatchBool, length};
 ghost use Rattle.players.specs.Players.{AreReady, AllTurned, NoneIsDue};
 
 use crate::player::Player;
@@ -20,7 +20,22 @@ pub fn are_due(players: &[Player], turn: u32) -> bool
     false
 }
 
-/// One turn of each player. Those that have something due are branches of their own, and the others aren't touched. Where a single one has, no thread is started.
+/// Where the last player stands that has a command that is due at a turn, and 0 where none has. What a turn does doesn't rest on it.
+pub fn last_due(players: &[Player], turn: u32) -> usize
+    ensures { result ≤ length players.now }
+{
+    let mut rest = players.len();
+    while rest > 0 {
+        rest -= 1;
+        if players[rest].is_due(turn) {
+            return rest;
+        }
+    }
+    0
+}
+
+/// One turn of each player. Those that have something due are branches of their own, and the others aren't touched. Where a single one has,
+/// no thread is started.
 #[cycle(halves)]
 pub fn play_all<R: Threads + Wait + Sync, G: Gate>(
     rt: &R,
@@ -41,8 +56,8 @@ pub fn play_all<R: Threads + Wait + Sync, G: Gate>(
         return;
     }
     let middle = players.len() / 2;
-    let (front, back) = players.split_at_mut(middle);
-    play_both(rt, line, gate, turn, front, back);
+    let (first, second) = players.split_at_mut(middle);
+    play_both(rt, line, gate, turn, first, second);
 }
 
 // One turn of each player of two lists, in branches where both have something due.
@@ -52,34 +67,34 @@ fn play_both<R: Threads + Wait + Sync, G: Gate>(
     line: &Line,
     gate: &G,
     turn: u32,
-    front: &mut [Player],
-    back: &mut [Player],
+    first: &mut [Player],
+    second: &mut [Player],
 )
-    requires some { (0 < length front.old) × (0 < length back.old) }
-    requires front { AreReady line.now front.old }
-    requires back { AreReady line.now back.old }
-    ensures front_ready { AreReady line.now front.new }
-    ensures front_turned { AllTurned turn front.old front.new }
-    ensures back_ready { AreReady line.now back.new }
-    ensures back_turned { AllTurned turn back.old back.new }
+    requires some { (0 < length first.old) × (0 < length second.old) }
+    requires first { AreReady line.now first.old }
+    requires second { AreReady line.now second.old }
+    ensures first_ready { AreReady line.now first.new }
+    ensures first_turned { AllTurned turn first.old first.new }
+    ensures second_ready { AreReady line.now second.new }
+    ensures second_turned { AllTurned turn second.old second.new }
 {
-    if !are_due(front, turn) {
-        play_all(rt, line, gate, turn, back);
+    if !are_due(first, turn) {
+        play_all(rt, line, gate, turn, second);
         return;
     }
-    if !are_due(back, turn) {
-        play_all(rt, line, gate, turn, front);
+    if !are_due(second, turn) {
+        play_all(rt, line, gate, turn, first);
         return;
     }
     join_mut(
         rt,
         &mut ||
-            requires { AreReady line.now front.now }
-            ensures { AreReady line.entry.now front.exit.now × AllTurned turn front.entry.now front.exit.now }
-        { play_all(rt, line, gate, turn, front) },
+            requires { AreReady line.now first.now }
+            ensures { AreReady line.entry.now first.exit.now × AllTurned turn first.entry.now first.exit.now }
+        { play_all(rt, line, gate, turn, first) },
         &mut ||
-            requires { AreReady line.now back.now }
-            ensures { AreReady line.entry.now back.exit.now × AllTurned turn back.entry.now back.exit.now }
-        { play_all(rt, line, gate, turn, back) },
+            requires { AreReady line.now second.now }
+            ensures { AreReady line.entry.now second.exit.now × AllTurned turn second.entry.now second.exit.now }
+        { play_all(rt, line, gate, turn, second) },
     );
 }

@@ -10,7 +10,7 @@ use Rattle.outside.specs.Files.{Files, content, appended, Lacks, AppendedSome}
 use Rattle.outside.proofs.Shelves.{same_name, same_name-same, get-insert_same, get-insert_other, get-first, appended_first, appended_again, then_appended, then_mapped, mapped_alike}
 use Rattle.turns.specs.Written.{both_appended, BothBegun}
 
--- nothing behind a file's own bytes
+-- nothing after a file's own bytes
 
 has : (o : Option (List ℕ)) → (is_some o ≡ false → ⊥) → o ≡ Some (unwrap_or o [])
 has None some = absurd (some refl)
@@ -20,19 +20,19 @@ own_at : (m : Files) (name q : List ℕ) → (Lacks (Some m) name → ⊥) → (
 own_at m name q there true same = sym (has (get m name) there) ∙ ap (get m) (sym (same_name-same q name same))
 own_at m name q there false same = refl
 
-none_behind : (m : Files) (name : List ℕ) → (Lacks (Some m) name → ⊥) → appended name [] m ≡ m
-none_behind m name there =
+none_after : (m : Files) (name : List ℕ) → (Lacks (Some m) name → ⊥) → appended name [] m ≡ m
+none_after m name there =
     ap (insert m name) (append-nil (content m name))
     ∙ same_map nat_list_cmp_total (slice_cmp-IsAntisymmetric nat_cmp-IsAntisymmetric) _ _
     (λ q. get-insert nat_list_cmp_total m name (content m name) q ∙ own_at m name q there (same_name q name) refl)
 
 pub none_appended : (o : Option Files) (name : List ℕ) → (Lacks o name → ⊥) → o ≡ option_map (appended name []) o
 none_appended None name there = refl
-none_appended (Some m) name there = ap (λ (n : Files). Some n) (sym (none_behind m name there))
+none_appended (Some m) name there = ap (λ (n : Files). Some n) (sym (none_after m name there))
 
--- a front of what belongs there
-front : (whole xs rest : List ℕ) → whole ≡ xs ++ rest → take (length xs) whole ≡ xs
-front whole xs rest is = ap (take (length xs)) is ∙ take-append_seam xs rest
+-- a prefix of what belongs there
+prefix : (whole xs rest : List ℕ) → whole ≡ xs ++ rest → take (length xs) whole ≡ xs
+prefix whole xs rest is = ap (take (length xs)) is ∙ take-append_seam xs rest
 
 -- some of the piece, and what follows it
 cut_off : (whole xs piece rest : List ℕ) (n : ℕ) → whole ≡ (xs ++ piece) ++ rest → whole ≡ (xs ++ take n piece) ++ (drop n piece ++ rest)
@@ -41,13 +41,13 @@ cut_off whole xs piece rest n is =
     ∙ ap (λ (ys : List ℕ). ys ++ rest) (sym (append_assoc xs (take n piece) (drop n piece)))
     ∙ append_assoc (xs ++ take n piece) (drop n piece) rest
 
--- pieces one after the other behind one file, where one stopped
+-- pieces one after the other after one file, where one stopped
 pub piece_stopped : (o before now : Option Files) (name so_far piece all rest : List ℕ) → before ≡ option_map (appended name so_far) o → AppendedSome name piece before now → all ≡ (so_far ++ piece) ++ rest
     → AppendedSome name all o now
 piece_stopped o before now name so_far piece all rest was (inl same) is =
     let at : all ≡ so_far ++ (piece ++ rest) = is ∙ append_assoc so_far piece rest in
     let l : length all ≡ length so_far + length (piece ++ rest) = ap length at ∙ length-append so_far (piece ++ rest) in
-    inr (length so_far, omega (arith, l), same ∙ was ∙ ap (λ (bytes : List ℕ). option_map (appended name bytes) o) (sym (front all so_far (piece ++ rest) at)))
+    inr (length so_far, omega (arith, l), same ∙ was ∙ ap (λ (bytes : List ℕ). option_map (appended name bytes) o) (sym (prefix all so_far (piece ++ rest) at)))
 piece_stopped o before now name so_far piece all rest was (inr (n, fits, more)) is =
     let at : all ≡ (so_far ++ take n piece) ++ (drop n piece ++ rest) = cut_off all so_far piece rest n is in
     let l : length all ≡ length (so_far ++ take n piece) + length (drop n piece ++ rest) = ap length at ∙ length-append (so_far ++ take n piece) (drop n piece ++ rest) in
@@ -55,19 +55,19 @@ piece_stopped o before now name so_far piece all rest was (inr (n, fits, more)) 
       length (so_far ++ take n piece),
       omega (arith, l),
       more ∙ ap (option_map (appended name (take n piece))) was ∙ then_appended o name so_far (take n piece)
-          ∙ ap (λ (bytes : List ℕ). option_map (appended name bytes) o) (sym (front all (so_far ++ take n piece) (drop n piece ++ rest) at)),
+          ∙ ap (λ (bytes : List ℕ). option_map (appended name bytes) o) (sym (prefix all (so_far ++ take n piece) (drop n piece ++ rest) at)),
     )
 
 module _ (sound order : List ℕ) (ne : sound ≢ order) where
   pub both_none : (o : Option Files) → (Lacks o sound → ⊥) → (Lacks o order → ⊥) → o ≡ option_map (both_appended sound [] order []) o
   both_none None s t = refl
-  both_none (Some m) s t = ap (λ (n : Files). Some n) (sym (ap (appended order []) (none_behind m sound s) ∙ none_behind m order t))
+  both_none (Some m) s t = ap (λ (n : Files). Some n) (sym (ap (appended order []) (none_after m sound s) ∙ none_after m order t))
 
   other_kept : (m : Files) (x : List ℕ) → content (insert m sound x) order ≡ content m order
   other_kept m x = ap (λ o. unwrap_or o []) (get-insert_other m sound x order (λ e. ne (sym e)))
 
-  behind_both : (m : Files) (a b z : List ℕ) → appended sound z (both_appended sound a order b m) ≡ both_appended sound (a ++ z) order b m
-  behind_both m a b z =
+  after_both : (m : Files) (a b z : List ℕ) → appended sound z (both_appended sound a order b m) ≡ both_appended sound (a ++ z) order b m
+  after_both m a b z =
       let x : List ℕ = content m sound ++ a in
       let x' : List ℕ = content m sound ++ (a ++ z) in
       let e : x ++ z ≡ x' = append_assoc (content m sound) a z in
@@ -78,7 +78,7 @@ module _ (sound order : List ℕ) (ne : sound ≢ order) where
       → before ≡ option_map (both_appended sound a order b) o → now ≡ option_map (appended sound z) before → now ≡ option_map (both_appended sound (a ++ z) order b) o
   sound_grows o before now a b z was is =
       is ∙ ap (option_map (appended sound z)) was ∙ then_mapped (both_appended sound a order b) (appended sound z) o
-      ∙ mapped_alike _ _ (λ m. behind_both m a b z) o
+      ∙ mapped_alike _ _ (λ m. after_both m a b z) o
 
   pub order_grows : (o before now : Option Files) (a b z : List ℕ)
       → before ≡ option_map (both_appended sound a order b) o → now ≡ option_map (appended order z) before → now ≡ option_map (both_appended sound a order (b ++ z)) o
@@ -105,7 +105,7 @@ module _ (sound order : List ℕ) (ne : sound ≢ order) where
   begun_at : (o now : Option Files) (a b samples lines rest rest' : List ℕ) → now ≡ option_map (both_appended sound a order b) o → samples ≡ a ++ rest → lines ≡ b ++ rest'
       → BothBegun sound samples order lines o now
   begun_at o now a b samples lines rest rest' is at_a at_b =
-      (length a, length b, is ∙ (λ i. option_map (both_appended sound (sym (front samples a rest at_a) i) order (sym (front lines b rest' at_b) i)) o))
+      (length a, length b, is ∙ (λ i. option_map (both_appended sound (sym (prefix samples a rest at_a) i) order (sym (prefix lines b rest' at_b) i)) o))
 
   -- both are whole
   pub whole_begun : (o now : Option Files) (samples lines : List ℕ) → now ≡ option_map (both_appended sound samples order lines) o → BothBegun sound samples order lines o now

@@ -68,15 +68,15 @@ line_after a b h = h.1.line
 pub logs_join : (a b c : RendererView) → LogsSome a b → LogsSome b c → LogsSome a c
 logs_join a b c h k = (h.0 + k.0, logs_got h.0 k.0 a b c h.1 k.1)
 
--- what was in the journal is its front
-pub front_kept : (a b : RendererView) (x : TakeOne) → TookOne x a b → (take (length a.journal) b.journal ≡ a.journal) × (length a.journal ≤ length b.journal)
-front_kept a b one.Got t =
+-- what was in the journal is its prefix
+pub prefix_kept : (a b : RendererView) (x : TakeOne) → TookOne x a b → (take (length a.journal) b.journal ≡ a.journal) × (length a.journal ≤ length b.journal)
+prefix_kept a b one.Got t =
     let e = t.1.journal in
     (ap (take (length a.journal)) e ∙ take-append_seam a.journal (map (logged_at a.blocks) t.1.entries), (let l = ap length e in let m = length-append a.journal (map (logged_at a.blocks) t.1.entries) in omega (arith, l, m)))
-front_kept a b one.Empty t = let e = ap (λ (r : RendererView). r.journal) t.1 in (ap (take (length a.journal)) e ∙ take-length a.journal, (let l = ap length e in omega (arith, l)))
-front_kept a b one.NoRoom t = let e = ap (λ (r : RendererView). r.journal) t.1 in (ap (take (length a.journal)) e ∙ take-length a.journal, (let l = ap length e in omega (arith, l)))
+prefix_kept a b one.Empty t = let e = ap (λ (r : RendererView). r.journal) t.1 in (ap (take (length a.journal)) e ∙ take-length a.journal, (let l = ap length e in omega (arith, l)))
+prefix_kept a b one.NoRoom t = let e = ap (λ (r : RendererView). r.journal) t.1 in (ap (take (length a.journal)) e ∙ take-length a.journal, (let l = ap length e in omega (arith, l)))
 
-pub front_logged : (a b : RendererView) → LogsSome a b → (take (length a.journal) b.journal ≡ a.journal) × (length a.journal ≤ length b.journal)
-front_logged a b h =
+pub prefix_logged : (a b : RendererView) → LogsSome a b → (take (length a.journal) b.journal ≡ a.journal) × (length a.journal ≤ length b.journal)
+prefix_logged a b h =
     let e = h.1.journal in
     (ap (take (length a.journal)) e ∙ take-append_seam a.journal (map (logged_at a.blocks) h.1.entries), (let l = ap length e in let m = length-append a.journal (map (logged_at a.blocks) h.1.entries) in omega (arith, l, m)))

@@ -26,19 +26,19 @@ lines_split items i x lt is =
     ∙ flat_map-append order_line (journal_data (take (i + 1) items)) (journal_data (drop (i + 1) items))
     ∙ ap (λ (xs : List ℕ). xs ++ order_lines (journal_data (drop (i + 1) items))) (lines_push items i x lt is)
 
-data_behind : (n : ℕ) (items : List Logged) → journal_data (drop n items) ≡ drop n (journal_data items)
-data_behind zero items = refl
-data_behind (suc n) [] = refl
-data_behind (suc n) (x ∷ items) = data_behind n items
+data_after : (n : ℕ) (items : List Logged) → journal_data (drop n items) ≡ drop n (journal_data items)
+data_after zero items = refl
+data_after (suc n) [] = refl
+data_after (suc n) (x ∷ items) = data_after n items
 
 -- the entries from a number on
 pub lines_more : (before journal : List LoggedData) (items new : List Logged) (n : ℕ) → journal_data items ≡ journal → take n journal ≡ before → new ≡ drop n items
     → order_lines journal ≡ order_lines before ++ order_lines (journal_data new)
-lines_more before journal items new n same front is =
-    let back : drop n journal ≡ journal_data new = sym (ap journal_data is ∙ data_behind n items ∙ ap (drop n) same) in
-    ap order_lines (sym (take-append-drop n journal)) ∙ flat_map-append order_line (take n journal) (drop n journal) ∙ (λ i. order_lines (front i) ++ order_lines (back i))
+lines_more before journal items new n same prefix is =
+    let back : drop n journal ≡ journal_data new = sym (ap journal_data is ∙ data_after n items ∙ ap (drop n) same) in
+    ap order_lines (sym (take-append-drop n journal)) ∙ flat_map-append order_line (take n journal) (drop n journal) ∙ (λ i. order_lines (prefix i) ++ order_lines (back i))
 
-pub behind_all : (P : LoggedData → Type 0) (journal : List LoggedData) (items new : List Logged) (n : ℕ) → journal_data items ≡ journal → new ≡ drop n items → All P journal → All P (journal_data new)
-behind_all P journal items new n same is all =
-    subst (All P) (sym (ap journal_data is ∙ data_behind n items ∙ ap (drop n) same))
+pub after_all : (P : LoggedData → Type 0) (journal : List LoggedData) (items new : List Logged) (n : ℕ) → journal_data items ≡ journal → new ≡ drop n items → All P journal → All P (journal_data new)
+after_all P journal items new n same is all =
+    subst (All P) (sym (ap journal_data is ∙ data_after n items ∙ ap (drop n) same))
     (λ k d lt. let l = length-drop n journal in subst P (sym (get_or-drop n journal k d)) (all (n + k) d (omega (arith, l, lt))))

@@ -17,7 +17,7 @@ use Rattle.players.proofs.Turns.{length-entries}
 use Rattle.live_renderer.specs.Renderer.{RendererView, KeepsSound}
 use Rattle.turns.specs.Turns.{blocks_of, AreFresh, IsFreshRenderer, IsFresh}
 use Rattle.turns.specs.Steps.{LogsSome, at_block, Noted, HadTurns, HaveTurned, AfterTurns}
-use Rattle.turns.proofs.Logging.{logs_join, front_logged}
+use Rattle.turns.proofs.Logging.{logs_join, prefix_logged}
 use Rattle.turns.proofs.Noting.{blocks_append}
 
 pub dues_append : (xs ys : List PlannedData) → dues (xs ++ ys) ≡ dues xs ++ dues ys
@@ -58,10 +58,10 @@ pub player_more : (t k : ℕ) (journal : List LoggedData) (xs : List EntryData) 
 player_more t k journal xs p q q1 q2 small h turned end left logged met =
     let a = turned.0 in
     let more : List PlannedData = a.sent in
-    let front : length q.end.list ≡ length h.sent = ap length h.list ∙ length-entries k 0 h.sent in
+    let prefix : length q.end.list ≡ length h.sent = ap length h.list ∙ length-entries k 0 h.sent in
     let number : q.end.number ≡ k = h.number ∙ h.own in
     let list : q1.end.list ≡ entries k 0 (h.sent ++ more) =
-    a.list ∙ (λ i. h.list i ++ entries (number i) (front i) more) ∙ (λ i. entries k 0 h.sent ++ entries k (sym (zero-add (length h.sent)) i) more) ∙ sym (entries_append k 0 h.sent more) in
+    a.list ∙ (λ i. h.list i ++ entries (number i) (prefix i) more) ∙ (λ i. entries k 0 h.sent ++ entries k (sym (zero-add (length h.sent)) i) more) ∙ sym (entries_append k 0 h.sent more) in
     let list2 : q2.end.list ≡ entries k 0 (h.sent ++ more) = ap (λ (e : SendView). e.list) end ∙ list in
     let many : length (blocks_of k (journal ++ map (logged_at t) xs)) ≡ length (blocks_of k journal) + length (dues more) =
     let l : length q2.end.list ≡ length h.sent + length more = ap length list2 ∙ length-entries k 0 (h.sent ++ more) ∙ length-append h.sent more in
@@ -142,7 +142,7 @@ pub noted_start : (t : ℕ) (line : LineView) (before : List PlayerView) (r r1 :
     → Noted (take (length items) r1.journal) ps1 ps1
 noted_start t line before r r1 items ps ps1 h turned many logs same =
     let len : length items ≡ length r.journal = sym (length-map items logged_data) ∙ ap length same in
-    subst (λ (j : List LoggedData). Noted j ps1 ps1) (sym (ap (λ (n : ℕ). take n r1.journal) len ∙ (front_logged (at_block t r) r1 logs).0))
+    subst (λ (j : List LoggedData). Noted j ps1 ps1) (sym (ap (λ (n : ℕ). take n r1.journal) len ∙ (prefix_logged (at_block t r) r1 logs).0))
     (noted_first t line before r ps ps1 h turned many)
 
 ready_same : (line : LineView) (p q : PlayerView) → IsReady line p → q.end ≡ p.end → q.left ≡ p.left → IsReady line q

@@ -12,7 +12,7 @@ use Rattle.live_renderer.specs.Renderer.{RendererView, KeepsSound}
 use Rattle.turns.specs.Steps.{LogsSome, at_block, block_before}
 use Rattle.turns.specs.Written.{order_lines, both_appended, BothBegun}
 use Rattle.turns.proofs.Logging.{keeps_more}
-use Rattle.turns.proofs.Sounds.{sounded, wav_front, wav_more, wav_none}
+use Rattle.turns.proofs.Sounds.{sounded, wav_prefix, wav_more, wav_none}
 use Rattle.turns.proofs.Appending.{both_none, sound_grows, order_grows, sound_stopped, order_stopped}
 
 pub heard_before : (t : ℕ) (r r1 r2 : RendererView) (samples : List ℤ) → LogsSome (at_block t r) r1 → KeepsSound (at_block t r) r1 → KeepsSound r1 r2 → (0 < t → samples ≡ sound r.journal (t - 1))
@@ -54,9 +54,9 @@ cause_from (Err e) before now other_before other_now first other_first P same ot
   at (inl rose) = inl (subst (λ (k : ℕ). Rose k now) same rose)
   at (inr p) = absurd (never p)
 
-lines_front : (before journal : List LoggedData) (n : ℕ) → take n journal ≡ before → order_lines journal ≡ order_lines before ++ order_lines (drop n journal)
-lines_front before journal n front =
-    ap order_lines (sym (take-append-drop n journal)) ∙ flat_map-append order_line (take n journal) (drop n journal) ∙ ap (λ (j : List LoggedData). order_lines j ++ order_lines (drop n journal)) front
+lines_prefix : (before journal : List LoggedData) (n : ℕ) → take n journal ≡ before → order_lines journal ≡ order_lines before ++ order_lines (drop n journal)
+lines_prefix before journal n prefix =
+    ap order_lines (sym (take-append-drop n journal)) ∙ flat_map-append order_line (take n journal) (drop n journal) ∙ ap (λ (j : List LoggedData). order_lines j ++ order_lines (drop n journal)) prefix
 
 module _ (sound_name order : List ℕ) (ne : sound_name ≢ order) (o : Option Files) where
   -- before the first turn
@@ -72,10 +72,10 @@ module _ (sound_name order : List ℕ) (ne : sound_name ≢ order) (o : Option F
       → before ≡ option_map (both_appended sound_name (wav_blocks old (t - 1)) order (order_lines old)) o → AppendedSome sound_name (block_before t samples) before now
       → wav_blocks journal t ≡ wav_blocks old (t - 1) ++ block_before t samples → take n journal ≡ old
       → BothBegun sound_name (wav_blocks journal blocks) order (order_lines journal) o now
-  block_stopped before now t blocks n old journal samples le was some heard front =
-      let w = wav_front journal t blocks le in
+  block_stopped before now t blocks n old journal samples le was some heard prefix =
+      let w = wav_prefix journal t blocks le in
       sound_stopped sound_name order ne o before now (wav_blocks old (t - 1)) (order_lines old) (block_before t samples) (wav_blocks journal blocks) (order_lines journal) w.0 (order_lines (drop n journal)) was some
-      (w.1 ∙ ap (λ (xs : List ℕ). xs ++ w.0) heard) (lines_front old journal n front)
+      (w.1 ∙ ap (λ (xs : List ℕ). xs ++ w.0) heard) (lines_prefix old journal n prefix)
 
   pub block_written : (before now : Option Files) (t : ℕ) (old journal : List LoggedData) (samples : List ℤ)
       → before ≡ option_map (both_appended sound_name (wav_blocks old (t - 1)) order (order_lines old)) o → now ≡ option_map (appended sound_name (block_before t samples)) before
@@ -90,7 +90,7 @@ module _ (sound_name order : List ℕ) (ne : sound_name ≢ order) (o : Option F
       → order_lines journal ≡ order_lines old ++ order_lines new
       → BothBegun sound_name (wav_blocks journal blocks) order (order_lines journal) o now
   lines_stopped before now t blocks old journal new le was some lines =
-      let w = wav_front journal t blocks le in
+      let w = wav_prefix journal t blocks le in
       order_stopped sound_name order ne o before now (wav_blocks journal t) (order_lines old) (order_lines new) (wav_blocks journal blocks) (order_lines journal) w.0 [] was some w.1
       (lines ∙ sym (append-nil (order_lines old ++ order_lines new)))
 

@@ -24,7 +24,8 @@ HaveTurned line t before now = AreReady line now × AllTurned t before now
 
 -- the block before a turn was rendered, where there is one, and some entries were taken at the turn
 abbrev pub HasRendered : ℕ → RendererView → RendererView → List ℤ → Type 0
-HasRendered t before now samples = LogsSome (at_block t before) now × KeepsSound (at_block t before) now × (0 < t → samples ≡ sound before.journal (t - 1))
+HasRendered t before now samples =
+    LogsSome (at_block t before) now × KeepsSound (at_block t before) now × (0 < t → samples ≡ sound before.journal (t - 1))
 
 -- the bytes of the block before a turn
 abbrev pub block_before : ℕ → List ℤ → List ℕ
@@ -34,9 +35,11 @@ block_before (suc t) samples = wav_block samples
 -- the players are as before, but for the entries of each that were found in the journal
 pub record Noted (journal : List LoggedData) (before now : List PlayerView) : Type 0 where
   pub many : length now ≡ length before
-  pub each : (k : ℕ) (d : PlayerView) → k < length before → slice_index_or now k d ≡ record (slice_index_or before k d) { logged = length (blocks_of k journal) }
+  pub each : (k : ℕ) (d : PlayerView) → k < length before
+      → slice_index_or now k d ≡ record (slice_index_or before k d) { logged = length (blocks_of k journal) }
 
--- What holds of script k after some turns. Its first commands were sent, as its entries, and as many entries of it are in the journal; and what holds of their blocks.
+-- What holds of script k after some turns. Its first commands were sent, as its entries, and as many entries of it are in the journal; and
+-- what holds of their blocks.
 pub record HadTurns (t : ℕ) (journal : List LoggedData) (k : ℕ) (p q : PlayerView) : Type 0 where
   pub sent : List PlannedData
   pub split : p.left ≡ sent ++ q.left

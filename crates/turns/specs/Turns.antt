@@ -37,14 +37,15 @@ pub record IsFresh (line : LineView) (k : ℕ) (p : PlayerView) : Type 0 where
 
 -- all ends of the line have such a player, in order
 abbrev pub AreFresh : LineView → List PlayerView → Type 0
-AreFresh line players = (length players ≡ length line.quotas) × ((k : ℕ) (d : PlayerView) → k < length players → IsFresh line k (slice_index_or players k d))
+AreFresh line players =
+    (length players ≡ length line.quotas) × ((k : ℕ) (d : PlayerView) → k < length players → IsFresh line k (slice_index_or players k d))
 
 -- a renderer of the line that took nothing and rendered nothing
 abbrev pub IsFreshRenderer : LineView → RendererView → Type 0
 IsFreshRenderer line r = (r.taker ≡ new_taker line) × (r.journal ≡ []) × (r.blocks ≡ 0)
 
--- What holds of script k wherever the turns end. What its end accepted are the first commands of its plan, as its entries, and the others are left in its player. The journal has as many entries
--- of it as its end accepted, each logged at the command's due block or above.
+-- What holds of script k wherever the turns end. What its end accepted are the first commands of its plan, as its entries, and the others
+-- are left in its player. The journal has as many entries of it as its end accepted, each logged at the command's due block or above.
 pub record HasPlayed (line : LineView) (k : ℕ) (plan : List PlannedData) (journal : List LoggedData) (player : PlayerView) : Type 0 where
   pub sent : List PlannedData
   pub split : plan ≡ sent ++ player.left
@@ -60,7 +61,8 @@ pub record HavePlayed (line : LineView) (plans : List (List PlannedData)) (journ
   pub quotas : line.quotas ≡ map length plans
   pub each : (k : ℕ) (d : PlayerView) → k < length plans → HasPlayed line k (plan_of plans k) journal (slice_index_or players k d)
 
--- What all turns say of each script: as many refusals as late turns; delays of at most so many blocks; and a late or left command only where the line has few places.
+-- What all turns say of each script: as many refusals as late turns; delays of at most so many blocks; and a late or left command only where
+-- the line has few places.
 abbrev pub AreOnTime : LineView → ℕ → List (List PlannedData) → List LoggedData → List PlayerView → Type 0
 AreOnTime line blocks plans journal players = (k : ℕ) (d : PlayerView) → k < length plans
     → AreTimed line.places (others_than plans k) blocks (dues (plan_of plans k)) (blocks_of k journal) (slice_index_or players k d).end.refusals

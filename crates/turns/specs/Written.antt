@@ -1,4 +1,4 @@
--- What is written behind the sound file's bytes and the order file's while the turns run.
+-- What is written after the sound file's bytes and the order file's while the turns run.
 use Rattle.std.specs.Prelude.{◌≡◌, ℕ, List, Option, option_map, take}
 use Rattle.std.specs.List.{flat_map}
 use Rattle.command_set.specs.Entries.{LoggedData}
@@ -9,10 +9,16 @@ use Rattle.take_files.specs.Files.{order_line}
 abbrev pub order_lines : List LoggedData → List ℕ
 order_lines journal = flat_map order_line journal
 
--- the files with some bytes behind the sound's own, and some behind the order's
+-- the files with some bytes after the sound's own, and some after the order's
 abbrev pub both_appended : List ℕ → List ℕ → List ℕ → List ℕ → Files → Files
 both_appended sound samples order lines files = appended order lines (appended sound samples files)
 
--- Of the bytes that belong behind the sound's own some from the front were appended, and so were some of those that belong behind the order's. All other files are as before.
+-- Of the bytes that belong after the sound's own a prefix was appended, and so was a prefix of those that belong after the order's. All
+-- other files are as before.
 abbrev pub BothBegun : List ℕ → List ℕ → List ℕ → List ℕ → Option Files → Option Files → Type 0
-BothBegun sound samples order lines before now = (m n : ℕ) × (now ≡ option_map (both_appended sound (take m samples) order (take n lines)) before)
+BothBegun sound samples order lines before now =
+    (m n : ℕ) × (now ≡ option_map (both_appended sound (take m samples) order (take n lines)) before)
+
+-- nothing is held back of the two files
+abbrev pub HoldsNothing : (List ℕ → ℕ) → List ℕ → List ℕ → Type 0
+HoldsNothing held sound order = (held sound ≡ 0) × (held order ≡ 0)

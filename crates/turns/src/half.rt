@@ -8,7 +8,7 @@ ghost use Rattle.turns.specs.Steps.{LogsSome, at_block, HaveTurned, HasRendered}
 use command_queue::Line;
 use live_renderer::{LiveRenderer, TakeOne};
 use outside::Gate;
-use players::{Player, are_due, play_all};
+use players::{Player, are_due, last_due, play_all};
 use std::sync::Wait;
 use std::thread::{Threads, join_mut};
 
@@ -61,7 +61,52 @@ fn render_and_take<R: Wait, G: Gate>(
     gate.done(actor);
 }
 
-/// Both halves of a turn, beside each other where some script has something due.
+// Both halves of a turn, where the players stand in two lists. The players of the second have their turn on this thread, before the
+// renderer takes; those of the first have theirs beside it, where some of them have something due.
+fn run_parts<R: Threads + Wait + Sync, G: Gate>(
+    rt: &R,
+    line: &Line,
+    gate: &G,
+    t: u32,
+    actor: u32,
+    renderer: &mut LiveRenderer,
+    samples: &mut [i16; 64],
+    first: &mut [Player],
+    second: &mut [Player],
+)
+    requires line { renderer.old.taker.line ≡ line.now }
+    requires t { t < 4294967295 }
+    requires blocks { renderer.old.blocks ≡ t - 1 }
+    requires first { AreReady line.now first.old }
+    requires second { AreReady line.now second.old }
+    ensures first { HaveTurned line.now t first.old first.new }
+    ensures second { HaveTurned line.now t second.old second.new }
+    ensures rendered { HasRendered t renderer.old renderer.new samples.new }
+{
+    if !are_due(first, t) {
+        play_all(rt, line, gate, t, second);
+        render_and_take(rt, line, gate, t, actor, renderer, samples);
+        return;
+    }
+    join_mut(
+        rt,
+        &mut ||
+            requires { AreReady line.now first.now }
+            ensures { HaveTurned line.entry.now t first.entry.now first.exit.now }
+        { play_all(rt, line, gate, t, first) },
+        &mut ||
+            requires { AreReady line.now second.now × (renderer.now.taker.line ≡ line.now) × (t < 4294967295) × (renderer.now.blocks ≡ t - 1) }
+            ensures { HaveTurned line.entry.now t second.entry.now second.exit.now
+                × HasRendered t renderer.entry.now renderer.exit.now samples.exit.now }
+        {
+            play_all(rt, line, gate, t, second);
+            render_and_take(rt, line, gate, t, actor, renderer, samples)
+        },
+    );
+}
+
+/// Both halves of a turn. Of the scripts that have something due the last one sends on this thread, before the renderer takes, and each other
+/// one on a thread of its own.
 pub(crate) fn run_halves<R: Threads + Wait + Sync, G: Gate>(
     rt: &R,
     line: &Line,
@@ -83,15 +128,7 @@ pub(crate) fn run_halves<R: Threads + Wait + Sync, G: Gate>(
         render_and_take(rt, line, gate, t, actor, renderer, samples);
         return;
     }
-    join_mut(
-        rt,
-        &mut ||
-            requires { AreReady line.now players.now }
-            ensures { HaveTurned line.entry.now t players.entry.now players.exit.now }
-        { play_all(rt, line, gate, t, players) },
-        &mut ||
-            requires { (renderer.now.taker.line ≡ line.now) × (t < 4294967295) × (renderer.now.blocks ≡ t - 1) }
-            ensures { HasRendered t renderer.entry.now renderer.exit.now samples.exit.now }
-        { render_and_take(rt, line, gate, t, actor, renderer, samples) },
-    );
+    let last = last_due(players, t);
+    let (first, second) = players.split_at_mut(last);
+    run_parts(rt, line, gate, t, actor, renderer, samples, first, second);
 }

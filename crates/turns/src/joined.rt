@@ -11,7 +11,7 @@ ghost use Rattle.script_plan.specs.Plan.{PlannedData, dues};
 ghost use Rattle.players.specs.Players.{PlayerView};
 ghost use Rattle.turns.specs.Turns.{AreFresh, IsFreshRenderer, HavePlayed, AreOnTime, plans_of, many_commands};
 ghost use Rattle.turns.specs.Timed.{ArePlayed, IsTimed};
-ghost use Rattle.turns.specs.Written.{order_lines, both_appended, BothBegun};
+ghost use Rattle.turns.specs.Written.{order_lines, both_appended, BothBegun, HoldsNothing};
 
 use crate::target::Target;
 use crate::turns::run_turns;
@@ -36,10 +36,11 @@ fn ends_of(players: Vec<Player>, ends: Vec<SendEnd>) -> Vec<SendEnd>
     ends
 }
 
-/// Joins the ends of the players after `play_turns`, whatever it answered, takes what rests in the line, and gives the journal. `ends` is empty and has room for an end for each player.
+/// Joins the ends of the players after `play_turns`, whatever it answered, takes what rests in the line, and gives the journal. `ends` is
+/// empty and has room for an end for each player.
 ///
-/// Of the plans that the players were handed in, the journal's entries of each script are just those of the first commands (`played`); and after all turns a command is late or left only where the
-/// line has few places (`timed`).
+/// Of the plans that the players were handed in, the journal's entries of each script are just those of the first commands (`played`); and
+/// after all turns a command is late or left only where the line has few places (`timed`).
 pub fn close<R: Wait>(
     rt: &R,
     line: Line,
@@ -55,8 +56,8 @@ pub fn close<R: Wait>(
     ensures ranges { All (λ l. IsInRange l.entry.command) renderer.journal }
     ensures order { AreTakenUpTo renderer.blocks renderer.journal }
     ensures played { (plans : List (List PlannedData)) → HavePlayed line plans renderer.journal players.items → ArePlayed renderer.journal plans }
-    ensures timed { (plans : List (List PlannedData)) (blocks : ℕ) → HavePlayed line plans renderer.journal players.items → AreOnTime line blocks plans renderer.journal players.items
-        → IsTimed renderer.journal plans line.places }
+    ensures timed { (plans : List (List PlannedData)) (blocks : ℕ) → HavePlayed line plans renderer.journal players.items
+        → AreOnTime line blocks plans renderer.journal players.items → IsTimed renderer.journal plans line.places }
 {
     let (taker, journal) = renderer.into_parts();
     let ends = ends_of(players, ends);
@@ -69,7 +70,8 @@ pub fn close<R: Wait>(
     journal
 }
 
-/// Plays the scripts of all players to their end, or until the shelf fails, by `run_turns` and `close`, and gives the journal with the answer of `run_turns`.
+/// Plays the scripts of all players to their end, or until the shelf fails, by `run_turns` and `close`, and gives the journal with the
+/// answer of `run_turns`.
 pub fn play_scripts<R: Threads + Wait + Sync, S: Shelf, G: Gate>(
     rt: &R,
     line: Line,
@@ -96,10 +98,13 @@ pub fn play_scripts<R: Threads + Wait + Sync, S: Shelf, G: Gate>(
     ensures order { AreTakenUpTo (blocks - 1) (journal_data result.0.items) }
     ensures played { ArePlayed (journal_data result.0.items) (plans_of players.items) }
     ensures timed { OnOk result.1 (IsTimed (journal_data result.0.items) (plans_of players.items) line.places) }
-    ensures whole { OnOk result.1 (S.files shelf.new ≡ option_map (both_appended sound.now (wav_blocks (journal_data result.0.items) blocks) order.now (order_lines (journal_data result.0.items))) (S.files shelf.old)) }
-    ensures begun { OnErr result.1 (BothBegun sound.now (wav_blocks (journal_data result.0.items) blocks) order.now (order_lines (journal_data result.0.items)) (S.files shelf.old) (S.files shelf.new)) }
+    ensures whole { OnOk result.1 (S.files shelf.new ≡ option_map (both_appended sound.now (wav_blocks (journal_data result.0.items) blocks)
+        order.now (order_lines (journal_data result.0.items))) (S.files shelf.old)) }
+    ensures begun { OnErr result.1 (BothBegun sound.now (wav_blocks (journal_data result.0.items) blocks)
+        order.now (order_lines (journal_data result.0.items)) (S.files shelf.old) (S.files shelf.new)) }
     ensures cause { HasCause (S.writing shelf.old) (S.writing shelf.new) (S.reading shelf.old) (S.reading shelf.new) ⊥ result.1 }
     ensures reads { S.reads shelf.new ≡ S.reads shelf.old }
+    ensures written_out { OnOk result.1 (HoldsNothing (S.held shelf.new) sound.now order.now) }
 {
     let mut renderer = renderer;
     let mut players = players;

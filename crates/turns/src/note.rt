@@ -15,7 +15,8 @@ use std::sync::Wait;
 fn note_one(logged: &Logged, players: &mut [Player])
     requires script { logged.now.entry.script < length players.old }
     requires count { (d : PlayerView) → (slice_index_or players.old logged.now.entry.script d).logged < 18446744073709551615 }
-    ensures { (journal : List LoggedData) (before : List PlayerView) → Noted journal before players.old → Noted (journal ++ logged_data logged.now ∷ []) before players.new }
+    ensures { (journal : List LoggedData) (before : List PlayerView) → Noted journal before players.old
+        → Noted (journal ++ logged_data logged.now ∷ []) before players.new }
 {
     let player = &mut players[logged.entry.script as usize];
     player.note();
@@ -26,7 +27,8 @@ fn note_new(renderer: &LiveRenderer, seen: usize, players: &mut [Player])
     requires scripts { length players.old ≡ length renderer.now.taker.line.quotas }
     requires noted { (before : List PlayerView) × Noted (take seen renderer.now.journal) before players.old }
     requires seen { seen ≤ length renderer.now.journal }
-    ensures noted { (before : List PlayerView) → Noted (take seen renderer.now.journal) before players.old → Noted renderer.now.journal before players.new }
+    ensures noted { (before : List PlayerView) → Noted (take seen renderer.now.journal) before players.old
+        → Noted renderer.now.journal before players.new }
     ensures live { IsLive renderer.now }
 {
     let journal = renderer.journal();
@@ -61,7 +63,8 @@ pub(crate) fn settle<R: Wait>(
     requires noted { (before : List PlayerView) × Noted (take seen renderer.old.journal) before players.old }
     ensures took { LogsSome renderer.old renderer.new }
     ensures kept { KeepsSound renderer.old renderer.new }
-    ensures noted { (before : List PlayerView) → Noted (take seen renderer.old.journal) before players.old → Noted renderer.new.journal before players.new }
+    ensures noted { (before : List PlayerView) → Noted (take seen renderer.old.journal) before players.old
+        → Noted renderer.new.journal before players.new }
     ensures logged { All (λ p. p.logged ≡ length p.end.list) players.new }
     ensures live { IsLive renderer.new }
 {

@@ -28,9 +28,11 @@ pub(crate) fn run_turn<R: Threads + Wait + Sync, G: Gate>(
     requires t { t < 4294967295 }
     requires scripts { length players.old ≡ length line.now.quotas }
     requires turns { (before : List PlayerView) × AfterTurns t line.now before renderer.old players.old }
-    ensures turns { (before : List PlayerView) → AfterTurns t line.now before renderer.old players.old → AfterTurns (t + 1) line.now before renderer.new players.new }
+    ensures turns { (before : List PlayerView) → AfterTurns t line.now before renderer.old players.old
+        → AfterTurns (t + 1) line.now before renderer.new players.new }
     ensures heard { wav_blocks renderer.new.journal t ≡ wav_blocks renderer.old.journal (t - 1) ++ block_before t samples.new }
-    ensures front { (take (length renderer.old.journal) renderer.new.journal ≡ renderer.old.journal) × (length renderer.old.journal ≤ length renderer.new.journal) }
+    ensures prefix { (take (length renderer.old.journal) renderer.new.journal ≡ renderer.old.journal)
+        × (length renderer.old.journal ≤ length renderer.new.journal) }
     ensures live { IsLive renderer.new }
 {
     let seen = renderer.journal().len();

@@ -8,7 +8,7 @@ ghost use Rattle.lateness.specs.Late.{AllBelow};
 ghost use Rattle.script_plan.specs.Plan.{dues};
 ghost use Rattle.players.specs.Players.{PlayerView};
 ghost use Rattle.turns.specs.Turns.{AreFresh, IsFreshRenderer, HavePlayed, AreOnTime, plans_of, many_commands};
-ghost use Rattle.turns.specs.Written.{order_lines, both_appended, BothBegun};
+ghost use Rattle.turns.specs.Written.{order_lines, both_appended, BothBegun, HoldsNothing};
 
 use crate::target::Target;
 use crate::turn::run_turn;
@@ -47,10 +47,13 @@ pub fn run_turns<R: Threads + Wait + Sync, S: Shelf, G: Gate>(
     ensures within { All (λ l. l.block < blocks) renderer.new.journal }
     ensures on_time { OnOk result (AreOnTime line.now blocks (plans_of players.old) renderer.new.journal players.new) }
     ensures rendered { OnOk result (renderer.new.blocks ≡ blocks) }
-    ensures whole { OnOk result (S.files shelf.new ≡ option_map (both_appended sound.now (wav_blocks renderer.new.journal blocks) order.now (order_lines renderer.new.journal)) (S.files shelf.old)) }
-    ensures begun { OnErr result (BothBegun sound.now (wav_blocks renderer.new.journal blocks) order.now (order_lines renderer.new.journal) (S.files shelf.old) (S.files shelf.new)) }
+    ensures whole { OnOk result (S.files shelf.new ≡ option_map
+        (both_appended sound.now (wav_blocks renderer.new.journal blocks) order.now (order_lines renderer.new.journal)) (S.files shelf.old)) }
+    ensures begun { OnErr result (BothBegun sound.now (wav_blocks renderer.new.journal blocks) order.now (order_lines renderer.new.journal)
+        (S.files shelf.old) (S.files shelf.new)) }
     ensures cause { HasCause (S.writing shelf.old) (S.writing shelf.new) (S.reading shelf.old) (S.reading shelf.new) ⊥ result }
     ensures reads { S.reads shelf.new ≡ S.reads shelf.old }
+    ensures written_out { OnOk result (HoldsNothing (S.held shelf.new) sound.now order.now) }
 {
     append_turns(
         rt, line, renderer, players, blocks, shelf, sound, order, gate,
@@ -84,8 +87,10 @@ fn append_turns<R: Threads + Wait + Sync, S: Shelf, G: Gate>(
     ensures within { All (λ l. l.block < blocks) renderer.new.journal }
     ensures on_time { OnOk result (AreOnTime line.now blocks (plans_of players.old) renderer.new.journal players.new) }
     ensures rendered { OnOk result (renderer.new.blocks ≡ blocks) }
-    ensures whole { OnOk result (S.files shelf.new ≡ option_map (both_appended sound.now (wav_blocks renderer.new.journal blocks) order.now (order_lines renderer.new.journal)) (S.files shelf.old)) }
-    ensures begun { OnErr result (BothBegun sound.now (wav_blocks renderer.new.journal blocks) order.now (order_lines renderer.new.journal) (S.files shelf.old) (S.files shelf.new)) }
+    ensures whole { OnOk result (S.files shelf.new ≡ option_map
+        (both_appended sound.now (wav_blocks renderer.new.journal blocks) order.now (order_lines renderer.new.journal)) (S.files shelf.old)) }
+    ensures begun { OnErr result (BothBegun sound.now (wav_blocks renderer.new.journal blocks) order.now (order_lines renderer.new.journal)
+        (S.files shelf.old) (S.files shelf.new)) }
     ensures cause { HasCause (S.writing shelf.old) (S.writing shelf.new) (S.reading shelf.old) (S.reading shelf.new) ⊥ result }
     ensures reads { S.reads shelf.new ≡ S.reads shelf.old }
 {
@@ -106,12 +111,15 @@ fn append_turns<R: Threads + Wait + Sync, S: Shelf, G: Gate>(
     }
 }
 
-/// Plays all turns. In each the players send what is due, beside the renderer, which renders the block before and takes; then all that was accepted is taken, and logged at the turn's block;
-/// and then the block and the lines of the new entries are appended to the two files. After the last turn the last block is rendered and appended, and the shelf writes out what it holds back. It allocates nothing.
+/// Plays all turns. In each the players send what is due, each that has something due on a thread of its own but the last one, which sends
+/// on this thread; beside them the renderer renders the block before, and it takes once the last one has sent. Then all that was accepted is
+/// taken, and logged at the turn's block; and then the block and the lines of the new entries are appended to the two files. After the last
+/// turn the last block is rendered and appended, and the shelf writes out what it holds back (`written_out`). It allocates nothing.
 ///
-/// `Failed` comes only where the shelf's count of faults of writing rose. Wherever it ends, each end accepted the first commands of its script and the others are left in its player; the journal
-/// has as many entries of each script as its end accepted, each at or above its due block (`played`); and the files have a front of the blocks and of the journal's lines (`begun`). Where all turns
-/// were played, both files are whole (`whole`), and an end was refused exactly once in each of its late turns, by which its delays are bounded (`on_time`).
+/// `Failed` comes only where the shelf's count of faults of writing rose. Wherever it ends, each end accepted the first commands of its
+/// script and the others are left in its player; the journal has as many entries of each script as its end accepted, each at or above its
+/// due block (`played`); and the files have a prefix of the blocks and of the journal's lines (`begun`). Where all turns were played, both
+/// files are whole (`whole`), and an end was refused exactly once in each of its late turns, by which its delays are bounded (`on_time`).
 pub fn play_turns<R: Threads + Wait + Sync, S: Shelf, G: Gate>(
     rt: &R,
     line: &Line,
@@ -137,10 +145,13 @@ pub fn play_turns<R: Threads + Wait + Sync, S: Shelf, G: Gate>(
     ensures within { All (λ l. l.block < blocks) renderer.new.journal }
     ensures on_time { OnOk result (AreOnTime line.now blocks (plans_of players.old) renderer.new.journal players.new) }
     ensures rendered { OnOk result (renderer.new.blocks ≡ blocks) }
-    ensures whole { OnOk result (S.files shelf.new ≡ option_map (both_appended sound.now (wav_blocks renderer.new.journal blocks) order.now (order_lines renderer.new.journal)) (S.files shelf.old)) }
-    ensures begun { OnErr result (BothBegun sound.now (wav_blocks renderer.new.journal blocks) order.now (order_lines renderer.new.journal) (S.files shelf.old) (S.files shelf.new)) }
+    ensures whole { OnOk result (S.files shelf.new ≡ option_map
+        (both_appended sound.now (wav_blocks renderer.new.journal blocks) order.now (order_lines renderer.new.journal)) (S.files shelf.old)) }
+    ensures begun { OnErr result (BothBegun sound.now (wav_blocks renderer.new.journal blocks) order.now (order_lines renderer.new.journal)
+        (S.files shelf.old) (S.files shelf.new)) }
     ensures cause { HasCause (S.writing shelf.old) (S.writing shelf.new) (S.reading shelf.old) (S.reading shelf.new) ⊥ result }
     ensures reads { S.reads shelf.new ≡ S.reads shelf.old }
+    ensures written_out { OnOk result (HoldsNothing (S.held shelf.new) sound.now order.now) }
 {
     match run_turns(
         rt, line, renderer, players, blocks, shelf, sound, order, gate,

@@ -1,11 +1,11 @@
 //! What is made in a turn is appended to the two files.
-ghost use Rattle.std.specs.Prelude.{◌≡◌, All, OnOk, OnErr, option_map};
+ghost use Rattle.std.specs.Prelude.{◌≡◌, ◌≢◌, All, OnOk, OnErr, option_map};
 ghost use Rattle.command_set.specs.Command.{IsInRange};
 ghost use Rattle.command_set.specs.Entries.{journal_data};
 ghost use Rattle.outside.specs.Files.{Lacks, AppendedSome, appended};
 ghost use Rattle.outside.specs.Faults.{HasCause};
 ghost use Rattle.turns.specs.Steps.{block_before};
-ghost use Rattle.turns.specs.Written.{order_lines};
+ghost use Rattle.turns.specs.Written.{HoldsNothing, order_lines};
 
 use crate::target::Target;
 use command_set::{LineText, Logged};
@@ -64,11 +64,13 @@ pub(crate) fn write_out_both<S: Shelf>(
     sound: &str,
     order: &str,
 ) -> Result<(), Target>
+    requires differ { sound.now ≢ order.now }
     requires has_sound { ¬ (Lacks (S.files shelf.old) sound.now) }
     requires has_order { ¬ (Lacks (S.files shelf.old) order.now) }
     ensures files { S.files shelf.new ≡ S.files shelf.old }
     ensures cause { HasCause (S.writing shelf.old) (S.writing shelf.new) (S.reading shelf.old) (S.reading shelf.new) ⊥ result }
     ensures reads { S.reads shelf.new ≡ S.reads shelf.old }
+    ensures written_out { OnOk result (HoldsNothing (S.held shelf.new) sound.now order.now) }
 {
     match write_out(shelf, sound) {
         Ok(()) => {}

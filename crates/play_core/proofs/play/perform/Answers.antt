@@ -6,11 +6,11 @@ use Rattle.outside.specs.Files.{Files}
 use Rattle.command_set.specs.Entries.{journal_data, logged_data}
 use Rattle.take_files.specs.Files.{wav_header, order_header}
 use Rattle.turns.specs.Turns.{plans_of}
-use Rattle.play_core.specs.Words.{asked}
+use Rattle.play_core.specs.Words.{request_data}
 use Rattle.play_core.specs.Verdict.{blocks_of_run, places_of_run, count_all}
 use Rattle.play_core.specs.Files.{with_two}
-use Rattle.play_core.specs.Run.{moment}
-use Rattle.play_core.proofs.Runs.{none_ordered, stopped_at_start, stopped_in_turns, played_whole, run_ordered}
+use Rattle.outside.specs.Snapshot.{snapshot}
+use Rattle.play_core.proofs.Runs.{rose_on, none_ordered, stopped_at_start, stopped_in_turns, played_whole, run_ordered}
 use Rattle.play_core.proofs.Counts.{not_more}
 use Rattle.play_core.proofs.Following.{all_follow}
 use Rattle.play_core.proofs.Stages.{all_due}
@@ -21,43 +21,45 @@ pub play_scripts-journal-requires-clause-due : goal.play_scripts-journal-require
 play_scripts-journal-requires-clause-due g c κs within = all_due c.args.stage.blocks c.args.stage.players.items c.requires.stage.due
 
 pub play_scripts-journal-requires-clause-has_sound : goal.play_scripts-journal-requires-clause-has_sound
-play_scripts-journal-requires-clause-has_sound g c κs within = has_first c.args.request.out.now c.args.request.order.now c.requires.differ _ _ _ _ c.in-Ok.ensures.whole
+play_scripts-journal-requires-clause-has_sound g c κs within = has_first c.args.request.out.now c.args.request.order.now c.requires.request.differ _ _ _ _ c.in-Ok.ensures.whole
 
 pub play_scripts-journal-requires-clause-has_order : goal.play_scripts-journal-requires-clause-has_order
-play_scripts-journal-requires-clause-has_order g c κs within = has_second c.args.request.out.now c.args.request.order.now c.requires.differ _ _ _ _ c.in-Ok.ensures.whole
+play_scripts-journal-requires-clause-has_order g c κs within = has_second c.args.request.out.now c.args.request.order.now c.requires.request.differ _ _ _ _ c.in-Ok.ensures.whole
 
-pub returns-in-Err : goal.returns-in-Err
-returns-in-Err g c =
-    stopped_at_start (asked c.args.request)
-    (moment (g.S.Shelf.files c.args.shelf.now) (g.S.Shelf.reading c.args.shelf.now) (g.S.Shelf.writing c.args.shelf.now) (g.O.Out.written c.args.out.now) (g.O.Out.faults c.args.out.now))
-    (moment (g.S.Shelf.files c.begin_files.new.shelf) (g.S.Shelf.reading c.begin_files.new.shelf) (g.S.Shelf.writing c.begin_files.new.shelf) (g.O.Out.written c.say_stopped.new.out) (g.O.Out.faults c.say_stopped.new.out))
-    c.say_stopped.result (plans_of c.args.stage.players.items) c.requires.differ c.requires.plans c.in-Err.target c.say_stopped.ensures.status
+pub returns-in-Err-clause-run : goal.returns-in-Err-clause-run
+returns-in-Err-clause-run g c =
+    stopped_at_start (request_data c.args.request)
+    (snapshot (g.S.Shelf.files c.args.shelf.now) (g.S.Shelf.reading c.args.shelf.now) (g.S.Shelf.writing c.args.shelf.now) (g.O.Out.written c.args.out.now) (g.O.Out.faults c.args.out.now))
+    (snapshot (g.S.Shelf.files c.stop.new.shelf) (g.S.Shelf.reading c.stop.new.shelf) (g.S.Shelf.writing c.stop.new.shelf) (g.O.Out.written c.stop.new.out) (g.O.Out.faults c.stop.new.out))
+    c.stop.result (plans_of c.args.stage.players.items) c.requires.request.differ c.requires.plans c.in-Err.target c.stop.ensures.status
     (rw (← c.requires.stage.blocks_are)
     (none_ordered c.args.stage.blocks (length (plans_of c.args.stage.players.items)) c.requires.stage.some c.requires.stage.few
-    (omega (arith, c.requires.plans.0, length-map c.args.request.scripts.now string_bytes, c.requires.scripts.0))
-    (omega (arith, c.requires.plans.0, length-map c.args.request.scripts.now string_bytes, c.requires.scripts.1))))
-    (rw (← c.requires.stage.blocks_are, c.requires.plans.0, length-map c.args.request.scripts.now string_bytes) c.in-Err.ensures.stopped)
-    c.in-Err.ensures.cause.other
+    (omega (arith, c.requires.plans.0, length-map c.args.request.scripts.now string_bytes, c.requires.request.scripts.0))
+    (omega (arith, c.requires.plans.0, length-map c.args.request.scripts.now string_bytes, c.requires.request.scripts.1))))
+    (rw (c.stop.ensures.files, ← c.requires.stage.blocks_are, c.requires.plans.0, length-map c.args.request.scripts.now string_bytes) c.in-Err.ensures.stopped)
+    (c.stop.ensures.reading ∙ c.in-Err.ensures.cause.other)
+    (rose_on (g.S.Shelf.writing c.args.shelf.now) (g.S.Shelf.writing c.begin_files.new.shelf) (g.S.Shelf.writing c.stop.new.shelf)
     (⊎_elim (λ (r : Rose (g.S.Shelf.writing c.args.shelf.now) (g.S.Shelf.writing c.begin_files.new.shelf)). r) (λ b. absurd b) c.in-Err.ensures.cause.failed)
-    c.say_stopped.ensures.line
+    c.stop.ensures.writing)
+    c.stop.ensures.line
 
-pub returns-in-Ok-result : goal.returns-in-Ok-result
-returns-in-Ok-result g c =
+pub returns-in-Ok-result-clause-run : goal.returns-in-Ok-result-clause-run
+returns-in-Ok-result-clause-run g c =
     let count : length (journal_data c.play_scripts-journal.result.0.items) ≡ c.len.result =
     omega (arith, length-map c.play_scripts-journal.result.0.items logged_data, c.len.ensures, c.play_scripts-journal.result.0.ok) in
     let few : length (journal_data c.play_scripts-journal.result.0.items) ≤ count_all (plans_of c.args.stage.players.items) =
     not_more (plans_of c.args.stage.players.items) (journal_data c.play_scripts-journal.result.0.items) c.play_scripts-journal.ensures.played in
-    let scripts : length (plans_of c.args.stage.players.items) ≤ 256 = omega (arith, c.requires.plans.0, length-map c.args.request.scripts.now string_bytes, c.requires.scripts.1) in
-    played_whole (asked c.args.request)
-    (moment (g.S.Shelf.files c.args.shelf.now) (g.S.Shelf.reading c.args.shelf.now) (g.S.Shelf.writing c.args.shelf.now) (g.O.Out.written c.args.out.now) (g.O.Out.faults c.args.out.now))
-    (moment (g.S.Shelf.files c.play_scripts-journal.new.shelf) (g.S.Shelf.reading c.play_scripts-journal.new.shelf) (g.S.Shelf.writing c.play_scripts-journal.new.shelf) (g.O.Out.written c.put_report.new.out) (g.O.Out.faults c.put_report.new.out))
-    c.put_report.result (plans_of c.args.stage.players.items) c.requires.differ c.requires.plans (g.S.Shelf.files c.begin_files.new.shelf) (journal_data c.play_scripts-journal.result.0.items)
+    let scripts : length (plans_of c.args.stage.players.items) ≤ 256 = omega (arith, c.requires.plans.0, length-map c.args.request.scripts.now string_bytes, c.requires.request.scripts.1) in
+    played_whole (request_data c.args.request)
+    (snapshot (g.S.Shelf.files c.args.shelf.now) (g.S.Shelf.reading c.args.shelf.now) (g.S.Shelf.writing c.args.shelf.now) (g.O.Out.written c.args.out.now) (g.O.Out.faults c.args.out.now))
+    (snapshot (g.S.Shelf.files c.play_scripts-journal.new.shelf) (g.S.Shelf.reading c.play_scripts-journal.new.shelf) (g.S.Shelf.writing c.play_scripts-journal.new.shelf) (g.O.Out.written c.put_report.new.out) (g.O.Out.faults c.put_report.new.out))
+    c.put_report.result (plans_of c.args.stage.players.items) c.requires.request.differ c.requires.plans (g.S.Shelf.files c.begin_files.new.shelf) (journal_data c.play_scripts-journal.result.0.items)
     (rw (← c.requires.stage.blocks_are, c.requires.plans.0, length-map c.args.request.scripts.now string_bytes) c.in-Ok.ensures.whole)
     (rw (← c.requires.stage.blocks_are) (search rules))
     (rw (← c.requires.stage.blocks_are)
     (run_ordered (journal_data c.play_scripts-journal.result.0.items) c.args.stage.blocks (length (plans_of c.args.stage.players.items)) (count_all (plans_of c.args.stage.players.items))
     c.requires.stage.some c.requires.stage.few
-    (omega (arith, c.requires.plans.0, length-map c.args.request.scripts.now string_bytes, c.requires.scripts.0))
+    (omega (arith, c.requires.plans.0, length-map c.args.request.scripts.now string_bytes, c.requires.request.scripts.0))
     scripts few c.requires.few
     (all_follow (journal_data c.play_scripts-journal.result.0.items) (plans_of c.args.stage.players.items) c.args.stage.blocks c.play_scripts-journal.ensures.played c.play_scripts-journal.ensures.order
     c.play_scripts-journal.ensures.ranges c.requires.stage.some c.requires.stage.few scripts (omega (arith, few, c.requires.few)))))
@@ -67,29 +69,30 @@ returns-in-Ok-result g c =
     ((search rules) ∙ c.in-Ok.ensures.cause.kept)
     (rw (count, ← c.requires.stage.commands, ← c.requires.stage.blocks_are) c.put_report.ensures)
 
-pub returns : goal.returns
-returns g c =
+pub returns-clause-run : goal.returns-clause-run
+returns-clause-run g c =
     let few : length (journal_data c.play_scripts-journal.result.0.items) ≤ count_all (plans_of c.args.stage.players.items) =
     not_more (plans_of c.args.stage.players.items) (journal_data c.play_scripts-journal.result.0.items) c.play_scripts-journal.ensures.played in
-    let scripts : length (plans_of c.args.stage.players.items) ≤ 256 = omega (arith, c.requires.plans.0, length-map c.args.request.scripts.now string_bytes, c.requires.scripts.1) in
-    stopped_in_turns (asked c.args.request)
-    (moment (g.S.Shelf.files c.args.shelf.now) (g.S.Shelf.reading c.args.shelf.now) (g.S.Shelf.writing c.args.shelf.now) (g.O.Out.written c.args.out.now) (g.O.Out.faults c.args.out.now))
-    (moment (g.S.Shelf.files c.play_scripts-journal.new.shelf) (g.S.Shelf.reading c.play_scripts-journal.new.shelf) (g.S.Shelf.writing c.play_scripts-journal.new.shelf) (g.O.Out.written c.say_stopped-in-Err-result.new.out) (g.O.Out.faults c.say_stopped-in-Err-result.new.out))
-    c.say_stopped-in-Err-result.result (plans_of c.args.stage.players.items) c.requires.differ c.requires.plans (g.S.Shelf.files c.begin_files.new.shelf) (journal_data c.play_scripts-journal.result.0.items)
+    let scripts : length (plans_of c.args.stage.players.items) ≤ 256 = omega (arith, c.requires.plans.0, length-map c.args.request.scripts.now string_bytes, c.requires.request.scripts.1) in
+    stopped_in_turns (request_data c.args.request)
+    (snapshot (g.S.Shelf.files c.args.shelf.now) (g.S.Shelf.reading c.args.shelf.now) (g.S.Shelf.writing c.args.shelf.now) (g.O.Out.written c.args.out.now) (g.O.Out.faults c.args.out.now))
+    (snapshot (g.S.Shelf.files c.stop-in-Err-result.new.shelf) (g.S.Shelf.reading c.stop-in-Err-result.new.shelf) (g.S.Shelf.writing c.stop-in-Err-result.new.shelf) (g.O.Out.written c.stop-in-Err-result.new.out) (g.O.Out.faults c.stop-in-Err-result.new.out))
+    c.stop-in-Err-result.result (plans_of c.args.stage.players.items) c.requires.request.differ c.requires.plans (g.S.Shelf.files c.begin_files.new.shelf) (journal_data c.play_scripts-journal.result.0.items)
     (rw (← c.requires.stage.blocks_are, c.requires.plans.0, length-map c.args.request.scripts.now string_bytes) c.in-Ok.ensures.whole)
-    c.say_stopped-in-Err-result.ensures.status
+    c.stop-in-Err-result.ensures.status
     (rw (← c.requires.stage.blocks_are)
     (run_ordered (journal_data c.play_scripts-journal.result.0.items) c.args.stage.blocks (length (plans_of c.args.stage.players.items)) (count_all (plans_of c.args.stage.players.items))
     c.requires.stage.some c.requires.stage.few
-    (omega (arith, c.requires.plans.0, length-map c.args.request.scripts.now string_bytes, c.requires.scripts.0))
+    (omega (arith, c.requires.plans.0, length-map c.args.request.scripts.now string_bytes, c.requires.request.scripts.0))
     scripts few c.requires.few
     (all_follow (journal_data c.play_scripts-journal.result.0.items) (plans_of c.args.stage.players.items) c.args.stage.blocks c.play_scripts-journal.ensures.played c.play_scripts-journal.ensures.order
     c.play_scripts-journal.ensures.ranges c.requires.stage.some c.requires.stage.few scripts (omega (arith, few, c.requires.few)))))
     c.play_scripts-journal.ensures.played
-    (rw (← c.requires.stage.blocks_are) (search rules))
-    (c.play_scripts-journal.ensures.cause.other ∙ c.in-Ok.ensures.cause.other)
-    (rw (← c.in-Ok.ensures.cause.kept) (search rules))
-    c.say_stopped-in-Err-result.ensures.line
+    (rw (c.stop-in-Err-result.ensures.files, ← c.requires.stage.blocks_are) (search rules))
+    (c.stop-in-Err-result.ensures.reading ∙ c.play_scripts-journal.ensures.cause.other ∙ c.in-Ok.ensures.cause.other)
+    (rose_on (g.S.Shelf.writing c.args.shelf.now) (g.S.Shelf.writing c.play_scripts-journal.new.shelf) (g.S.Shelf.writing c.stop-in-Err-result.new.shelf)
+    (rw (← c.in-Ok.ensures.cause.kept) (search rules)) c.stop-in-Err-result.ensures.writing)
+    c.stop-in-Err-result.ensures.line
 
 pub put_report-requires : goal.put_report-requires
 put_report-requires g c =

@@ -2,17 +2,18 @@ use Rattle.std.proofs.Common.{◌≡◌, ◌≤◌, ◌<◌, List, length, map, 
 use Rattle.std.specs.Prelude.{IfSome}
 use Rattle.std.proofs.lemmas.List.{length-map}
 use Rattle.script_plan.specs.Plan.{PlannedData}
-use Rattle.play_core.specs.Words.{asked}
-use Rattle.play_core.specs.Verdict.{Plays, block_limit, blocks_of_run, verdict}
-use Rattle.play_core.proofs.Surveys.{tells_verdict, many_blocks, few_blocks}
+use Rattle.play_core.specs.Words.{request_data}
+use Rattle.play_core.specs.Limits.{block_limit}
+use Rattle.play_core.specs.Verdict.{Plays, blocks_of_run, verdict}
+use Rattle.play_core.proofs.Scans.{tells_verdict, many_blocks, few_blocks}
 use Rattle.play_core.proofs.play.prepare.Goals as goal
 
 pub returns-in-Err-clause-tells : goal.returns-in-Err-clause-tells
-returns-in-Err-clause-tells g c = tells_verdict c.in-Err.why (asked c.args.request) (g.S.Shelf.files c.args.shelf.now) c.in-Err.ensures.tells
+returns-in-Err-clause-tells g c = tells_verdict c.in-Err.why (request_data c.args.request) (g.S.Shelf.files c.args.shelf.now) c.in-Err.ensures.tells
 
 pub returns-in-None-clause-tells : goal.returns-in-None-clause-tells
 returns-in-None-clause-tells g c =
-    many_blocks (asked c.args.request) (g.S.Shelf.files c.args.shelf.now) c.in-Ok.scripts.items
+    many_blocks (request_data c.args.request) (g.S.Shelf.files c.args.shelf.now) c.in-Ok.scripts.items
     (subst (λ (l : List (List PlannedData)). block_limit < blocks_of_run c.args.request.blocks l) c.deref.ensures.value c.in-None.ensures.none) c.in-Ok.ensures.plans
 
 pub returns-in-Ok-set_stage-clause-plans : goal.returns-in-Ok-set_stage-clause-plans
@@ -23,6 +24,6 @@ returns-in-Ok-set_stage-clause-plans g c =
     let within : blocks_of_run c.args.request.blocks c.in-Ok.scripts.items ≤ block_limit = omega (arith, blocks, few) in
     let stage = c.in-Ok-set_stage.ensures c.args.request.blocks blocks in (
       ap length stage.plans_are ∙ c.in-Ok.ensures.many ∙ sym (length-map c.args.request.scripts.now string_bytes),
-      subst (λ (l : List (List PlannedData)). IfSome (g.S.Shelf.files c.args.shelf.now) (λ told. verdict (asked c.args.request) told ≡ Plays l)) (sym stage.plans_are)
-          (few_blocks (asked c.args.request) (g.S.Shelf.files c.args.shelf.now) c.in-Ok.scripts.items within c.in-Ok.ensures.plans),
+      subst (λ (l : List (List PlannedData)). IfSome (g.S.Shelf.files c.args.shelf.now) (λ told. verdict (request_data c.args.request) told ≡ Plays l)) (sym stage.plans_are)
+          (few_blocks (request_data c.args.request) (g.S.Shelf.files c.args.shelf.now) c.in-Ok.scripts.items within c.in-Ok.ensures.plans),
     )

@@ -1,6 +1,6 @@
 use Rattle.std.proofs.Common.{ℕ, subst}
 use Rattle.std.specs.Prelude.{All, IfSome, Option}
-use Rattle.play_core.specs.Survey.{AreBelow}
+use Rattle.play_core.specs.Scan.{AreBelow}
 use Rattle.play_core.proofs.Stages.{in_time_of, some_in_time}
 use Rattle.play_core.proofs.stage.choose_blocks.Goals as goal
 

@@ -3,7 +3,7 @@ use Rattle.play_core.proofs.Stages.{players_many}
 use Rattle.play_core.proofs.stage.set_stage.Goals as goal
 
 pub returns : goal.returns
-returns c = λ asked is. record {
+returns c = λ request_data is. record {
   players = c.in_ok-players.ensures.fresh;
   plans_are = c.in_ok-players.ensures.plans;
   renderer = search rules;

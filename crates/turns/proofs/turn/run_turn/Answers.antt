@@ -1,7 +1,7 @@
 use Rattle.std.proofs.Common.{◌≡◌, length, ap, sym, ◌∙◌}
 use Rattle.std.proofs.lemmas.List.{length-map}
 use Rattle.command_set.specs.Entries.{logged_data}
-use Rattle.turns.proofs.Logging.{front_logged, logs_join}
+use Rattle.turns.proofs.Logging.{prefix_logged, logs_join}
 use Rattle.turns.proofs.Steps.{noted_start, turn_after}
 use Rattle.turns.proofs.Turning.{heard_before}
 use Rattle.turns.specs.Steps.{at_block}
@@ -24,6 +24,6 @@ pub returns-clause-heard : goal.returns-clause-heard
 returns-clause-heard g c =
     heard_before c.args.t c.args.renderer.now c.run_halves.new.renderer c.settle.new.renderer c.run_halves.new.samples c.run_halves.ensures.rendered.0 c.run_halves.ensures.rendered.1 c.settle.ensures.kept c.run_halves.ensures.rendered.2
 
-pub returns-clause-front : goal.returns-clause-front
-returns-clause-front g c =
-    front_logged (at_block c.args.t c.args.renderer.now) c.settle.new.renderer (logs_join (at_block c.args.t c.args.renderer.now) c.run_halves.new.renderer c.settle.new.renderer c.run_halves.ensures.rendered.0 c.settle.ensures.took)
+pub returns-clause-prefix : goal.returns-clause-prefix
+returns-clause-prefix g c =
+    prefix_logged (at_block c.args.t c.args.renderer.now) c.settle.new.renderer (logs_join (at_block c.args.t c.args.renderer.now) c.run_halves.new.renderer c.settle.new.renderer c.run_halves.ensures.rendered.0 c.settle.ensures.took)

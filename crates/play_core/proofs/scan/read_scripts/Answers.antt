@@ -1,7 +1,7 @@
 use Rattle.std.proofs.Common.{◌≡◌, ◌≤◌, ◌+◌, [], ◌∷◌, length, length-append, ◌∙◌, sym, ap, arith}
 use Rattle.play_core.specs.Verdict.{count_all}
-use Rattle.play_core.proofs.Surveys.{next_read, all_read, refused_tells, refused_cause, count_pushed, below_pushed, AreReadOf}
-use Rattle.play_core.proofs.survey.read_scripts.Goals as goal
+use Rattle.play_core.proofs.Scans.{next_read, all_read, refused_tells, refused_cause, count_pushed, below_pushed, AreReadOf}
+use Rattle.play_core.proofs.scan.read_scripts.Goals as goal
 
 pub returns-in-Err-read_next-clause-tells : goal.returns-in-Err-read_next-clause-tells
 returns-in-Err-read_next-clause-tells g c =

@@ -1,8 +1,9 @@
 use Rattle.std.proofs.Common.{◌≡◌, ◌≤◌, IfSome, map, take, length, string_bytes}
 use Rattle.std.specs.Prelude.{All}
-use Rattle.play_core.specs.Verdict.{count_all, command_limit, scripts_limit}
-use Rattle.play_core.specs.Survey.{AreBelow, AreRead}
-use Rattle.play_core.proofs.survey.read_scripts.Given as goal
+use Rattle.play_core.specs.Limits.{command_limit, scripts_limit}
+use Rattle.play_core.specs.Verdict.{count_all}
+use Rattle.play_core.specs.Scan.{AreBelow, AreRead}
+use Rattle.play_core.proofs.scan.read_scripts.Given as goal
 
 abbrev pub invariant-loop-name : goal.invariant-loop-name
 invariant-loop-name g l = record {

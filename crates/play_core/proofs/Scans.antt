@@ -15,10 +15,11 @@ use Rattle.script_read.specs.Plan.{plan}
 use Rattle.play_core.specs.declared.totals.Totals.{Totals}
 use Rattle.play_core.specs.declared.refusal.Refusal.{Refusal}
 use Rattle.play_core.specs.declared.refusal.Refusal.TheVariants as why
-use Rattle.play_core.specs.Verdict.{Verdict, Lacking, LongFile, LongScripts, Faulty, ManyCommands, ManyBlocks, Plays, IsPlayed, nothing, verdict, blocks_of_run, block_limit, of_blocks, command_limit, script_limit, scripts_limit, count_all, with_script, with_plan, of_plan, of_text, of_file, of_scripts}
-use Rattle.play_core.specs.Words.{Asked}
+use Rattle.play_core.specs.Limits.{block_limit, command_limit, script_limit, scripts_limit}
+use Rattle.play_core.specs.Verdict.{Verdict, Lacking, LongFile, LongScripts, Faulty, ManyCommands, ManyBlocks, Plays, IsPlayed, nothing, verdict, blocks_of_run, of_blocks, count_all, with_script, with_plan, of_plan, of_text, of_file, of_scripts}
+use Rattle.play_core.specs.Words.{RequestData}
 use Rattle.play_core.specs.Refused.{Tells, HasCause}
-use Rattle.play_core.specs.Survey.{AreBelow, IsTextOf, IsNext, NextTells, NextCause, with_all, AreRead}
+use Rattle.play_core.specs.Scan.{AreBelow, IsTextOf, IsNext, NextTells, NextCause, with_all, AreRead}
 
 pub all_none : (said : Verdict) → with_all [] said ≡ said
 all_none (Plays plans) = refl
@@ -177,13 +178,13 @@ tells_blocks why.ManyCommands blocks said tells = rw tells refl
 tells_blocks why.ManyBlocks blocks said tells = rw tells refl
 tells_blocks why.Memory blocks said tells = tt
 
-pub tells_verdict : (why : Refusal) (a : Asked) (files : Option Files)
+pub tells_verdict : (why : Refusal) (a : RequestData) (files : Option Files)
     → IfSome files (λ told. Tells why (of_scripts told a.blocks nothing a.scripts)) → IfSome files (λ told. Tells why (verdict a told))
 unfolding verdict
 tells_verdict why a None tells = tt
 tells_verdict why a (Some told) tells = tells_blocks why a.blocks (of_scripts told a.blocks nothing a.scripts) tells
 
-pub many_blocks : (a : Asked) (files : Option Files) (plans : List (List PlannedData)) → block_limit < blocks_of_run a.blocks plans
+pub many_blocks : (a : RequestData) (files : Option Files) (plans : List (List PlannedData)) → block_limit < blocks_of_run a.blocks plans
     → IfSome files (λ told. of_scripts told a.blocks nothing a.scripts ≡ Plays plans) → IfSome files (λ told. verdict a told ≡ ManyBlocks)
 unfolding verdict
 many_blocks a None plans over is = tt
@@ -191,7 +192,7 @@ many_blocks a (Some told) plans over is =
     let above : nat_lt block_limit (blocks_of_run a.blocks plans) ≡ true = lt-ltb _ _ over in
     rw (is, above) refl
 
-pub few_blocks : (a : Asked) (files : Option Files) (plans : List (List PlannedData)) → blocks_of_run a.blocks plans ≤ block_limit
+pub few_blocks : (a : RequestData) (files : Option Files) (plans : List (List PlannedData)) → blocks_of_run a.blocks plans ≤ block_limit
     → IfSome files (λ told. of_scripts told a.blocks nothing a.scripts ≡ Plays plans) → IfSome files (λ told. verdict a told ≡ Plays plans)
 unfolding verdict
 few_blocks a None plans within is = tt

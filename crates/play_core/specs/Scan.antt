@@ -9,7 +9,8 @@ use Rattle.script_read.specs.Plan.{plan}
 use Rattle.play_core.specs.declared.totals.Totals.{Totals}
 use Rattle.play_core.specs.declared.refusal.Refusal.{Refusal}
 use Rattle.play_core.specs.declared.refusal.Refusal.TheVariants as why
-use Rattle.play_core.specs.Verdict.{Verdict, Lacking, LongFile, LongScripts, Faulty, ManyCommands, ManyBlocks, Plays, nothing, command_limit, script_limit, scripts_limit, with_script, of_file, of_scripts}
+use Rattle.play_core.specs.Limits.{command_limit, script_limit, scripts_limit}
+use Rattle.play_core.specs.Verdict.{Verdict, Lacking, LongFile, LongScripts, Faulty, ManyCommands, ManyBlocks, Plays, nothing, with_script, of_file, of_scripts}
 use Rattle.play_core.specs.Refused.{Tells}
 
 -- each command of a plan is due below this block

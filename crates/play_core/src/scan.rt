@@ -5,9 +5,10 @@ ghost use Rattle.outside.specs.Faults.{Rose};
 ghost use Rattle.script_plan.specs.Plan.{PlannedData};
 ghost use Rattle.script_outcome.specs.Plan.{Commands};
 ghost use Rattle.script_read.specs.Plan.{plan};
-ghost use Rattle.play_core.specs.Verdict.{Verdict, command_limit, script_limit, scripts_limit, nothing, count_all, of_text, of_scripts, Plays};
+ghost use Rattle.play_core.specs.Limits.{command_limit, script_limit, scripts_limit};
+ghost use Rattle.play_core.specs.Verdict.{Verdict, nothing, count_all, of_text, of_scripts, Plays};
 ghost use Rattle.play_core.specs.Refused.{HasCause, IsOfContent, Tells};
-ghost use Rattle.play_core.specs.Survey.{IsNext, NextCause, NextTells, AreBelow};
+ghost use Rattle.play_core.specs.Scan.{IsNext, NextCause, NextTells, AreBelow};
 
 use crate::refusal::Refusal;
 use crate::totals::Totals;
@@ -34,13 +35,16 @@ pub(crate) fn read_scripts<S: Shelf>(
 ) -> Result<Vec<Script>, Refusal>
     requires many { length names.now ≤ 256 }
     requires some { IfSome blocks (λ b. 0 < b) }
-    ensures plans { IfOk result (λ scripts. IfSome (S.files shelf.old) (λ told. of_scripts told blocks nothing (map string_bytes names.now) ≡ Plays scripts.items)) }
+    ensures plans { IfOk result (λ scripts. IfSome (S.files shelf.old) (λ told.
+        of_scripts told blocks nothing (map string_bytes names.now) ≡ Plays scripts.items)) }
     ensures many { IfOk result (λ scripts. length scripts.items ≡ length names.now) }
     ensures few { IfOk result (λ scripts. count_all scripts.items ≤ command_limit) }
     ensures below { IfOk result (λ scripts. IfSome blocks (λ b. All (λ one. AreBelow b one) scripts.items)) }
     ensures kept { OnOk result (S.reading shelf.new ≡ S.reading shelf.old) }
-    ensures tells { IfErr result (λ why. IfSome (S.files shelf.old) (λ told. Tells why (of_scripts told blocks nothing (map string_bytes names.now)))) }
-    ensures cause { IfErr result (λ why. HasCause why blocks (S.files shelf.old) (map string_bytes names.now) (S.reading shelf.old) (S.reading shelf.new)) }
+    ensures tells { IfErr result (λ why. IfSome (S.files shelf.old) (λ told.
+        Tells why (of_scripts told blocks nothing (map string_bytes names.now)))) }
+    ensures cause { IfErr result (λ why. HasCause why blocks (S.files shelf.old) (map string_bytes names.now)
+        (S.reading shelf.old) (S.reading shelf.new)) }
     ensures files { S.files shelf.new ≡ S.files shelf.old }
     ensures writing { S.writing shelf.new ≡ S.writing shelf.old }
 {
