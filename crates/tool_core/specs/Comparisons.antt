@@ -1,7 +1,7 @@
 -- Two files compared byte by byte.
 use Rattle.std.specs.Prelude.{ℕ, ◌≡◌, ◌≢◌, ◌<◌, ◌≤◌, List, ◌++◌, take, length, slice_get, Option, Some, None}
-use Rattle.tool_core.specs.declared.comparing.Step.{Step}
-use Rattle.tool_core.specs.declared.comparing.Step.TheVariants.{Same, Differs}
+use Rattle.tool_core.specs.declared.comparison.Step.{Step}
+use Rattle.tool_core.specs.declared.comparison.Step.TheVariants.{Same, Differs}
 
 -- the first place at which two files differ: they have the same bytes before it, and another byte at it, or one of them ends there
 pub record DiffersAt (file other : List ℕ) (place : ℕ) : Type 0 where

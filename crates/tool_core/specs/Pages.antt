@@ -3,7 +3,7 @@ use Rattle.std.specs.Prelude.{◌≡◌, ◌⊎◌, ℕ, List, ◌++◌, Option,
 use Rattle.outside.specs.Files.{said, SaidSome}
 
 -- of the text so far some was put, and the rest waits on the page
-pub record Puts (before now : Option (List ℕ)) (page text : List ℕ) : Type 0 where
+pub record Holds (before now : Option (List ℕ)) (page text : List ℕ) : Type 0 where
   pub front : List ℕ
   pub was_put : now ≡ option_map (said front) before
   pub whole : front ++ page ≡ text
