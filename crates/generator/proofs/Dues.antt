@@ -6,9 +6,9 @@ use Rattle.std.proofs.lemmas.Bool.{eq-eqb, ne_eqb, cond-true, cond-false}
 use Rattle.std.proofs.lemmas.List.{append-nil}
 use Rattle.std.proofs.lemmas.List.FromFn.{map-range_with_len_more, filter_of_map_range_with_len_more}
 use Rattle.command_set.specs.Entries.{EntryData}
-use Rattle.generator.specs.Drawn.{due, entry}
+use Rattle.generator.specs.Generated.{due, entry}
 use Rattle.generator.specs.Scripts.{AreBefore}
-use Rattle.generator.proofs.Drawing.{due_more}
+use Rattle.generator.proofs.Generating.{due_more}
 
 due_up : (seed i k : ℕ) → due seed i ≤ due seed (i + k)
 due_up seed i zero = let same : due seed (i + 0) ≡ due seed i = ap (due seed) (let e : i + 0 ≡ i = omega arith in e) in omega (arith, same)

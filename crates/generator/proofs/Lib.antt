@@ -1,5 +1,5 @@
 pub mod Ranges
-pub mod Drawing
+pub mod Generating
 pub mod Dues
 pub mod Lines
 pub mod Sends

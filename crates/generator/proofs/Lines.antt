@@ -1,17 +1,17 @@
--- The lines of a drawn script.
+-- The lines of a generated script.
 use Rattle.std.proofs.Common.{◌≡◌, ℕ, ◌+◌, List, [], ◌∷◌, ◌++◌, sym, ◌∙◌, ap}
 use Rattle.std.specs.Prelude.{codes, decimal}
 use Rattle.std.specs.List.{range_with_len, flat_map}
 use Rattle.plain_text.specs.Split.{spaced}
 use Rattle.command_set.specs.Command.{CommandData}
 use Rattle.command_set.specs.Text.{text}
-use Rattle.generator.specs.Drawn.{due, command, line}
+use Rattle.generator.specs.Generated.{due, command, line}
 use Rattle.generator.proofs.Ranges.{flat_more}
 
-pub line_is : (seed i n block : ℕ) (drawn : CommandData) → block ≡ due seed i → drawn ≡ command seed i → i ≡ n
-    → spaced (decimal block) (text drawn ∷ []) ++ 10 ∷ [] ≡ line seed n
-line_is seed i n block drawn at is same =
-    ap (λ (b : ℕ). spaced (decimal b) (text drawn ∷ []) ++ 10 ∷ []) at
+pub line_is : (seed i n block : ℕ) (generated : CommandData) → block ≡ due seed i → generated ≡ command seed i → i ≡ n
+    → spaced (decimal block) (text generated ∷ []) ++ 10 ∷ [] ≡ line seed n
+line_is seed i n block generated at is same =
+    ap (λ (b : ℕ). spaced (decimal b) (text generated ∷ []) ++ 10 ∷ []) at
     ∙ ap (λ (d : CommandData). spaced (decimal (due seed i)) (text d ∷ []) ++ 10 ∷ []) is
     ∙ ap (line seed) same
 

@@ -3,18 +3,13 @@ use Rattle.std.proofs.Common.{◌≡◌, ◌≢◌, ℕ, ◌+◌, ◌-◌, ◌<�
 use Rattle.std.specs.Prelude.{◌==◌, nat_lt}
 use Rattle.std.specs.List.{range_with_len}
 use Rattle.std.proofs.lemmas.Bool.{eq-eqb, ne_eqb, lt-ltb, cond-true, cond-false}
-use Rattle.std.proofs.lemmas.List.{append-nil, length_push}
+use Rattle.std.proofs.lemmas.List.{append-nil, length_push, length-set}
 use Rattle.std.proofs.lemmas.List.FromFn.{map-range_with_len_more}
 use Rattle.command_set.specs.Entries.{EntryData}
-use Rattle.schedule_core.specs.Core.{Core, Send, step, queued, refused, next_entry}
-use Rattle.schedule_core.specs.World.{IsWorld, waiting_of}
-use Rattle.schedule_core.specs.declared.world.World.{World}
-use Rattle.schedule_core.proofs.Worlds.{how_many}
-use Rattle.generator.specs.Drawn.{command, due, entry}
+use Rattle.schedule_core.specs.Core.{Core, Send, step, sends_of, accepted_of, with_entry, queued, refused, next_entry}
+use Rattle.schedule_core.proofs.Legal.{accepted_queued}
+use Rattle.generator.specs.Generated.{command, due, entry}
 use Rattle.generator.specs.Playing.{IsSent}
-
-pub waiting_are : (w : World) (c : Core) → IsWorld w c → waiting_of w ≡ length c.waiting
-waiting_are w c h = omega (arith, w.waiting.ok, how_many h)
 
 -- the core after a script's next command
 abbrev pub after_send : Core → ℕ → ℕ → ℕ → Core
@@ -26,17 +21,18 @@ grown c number seed i = queued c (next_entry c number (due seed i) (command seed
 send_is : (c : Core) (number seed i : ℕ) → length c.waiting < c.places → after_send c number seed i ≡ grown c number seed i
 send_is c number seed i room = cond-true (nat_lt (length c.waiting) c.places) (grown c number seed i) (refused c number) (lt-ltb (length c.waiting) c.places room)
 
-own_grows : (c : Core) (number seed i : ℕ) → length ((grown c number seed i).accepted number) ≡ length (c.accepted number) + 1
-own_grows c number seed i =
+own_grows : (c : Core) (number seed i : ℕ) → number < length c.scripts → length (accepted_of (grown c number seed i) number) ≡ length (accepted_of c number) + 1
+own_grows c number seed i made =
     let e : EntryData = next_entry c number (due seed i) (command seed i) in
-    ap length (cond-true (number == number) (c.accepted number ++ e ∷ []) (c.accepted number) (eq-eqb number number refl)) ∙ length_push (c.accepted number) e
+    ap length (accepted_queued c e number made ∙ cond-true (number == number) (accepted_of c number ++ e ∷ []) (accepted_of c number) (eq-eqb number number refl))
+    ∙ length_push (accepted_of c number) e
 
-others_stay : (c : Core) (number seed i k : ℕ) → k ≢ number → (grown c number seed i).accepted k ≡ c.accepted k
-others_stay c number seed i k ne =
+others_stay : (c : Core) (number seed i k : ℕ) → number < length c.scripts → k ≢ number → accepted_of (grown c number seed i) k ≡ accepted_of c k
+others_stay c number seed i k made ne =
     let e : EntryData = next_entry c number (due seed i) (command seed i) in
-    cond-false (number == k) (c.accepted k ++ e ∷ []) (c.accepted k) (ne_eqb number k (λ same. ne (sym same)))
+    accepted_queued c e k made ∙ cond-false (number == k) (accepted_of c k ++ e ∷ []) (accepted_of c k) (ne_eqb number k (λ same. ne (sym same)))
 
-pub none_sent : (c : Core) (number seed from : ℕ) → length (c.accepted number) ≡ from → IsSent c number seed from from c
+pub none_sent : (c : Core) (number seed from : ℕ) → length (accepted_of c number) ≡ from → IsSent c number seed from from c
 none_sent c number seed from own = record {
   places = refl;
   ends = refl;
@@ -49,16 +45,16 @@ none_sent c number seed from own = record {
   others = λ k ne. refl;
 }
 
-pub one_sent : (c d : Core) (number seed from i : ℕ) → from ≤ i → length d.waiting < d.places → IsSent c number seed from i d
+pub one_sent : (c d : Core) (number seed from i : ℕ) → from ≤ i → number < length d.scripts → length d.waiting < d.places → IsSent c number seed from i d
     → IsSent c number seed from (i + 1) (after_send d number seed i)
-one_sent c d number seed from i up room h =
+one_sent c d number seed from i up made room h =
     let e : EntryData = next_entry d number (due seed i) (command seed i) in
     let same : e ≡ entry seed number i = ap (λ (n : ℕ). let x : EntryData = record { script = number; seq = n; sent_at = due seed i; command = command seed i } in x) h.own in
     let is : after_send d number seed i ≡ grown d number seed i = send_is d number seed i room in
     let long : i + 1 - from ≡ i - from + 1 = omega (arith, up) in
     subst (λ (x : Core). IsSent c number seed from (i + 1) x) (sym is) (record {
       places = h.places;
-      ends = h.ends;
+      ends = length-set d.scripts number (with_entry (sends_of d number) e) ∙ h.ends;
       blocks = h.blocks;
       journal = h.journal;
       waiting =
@@ -68,6 +64,6 @@ one_sent c d number seed from i up room h =
           ∙ ap (λ (back : List EntryData). c.waiting ++ back)
           (sym (map-range_with_len_more (entry seed number) from (i - from) i (omega (arith, up))))
           ∙ ap (λ (n : ℕ). c.waiting ++ map (entry seed number) (range_with_len from n)) (sym long);
-      own = own_grows d number seed i ∙ omega (arith, h.own);
-      others = λ k ne. others_stay d number seed i k ne ∙ h.others k ne;
+      own = own_grows d number seed i made ∙ omega (arith, h.own);
+      others = λ k ne. others_stay d number seed i k made ne ∙ h.others k ne;
     })

@@ -5,7 +5,7 @@ use Rattle.std.proofs.lemmas.List.Sums.{fold-append}
 use Rattle.command_set.specs.Entries.{LoggedData}
 use Rattle.instrument.specs.Journal.{commands_at, sound}
 use Rattle.instrument.proofs.Journals.{commands_kept, sound_agrees}
-use Rattle.generator.specs.Drawn.{all_due_at, block_entries, journal_below, drawn_journal, total, sum_of_samples}
+use Rattle.generator.specs.Generated.{all_due_at, block_entries, journal_below, generated_journal, total, sum_of_samples}
 use Rattle.generator.proofs.Ranges.{flat_more}
 
 -- later blocks change no earlier commands
@@ -24,13 +24,13 @@ sound_kept seed n b blocks below =
     (sound_agrees (journal_below seed n (b + 1)) (journal_below seed n (b + 1 + (blocks - (b + 1)))) b
     (λ a low. sym (kept seed n (b + 1) (blocks - (b + 1)) a (omega (arith, low)))))
 
-pub sound_drawn : (seed b blocks : ℕ) → b < blocks → sound (journal_below seed (blocks / 4) (b + 1)) b ≡ sound (drawn_journal seed blocks) b
-unfolding drawn_journal
-sound_drawn seed b blocks below = sound_kept seed (blocks / 4) b blocks below
+pub sound_generated : (seed b blocks : ℕ) → b < blocks → sound (journal_below seed (blocks / 4) (b + 1)) b ≡ sound (generated_journal seed blocks) b
+unfolding generated_journal
+sound_generated seed b blocks below = sound_kept seed (blocks / 4) b blocks below
 
-pub drawn_is : (seed b blocks : ℕ) → b ≡ blocks → journal_below seed (blocks / 4) b ≡ drawn_journal seed blocks
-unfolding drawn_journal
-drawn_is seed b blocks all = ap (journal_below seed (blocks / 4)) all
+pub generated_is : (seed b blocks : ℕ) → b ≡ blocks → journal_below seed (blocks / 4) b ≡ generated_journal seed blocks
+unfolding generated_journal
+generated_is seed b blocks all = ap (journal_below seed (blocks / 4)) all
 
 pub sum_more : (journal : List LoggedData) (b : ℕ) → sum_of_samples journal (b + 1) ≡ fold ◌+ℤ◌ (sum_of_samples journal b) (sound journal b)
 unfolding sum_of_samples

@@ -1,4 +1,4 @@
-pub mod Draws
-pub mod Drawn
+pub mod Lcg
+pub mod Generated
 pub mod Scripts
 pub mod Playing

@@ -1,14 +1,14 @@
-//! Scripts of commands that are drawn from a number, and the sound of four of them through a world.
+//! Scripts of commands that are generated from a number, and the sound of four of them through a world.
 #![tactic(auto)]
 
-mod draws;
+mod lcg;
 mod play;
 mod samples;
 mod script;
 mod send;
 mod text;
 
-pub use play::{Played, play_drawn};
+pub use play::{Played, play_generated};
 pub use text::script_text;
 
 #[cfg(test)]

@@ -1,10 +1,12 @@
+//! Four generated scripts, played through a world.
+
 ghost use Rattle.std.specs.Prelude.{ℕ, ◌≡◌, ◌<◌, ◌≤◌, length, slice_index_or, IfOk};
-ghost use Rattle.generator.specs.Drawn.{drawn_journal, script_seed, sum_of_samples};
-ghost use Rattle.generator.specs.Scripts.{IsDrawn};
-ghost use Rattle.generator.specs.declared.script.DrawnScript.{DrawnScript};
+ghost use Rattle.generator.specs.Generated.{generated_journal, script_seed, sum_of_samples};
+ghost use Rattle.generator.specs.Scripts.{IsGenerated};
+ghost use Rattle.generator.specs.declared.script.GeneratedScript.{GeneratedScript};
 
 use crate::samples::add_samples;
-use crate::script::DrawnScript;
+use crate::script::GeneratedScript;
 use crate::send::send_all_due;
 use schedule_core::{Engine, World};
 use std::alloc::{AllocError, Global};
@@ -16,14 +18,14 @@ pub struct Played {
     pub sum: i64,
 }
 
-/// Plays four drawn scripts for up to 100,000 blocks on one thread, through a world of 100,000 places. Each script has a quarter as many
-/// commands as there are blocks, and each block takes those that are due at it, in order of scripts.
+/// Plays four generated scripts for up to 100,000 blocks on one thread, through a world of 100,000 places. Each script has a
+/// quarter as many commands as there are blocks, and each block takes those that are due at it, in order of scripts.
 ///
 /// The one error is want of memory.
-pub fn play_drawn(alloc: Global, seed: u64, blocks: u32) -> Result<Played, AllocError>
+pub fn play_generated(alloc: Global, seed: u64, blocks: u32) -> Result<Played, AllocError>
     requires { blocks ≤ 100000 }
-    ensures commands { IfOk result (λ played. played.commands ≡ length (drawn_journal seed blocks)) }
-    ensures sum { IfOk result (λ played. played.sum ≡ sum_of_samples (drawn_journal seed blocks) blocks) }
+    ensures commands { IfOk result (λ played. played.commands ≡ length (generated_journal seed blocks)) }
+    ensures sum { IfOk result (λ played. played.sum ≡ sum_of_samples (generated_journal seed blocks) blocks) }
 {
     let commands = blocks / 4;
     let mut world = World::new(alloc, 100_000, 4, Engine::One)?;
@@ -44,14 +46,14 @@ pub fn play_drawn(alloc: Global, seed: u64, blocks: u32) -> Result<Played, Alloc
 }
 
 /// The scripts 0 to 3, before their first commands.
-fn four_scripts(seed: u64) -> [DrawnScript; 4]
-    ensures none { (k : ℕ) (d : DrawnScript) → k < 4 → (slice_index_or result k d).count ≡ 0 }
-    ensures drawn { (k : ℕ) (d : DrawnScript) → k < 4 → IsDrawn (script_seed seed k) (slice_index_or result k d) }
+fn four_scripts(seed: u64) -> [GeneratedScript; 4]
+    ensures none { (k : ℕ) (d : GeneratedScript) → k < 4 → (slice_index_or result k d).count ≡ 0 }
+    ensures generated { (k : ℕ) (d : GeneratedScript) → k < 4 → IsGenerated (script_seed seed k) (slice_index_or result k d) }
 {
     [
-        DrawnScript::new(seed, 0),
-        DrawnScript::new(seed, 1),
-        DrawnScript::new(seed, 2),
-        DrawnScript::new(seed, 3),
+        GeneratedScript::new(seed, 0),
+        GeneratedScript::new(seed, 1),
+        GeneratedScript::new(seed, 2),
+        GeneratedScript::new(seed, 3),
     ]
 }

@@ -1,3 +1,5 @@
+//! The sum of samples.
+
 ghost use Rattle.std.specs.Prelude.{◌≡◌, ◌^◌, ◌+ℤ◌, ◌-ℤ◌, ◌≤ℤ◌, pos, fold};
 
 /// Adds the samples of a block to a sum.

@@ -1,10 +1,12 @@
+//! The commands that are due at a block, sent to a world.
+
 ghost use Rattle.std.specs.Prelude.{ℕ, ◌≡◌, ◌+◌, ◌<◌, ◌≤◌, OnOk};
-ghost use Rattle.schedule_core.specs.Core.{Core, Send, step};
-ghost use Rattle.generator.specs.Drawn.{command, due};
-ghost use Rattle.generator.specs.Scripts.{IsDrawn, AreBefore};
+ghost use Rattle.schedule_core.specs.Core.{Send, step};
+ghost use Rattle.generator.specs.Generated.{command, due};
+ghost use Rattle.generator.specs.Scripts.{IsGenerated, AreBefore};
 ghost use Rattle.generator.specs.Playing.{CanSend, HasSentTo, IsInBlock};
 
-use crate::script::DrawnScript;
+use crate::script::GeneratedScript;
 use schedule_core::{World, WorldRefusal};
 use std::alloc::{AllocError, Global};
 
@@ -12,13 +14,14 @@ use std::alloc::{AllocError, Global};
 pub(crate) fn send_all_due(
     alloc: Global,
     world: &mut World,
-    scripts: &mut [DrawnScript; 4],
+    scripts: &mut [GeneratedScript; 4],
     commands: u32,
     block: u32,
 ) -> Result<(), AllocError>
     requires few { commands ≤ 25000 }
     requires ready { (seed : ℕ) × IsInBlock seed commands block 0 scripts.old world.old }
-    ensures { (seed : ℕ) → IsInBlock seed commands block 0 scripts.old world.old → OnOk result (IsInBlock seed commands block 4 scripts.new world.new) }
+    ensures { (seed : ℕ) →
+        IsInBlock seed commands block 0 scripts.old world.old → OnOk result (IsInBlock seed commands block 4 scripts.new world.new) }
 {
     for number in 0..4u32 {
         let mut script = scripts[number as usize];
@@ -33,14 +36,16 @@ fn send_due(
     alloc: Global,
     world: &mut World,
     number: u32,
-    script: &mut DrawnScript,
+    script: &mut GeneratedScript,
     commands: u32,
     block: u32,
 ) -> Result<(), AllocError>
     requires few { commands ≤ 25000 }
-    requires ready { (seed : ℕ) × (c : Core) × CanSend number seed commands script.old world.old c }
-    ensures sent { (seed : ℕ) (c : Core) → CanSend number seed commands script.old world.old c → OnOk result (HasSentTo c number seed commands script.old.count script.new world.new) }
-    ensures before { (seed : ℕ) → IsDrawn seed script.old → AreBefore seed commands block script.old.count → OnOk result (AreBefore seed commands (block + 1) script.new.count) }
+    requires ready { (seed : ℕ) × CanSend number seed commands script.old world.old }
+    ensures sent { (seed : ℕ) →
+        CanSend number seed commands script.old world.old → OnOk result (HasSentTo world.old number seed commands script.old.count script.new world.new) }
+    ensures before { (seed : ℕ) →
+        IsGenerated seed script.old → AreBefore seed commands block script.old.count → OnOk result (AreBefore seed commands (block + 1) script.new.count) }
     ensures count { OnOk result (script.old.count ≤ script.new.count) }
 {
     while script.count < commands && script.due <= block {
@@ -54,15 +59,18 @@ fn send_next(
     alloc: Global,
     world: &mut World,
     number: u32,
-    script: &mut DrawnScript,
+    script: &mut GeneratedScript,
     commands: u32,
 ) -> Result<(), AllocError>
     requires few { commands ≤ 25000 }
     requires one { script.old.count < commands }
-    requires ready { (seed : ℕ) × (c : Core) × CanSend number seed commands script.old world.old c }
-    ensures sent { (seed : ℕ) (c : Core) → CanSend number seed commands script.old world.old c
-        → OnOk result (CanSend number seed commands script.new world.new (step c (Send number (due seed script.old.count) (command seed script.old.count)))) }
-    ensures drawn { (seed : ℕ) → IsDrawn seed script.old → IsDrawn seed script.new }
+    requires ready { (seed : ℕ) × CanSend number seed commands script.old world.old }
+    ensures sent { (seed : ℕ) →
+        CanSend number seed commands script.old world.old
+        → OnOk result (world.new ≡ step world.old (Send number (due seed script.old.count) (command seed script.old.count))) }
+    ensures can { (seed : ℕ) →
+        CanSend number seed commands script.old world.old → OnOk result (CanSend number seed commands script.new world.new) }
+    ensures generated { (seed : ℕ) → IsGenerated seed script.old → IsGenerated seed script.new }
     ensures count { script.new.count ≡ script.old.count + 1 }
 {
     let due = script.due;

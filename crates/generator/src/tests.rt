@@ -7,8 +7,8 @@ use std::alloc::{AllocError, Global};
 use std::process::Abort;
 use std::test::Fail;
 
-/// Draws a number below another.
-fn draw(state: &mut u64, bound: u64) -> u64
+/// The next number below another.
+fn next_below(state: &mut u64, bound: u64) -> u64
     requires { 0 < bound }
 {
     *state = state
@@ -28,15 +28,15 @@ fn plain_script(
     let mut block = 0u64;
     let mut text = format!(in alloc; "midi 1\n")?;
     for _turn in 0..commands {
-        block = block.wrapping_add(draw(&mut state, 8));
-        let kind = draw(&mut state, 8);
+        block = block.wrapping_add(next_below(&mut state, 8));
+        let kind = next_below(&mut state, 8);
         let line = if kind == 7 {
-            let algorithm = draw(&mut state, 32);
+            let algorithm = next_below(&mut state, 32);
             format!(in alloc; "{block} param 134 {algorithm}\n")?
         } else {
-            let key = draw(&mut state, 60).wrapping_add(36);
+            let key = next_below(&mut state, 60).wrapping_add(36);
             if kind < 4 {
-                let velocity = draw(&mut state, 127).wrapping_add(1);
+                let velocity = next_below(&mut state, 127).wrapping_add(1);
                 format!(in alloc; "{block} on 0 {key} {velocity}\n")?
             } else {
                 format!(in alloc; "{block} off 0 {key}\n")?
@@ -89,7 +89,7 @@ fn sums(rt: HostRuntime) -> Result<(), Fail> {
     ];
     for (seed, blocks, commands, sum) in rows {
         assert!(rt; blocks <= 100_000);
-        let played = play_drawn(rt.alloc(), seed, blocks)?;
+        let played = play_generated(rt.alloc(), seed, blocks)?;
         assert_eq!(rt; played.commands, commands, "{seed} {blocks}");
         assert_eq!(rt; played.sum, sum.unwrap_or(played.sum), "{seed} {blocks}");
     }

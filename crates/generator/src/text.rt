@@ -1,15 +1,17 @@
+//! The text of a generated script.
+
 ghost use Rattle.std.specs.Prelude.{◌≡◌, ◌≤◌, ◌<◌, ◌++◌, [], ◌∷◌, IfOk, decimal, length};
 ghost use Rattle.plain_text.specs.Split.{spaced};
 ghost use Rattle.command_set.specs.Command.{IsInRange, content};
 ghost use Rattle.command_set.specs.Text.{text};
-ghost use Rattle.generator.specs.Drawn.{generated_text};
+ghost use Rattle.generator.specs.Generated.{generated_text};
 
-use crate::script::DrawnScript;
+use crate::script::GeneratedScript;
 use command_set::{Command, LineText};
 use plain_text::{push_number, push_text};
 use std::alloc::{AllocError, Global};
 
-/// A script of so many drawn commands, up to 100,000: the line `midi 1`, and a line for each.
+/// A script of so many generated commands, up to 100,000: the line `midi 1`, and a line for each.
 ///
 /// The one error is want of memory.
 pub fn script_text(
@@ -21,13 +23,13 @@ pub fn script_text(
     requires { commands ≤ 100000 }
     ensures { IfOk result (λ text. text.items ≡ generated_text seed script commands) }
 {
-    let mut drawn = DrawnScript::new(seed, script);
+    let mut generated = GeneratedScript::new(seed, script);
     let mut line = LineText::new();
     let mut text = Vec::new(alloc);
     text.extend_from_slice(b"midi 1\n")?;
     for _turn in 0..commands {
-        let due = drawn.due;
-        let command = drawn.next_command();
+        let due = generated.due;
+        let command = generated.next_command();
         write_line(due, &command, &mut line);
         text.extend_from_slice(line.as_slice())?;
     }

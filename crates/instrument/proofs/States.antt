@@ -27,7 +27,7 @@ fresh_slots vs s voice switch channel key velocity f vo sw h =
     subst P vo (subst Q sw h)
 
 -- the LFO takes the settings of the voice, and a key goes down
-pub pressed_is : (l : Lfo) (s : State) (voice : List ℕ) → voice ≡ s.voice → IsLfo l (key_pressed (assigned (lfo_settings voice) s.oscillation s.steps) 0) 0 → IsLfo l (key_pressed (assigned (lfo_settings s.voice) s.oscillation s.steps) 0) 0
+pub pressed_is : (l : Lfo) (s : State) (voice : List ℕ) → voice ≡ s.voice → IsLfo l (key_pressed (assigned (lfo_settings voice) s.lfo s.steps) 0) 0 → IsLfo l (key_pressed (assigned (lfo_settings s.voice) s.lfo s.steps) 0) 0
 pressed_is l s voice vo h = rw (← vo) h
 
 pub none_is : (o : Option ℕ) → ((x : ℕ) → o ≡ Some x → ⊥) → o ≡ None

@@ -14,5 +14,5 @@ pub record IsIn (i : Instrument) (s : State) : Type 0 where
   pub wheel : i.wheel ≡ s.wheel
   pub pedal : i.is_pedal_down ≡ s.is_pedal_down
   pub next : i.next ≡ s.next
-  pub oscillator : IsLfo i.lfo s.oscillation s.steps
+  pub lfo : IsLfo i.lfo s.lfo s.steps
   pub slots : AreSlots i.slots s.slots

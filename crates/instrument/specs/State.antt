@@ -27,7 +27,7 @@ pub record State : Type 0 where
   pub wheel : ℕ
   pub is_pedal_down : Bool
   pub next : ℕ
-  pub oscillation : LfoState
+  pub lfo : LfoState
   pub steps : ℕ
   pub slots : ℕ → Option SlotData
 
@@ -41,7 +41,7 @@ opening = record {
   wheel = 0;
   is_pedal_down = false;
   next = 0;
-  oscillation = opening_lfo;
+  lfo = opening_lfo;
   steps = 0;
   slots = λ _. None;
 }
@@ -71,7 +71,7 @@ fresh s channel key velocity = record { channel = channel; note = begun s.voice 
 abbrev pub taken : State → SlotData → ℕ → State
 taken s w f = record s {
   next = (f + 1) % 16;
-  oscillation = key_pressed (assigned (lfo_settings s.voice) s.oscillation s.steps) 0;
+  lfo = key_pressed (assigned (lfo_settings s.voice) s.lfo s.steps) 0;
   steps = 0;
   slots = λ i. if i == f then Some w else s.slots i;
 }
@@ -134,8 +134,8 @@ apply s (TakesCartridge voices) = record s { bank = voices }
 -- what moves the notes in the next block: the LFO's next step, the bend and the wheel
 abbrev pub modulation : State → Modulation
 modulation s = record {
-  lfo = lfo_value s.oscillation (s.steps + 1);
-  delay = lfo_depth s.oscillation (s.steps + 1);
+  lfo = lfo_value s.lfo (s.steps + 1);
+  delay = lfo_depth s.lfo (s.steps + 1);
   bend = s.bend;
   wheel = s.wheel;
 }

@@ -1,31 +1,29 @@
 -- What each call makes of a world's fields stands for the core one step on.
 use Rattle.std.proofs.Common.{◌≡◌, ℕ, zero, suc, ◌+◌, ◌-◌, ◌^◌, ◌<◌, ◌≤◌, min, List, [], ◌∷◌, ◌++◌, length, get_or, set, replicate, map, refl, sym, ◌∙◌, ap, subst, arith, inl, inr}
 use Rattle.std.specs.Prelude.{◌==◌, ◌&&◌, ◌↔◌, ◌⊎◌, IsTrue, nat_lt, Bool, true, false, cond}
-use Rattle.std.proofs.lemmas.Bool.{both_ways, cases_lt, lt-ltb, le-ltb, eqb-true, eqb-false, cond-true, cond-false}
-use Rattle.std.proofs.lemmas.List.{map-append, length-map, length_push, length-set, length-replicate, get_or-replicate, get_or-set_same, get_or-set_other, get_or_past, replicate_more}
+use Rattle.std.proofs.lemmas.Bool.{both_ways, lt-ltb, le-ltb, eqb-true, eqb-false, cond-true, cond-false}
+use Rattle.std.proofs.lemmas.List.{map-append, length-map, length_push, length-set, length-replicate, get_or-replicate, get_or-set_same, get_or-set_other, ext_get_or, replicate_more}
+use Rattle.std.specs.List.{range_with_len}
+use Rattle.std.proofs.lemmas.List.FromFn.{length-map-range_with_len, get_or-map-range_with_len}
 use Rattle.command_set.specs.declared.command.Command.{Command}
 use Rattle.command_set.specs.declared.entry.Entry.{Entry}
 use Rattle.command_set.specs.declared.entry.Logged.{Logged}
 use Rattle.command_set.specs.Command.{content}
-use Rattle.command_set.specs.Entries.{EntryData, LoggedData, entry_data, logged_data}
+use Rattle.command_set.specs.Entries.{EntryData, LoggedData, entry_data, logged_data, journal_data, entries_of, sent_by}
 use Rattle.instrument.specs.declared.instrument.Instrument.{Instrument}
 use Rattle.instrument.specs.Instrument.{IsIn}
 use Rattle.instrument.specs.State.{State, apply, passed}
 use Rattle.instrument.specs.State.{opening as opening_state}
 use Rattle.instrument.specs.Journal.{state_at}
 use Rattle.schedule_core.specs.declared.mark.Mark.{Mark}
-use Rattle.schedule_core.specs.declared.world.World.{World}
 use Rattle.instrument.specs.Logging.{logged_at}
-use Rattle.schedule_core.specs.Core.{Core, opening, Send, Take, Render, Settle, step, run, queued, refused, taken, next_entry}
+use Rattle.schedule_core.specs.Core.{Core, Sends, no_sends, sends_of, accepted_of, refusals_of, first_of, with_entry, with_refusal, opening, Send, Take, Render, Settle, step, run, queued, refused, taken, next_entry}
 use Rattle.schedule_core.specs.Schedule.{IsLegal}
-use Rattle.schedule_core.specs.World.{mark_of, Stands, IsLater, IsFirst, ends_of, blocks_of}
+use Rattle.schedule_core.specs.Fields.{fresh_mark, core_of, mark_in, mark_of, sends_in, Stands}
 use Rattle.instrument.proofs.Journals.{state_opening, state_logged, state_passed}
-use Rattle.schedule_core.proofs.Legal.{opening_legal, step_legal, accepts, refuses}
+use Rattle.schedule_core.proofs.Legal.{at_set, fresh_at, accepted_queued, refusals_queued, accepted_refused, refusals_refused, opening_legal, step_legal, accepts, refuses}
 use Rattle.schedule_core.proofs.Sounds.{run_appended}
 use Rattle.schedule_core.proofs.Settling.{settles_by_taking}
-
-abbrev pub fresh_mark : Mark
-fresh_mark = record { accepted = 0; refusals = 0; first = 0 }
 
 pub opens : (places scripts : ℕ) (marks : List Mark) (i : Instrument) → marks ≡ replicate scripts fresh_mark → IsIn i opening_state → Stands places [] [] 0 marks i (opening places scripts)
 opens places scripts marks i are h = record {
@@ -34,34 +32,13 @@ opens places scripts marks i are h = record {
   line = refl;
   log = refl;
   time = refl;
-  ends = ap length are ∙ length-replicate scripts fresh_mark;
-  counts = λ script d below. ap (λ (ms : List Mark). get_or ms script d) are ∙ get_or-replicate scripts script fresh_mark d below;
+  ends = ap length are ∙ length-replicate scripts fresh_mark ∙ sym (length-replicate scripts no_sends);
+  counts = λ script d below. ap (λ (ms : List Mark). get_or ms script d) are ∙ get_or-replicate scripts script fresh_mark d (omega (arith, below, length-replicate scripts no_sends))
+      ∙ sym (ap mark_in (fresh_at places scripts script below));
   playing = subst (λ (s : State). IsIn i s) (sym state_opening) h;
 }
 
-all_fresh : (scripts script : ℕ) → get_or (replicate scripts fresh_mark) script fresh_mark ≡ fresh_mark
-all_fresh scripts script =
-    by_place (cases_lt script scripts) where
-      by_place : (script < scripts) ⊎ (scripts ≤ script) → get_or (replicate scripts fresh_mark) script fresh_mark ≡ fresh_mark
-      by_place (inl inside) = get_or-replicate scripts script fresh_mark fresh_mark inside
-      by_place (inr past) =
-          let long : length (replicate scripts fresh_mark) ≤ script = omega (arith, past, length-replicate scripts fresh_mark) in
-          get_or_past (replicate scripts fresh_mark) script fresh_mark long
-
-pub begins : (scripts : ℕ) (w : World) → w.marks.items ≡ replicate scripts fresh_mark → ends_of w ≡ scripts → blocks_of w ≡ 0 → IsFirst scripts w
-begins scripts w are many none = record {
-  ends = many;
-  accepted = λ script. ap (λ (ms : List Mark). (get_or ms script fresh_mark).accepted) are ∙ ap (λ (m : Mark). m.accepted) (all_fresh scripts script);
-  blocks = none;
-}
-
 -- marks
-
-mark_set : (t : Bool) (marks : List Mark) (script k : ℕ) (m d : Mark) → (script == k) ≡ t → script < length marks → get_or (set marks script m) k d ≡ cond t m (get_or marks k d)
-mark_set true marks script k m d is below =
-    let same : script ≡ k = eqb-true script k is in
-    ap (λ (n : ℕ). get_or (set marks script m) n d) (sym same) ∙ get_or-set_same marks script m d below
-mark_set false marks script k m d is below = get_or-set_other marks script k m d (λ e. eqb-false script k is (sym e))
 
 mark_accepted : (t : Bool) (old new : Mark) (list : List EntryData) (e : EntryData) (refusals first : ℕ) → old ≡ record { accepted = length list; refusals = refusals; first = first }
     → (t ≡ true → new ≡ record { accepted = length list + 1; refusals = refusals; first = first })
@@ -81,36 +58,58 @@ read_mark : {places : ℕ} {waiting : List Entry} {journal : List Logged} {block
     → (script : ℕ) (m : Mark) → script < length marks → m ≡ get_or marks script m → m ≡ mark_of c script
 read_mark {marks} h script m below is = is ∙ h.counts script m (omega (arith, below, h.ends))
 
+queued_mark : (c : Core) (e : EntryData) (k : ℕ) → e.script < length c.scripts
+    → mark_of (queued c e) k ≡ record { accepted = length (cond (e.script == k) (accepted_of c k ++ e ∷ []) (accepted_of c k)); refusals = refusals_of c k; first = first_of c k }
+queued_mark c e k made = λ j. let m : Mark = record {
+  accepted = length (accepted_queued c e k made j);
+  refusals = (refusals_queued c e k made).0 j;
+  first = (refusals_queued c e k made).1 j;
+} in m
+
+refused_mark : (c : Core) (script k : ℕ) → script < length c.scripts
+    → mark_of (refused c script) k ≡ record {
+      accepted = length (accepted_of c k);
+      refusals = cond (script == k) (min (refusals_of c k + 1) (2 ^ 64 - 1)) (refusals_of c k);
+      first = cond (script == k && refusals_of c k == 0) (length (accepted_of c k)) (first_of c k);
+    }
+refused_mark c script k made = λ j. let m : Mark = record {
+  accepted = length (accepted_refused c script k made j);
+  refusals = (refusals_refused c script k made).0 j;
+  first = (refusals_refused c script k made).1 j;
+} in m
+
 -- sends
 
 pub accepted : (places : ℕ) (waiting : List Entry) (journal : List Logged) (blocks : ℕ) (marks : List Mark) (i : Instrument) (c : Core) (script due : ℕ) (command : Command) (m : Mark)
     → Stands places waiting journal blocks marks i c → length waiting < places → script < length marks → m ≡ get_or marks script m
-    → (length c.waiting < c.places) × (m.accepted ≡ length (c.accepted script))
+    → (length c.waiting < c.places) × (m.accepted ≡ length (accepted_of c script))
     × Stands places (waiting ++ record { script = script; seq = m.accepted; sent_at = due; command = command } ∷ []) journal blocks
     (set marks script (record m { accepted = m.accepted + 1 })) i (step c (Send script due (content command)))
 accepted places waiting journal blocks marks i c script due command m h room below is =
     let e : Entry = record { script = script; seq = m.accepted; sent_at = due; command = command } in
     let next : EntryData = next_entry c script due (content command) in
     let new : Mark = record m { accepted = m.accepted + 1 } in
-    let made : script < c.scripts = omega (arith, below, h.ends) in
+    let made : script < length c.scripts = omega (arith, below, h.ends) in
+    let many : length (queued c next).scripts ≡ length c.scripts = length-set c.scripts script (with_entry (sends_of c script) next) in
     let long : length waiting ≡ length c.waiting = sym (length-map waiting entry_data) ∙ ap length h.line in
     let fewer : length c.waiting < c.places = omega (arith, room, long, h.limit) in
     let mark : m ≡ mark_of c script = read_mark h script m below is in
-    let seq : m.accepted ≡ length (c.accepted script) = ap (λ (x : Mark). x.accepted) mark in
+    let seq : m.accepted ≡ length (accepted_of c script) = ap (λ (x : Mark). x.accepted) mark in
     let same : entry_data e ≡ next = ap (λ (n : ℕ). let d : EntryData = record { script = script; seq = n; sent_at = due; command = content command } in d) seq in
-    let one : new ≡ record { accepted = length (c.accepted script) + 1; refusals = c.refusals script; first = c.first script } = ap (λ (x : Mark). let y : Mark = record x { accepted = x.accepted + 1 } in y) mark in
+    let one : new ≡ record { accepted = length (accepted_of c script) + 1; refusals = refusals_of c script; first = first_of c script } = ap (λ (x : Mark). let y : Mark = record x { accepted = x.accepted + 1 } in y) mark in
     let stands : Stands places (waiting ++ e ∷ []) journal blocks (set marks script new) i (queued c next) = record {
       legal = accepts c script due (content command) made fewer h.legal;
       limit = h.limit;
       line = map-append entry_data waiting (e ∷ []) ∙ ap (λ (front : List EntryData). front ++ entry_data e ∷ []) h.line ∙ ap (λ (x : EntryData). c.waiting ++ x ∷ []) same;
       log = h.log;
       time = h.time;
-      ends = length-set marks script new ∙ h.ends;
+      ends = length-set marks script new ∙ h.ends ∙ sym many;
       counts = λ k d inside.
-          mark_set (script == k) marks script k new d refl below
-          ∙ mark_accepted (script == k) (get_or marks k d) new (c.accepted k) next (c.refusals k) (c.first k) (h.counts k d inside)
+          at_set (script == k) marks script k new d refl below
+          ∙ mark_accepted (script == k) (get_or marks k d) new (accepted_of c k) next (refusals_of c k) (first_of c k) (h.counts k d (omega (arith, inside, many)))
           (λ t. let at : script ≡ k = eqb-true script k t in
-          subst (λ (n : ℕ). new ≡ record { accepted = length (c.accepted n) + 1; refusals = c.refusals n; first = c.first n }) at one);
+          subst (λ (n : ℕ). new ≡ record { accepted = length (accepted_of c n) + 1; refusals = refusals_of c n; first = first_of c n }) at one)
+          ∙ sym (queued_mark c next k made);
       playing = h.playing;
     } in
     let test : nat_lt (length c.waiting) c.places ≡ true = lt-ltb (length c.waiting) c.places fewer in
@@ -127,21 +126,24 @@ turned_away places waiting journal blocks marks i c script due command m h full 
     let new : Mark = record { accepted = m.accepted; refusals = min (m.refusals + 1) (2 ^ 64 - 1); first = cond (m.refusals == 0) m.accepted m.first } in
     let long : length waiting ≡ length c.waiting = sym (length-map waiting entry_data) ∙ ap length h.line in
     let all : length c.waiting ≡ c.places = sym long ∙ full ∙ h.limit in
+    let made : script < length c.scripts = omega (arith, below, h.ends) in
+    let many : length (refused c script).scripts ≡ length c.scripts = length-set c.scripts script (with_refusal (sends_of c script)) in
     let mark : m ≡ mark_of c script = read_mark h script m below is in
-    let one : new ≡ record { accepted = length (c.accepted script); refusals = min (c.refusals script + 1) (2 ^ 64 - 1); first = cond (c.refusals script == 0) (length (c.accepted script)) (c.first script) } =
+    let one : new ≡ record { accepted = length (accepted_of c script); refusals = min (refusals_of c script + 1) (2 ^ 64 - 1); first = cond (refusals_of c script == 0) (length (accepted_of c script)) (first_of c script) } =
     ap (λ (x : Mark). let y : Mark = record { accepted = x.accepted; refusals = min (x.refusals + 1) (2 ^ 64 - 1); first = cond (x.refusals == 0) x.accepted x.first } in y) mark in
     let stands : Stands places waiting journal blocks (set marks script new) i (refused c script) = record {
-      legal = refuses c script (omega (arith, all)) h.legal;
+      legal = refuses c script made (omega (arith, all)) h.legal;
       limit = h.limit;
       line = h.line;
       log = h.log;
       time = h.time;
-      ends = length-set marks script new ∙ h.ends;
+      ends = length-set marks script new ∙ h.ends ∙ sym many;
       counts = λ k d inside.
-          mark_set (script == k) marks script k new d refl below
-          ∙ mark_refused (script == k) (get_or marks k d) new (length (c.accepted k)) (c.refusals k) (c.first k) (h.counts k d inside)
+          at_set (script == k) marks script k new d refl below
+          ∙ mark_refused (script == k) (get_or marks k d) new (length (accepted_of c k)) (refusals_of c k) (first_of c k) (h.counts k d (omega (arith, inside, many)))
           (λ t. let at : script ≡ k = eqb-true script k t in
-          subst (λ (n : ℕ). new ≡ record { accepted = length (c.accepted n); refusals = min (c.refusals n + 1) (2 ^ 64 - 1); first = cond (c.refusals n == 0) (length (c.accepted n)) (c.first n) }) at one);
+          subst (λ (n : ℕ). new ≡ record { accepted = length (accepted_of c n); refusals = min (refusals_of c n + 1) (2 ^ 64 - 1); first = cond (refusals_of c n == 0) (length (accepted_of c n)) (first_of c n) }) at one)
+          ∙ sym (refused_mark c script k made);
       playing = h.playing;
     } in
     let test : nat_lt (length c.waiting) c.places ≡ false = le-ltb (length c.waiting) c.places (omega (arith, all)) in
@@ -221,10 +223,51 @@ pub none_waits : (t : Bool) (n : ℕ) → (IsTrue t ↔ (0 < n)) → t ≡ false
 none_waits t zero says is = refl
 none_waits t (suc n) says is = absurd (both_ways t is (says.1 (omega arith)))
 
--- later than later
-pub later_on : {sent rendered : ℕ} {first before now : World} → IsLater sent rendered first before → IsLater 0 0 before now → IsLater sent rendered first now
-later_on g h = record {
-  ends = h.ends ∙ g.ends;
-  accepted = λ script. let one = g.accepted script in let two = h.accepted script in omega (arith, one, two);
-  blocks = omega (arith, g.blocks, h.blocks);
-}
+-- one that waits is taken
+taken_one : (c : Core) (es : List EntryData) → 0 < length es → length es ≡ length (taken (record c { waiting = es }) es).waiting + 1
+taken_one c [] some = absurd (omega (arith, some))
+taken_one c (e ∷ es) some = omega arith
+
+pub take_one : (c : Core) → 0 < length c.waiting → length c.waiting ≡ length (step c Take).waiting + 1
+take_one c some = taken_one c c.waiting some
+
+-- a test that is true says that one waits
+pub one_waits : (t : Bool) (n : ℕ) → (IsTrue t ↔ (0 < n)) → t ≡ true → 0 < n
+one_waits t n says is = says.0 is
+
+-- the fields determine the core
+
+sends_same : (all : List EntryData) (marks : List Mark) (c : Core) (script : ℕ) → accepted_of c script ≡ sent_by script all
+    → get_or marks script fresh_mark ≡ mark_of c script → sends_of c script ≡ sends_in all marks script
+sends_same all marks c script list mark = λ j. let s : Sends = record {
+  accepted = list j;
+  refusals = (sym mark j).refusals;
+  first = (sym mark j).first;
+} in s
+
+pub determined : (places : ℕ) (waiting : List Entry) (journal : List Logged) (blocks : ℕ) (marks : List Mark) (i : Instrument) (c : Core)
+    → Stands places waiting journal blocks marks i c → core_of places waiting journal blocks marks ≡ c
+determined places waiting journal blocks marks i c h =
+    let all : List EntryData = entries_of (journal_data journal) ++ map entry_data waiting in
+    let own : entries_of c.journal ++ c.waiting ≡ all = λ j. entries_of (sym h.log j) ++ sym h.line j in
+    let many : length c.scripts ≡ length (map (sends_in all marks) (range_with_len 0 (length marks))) =
+    sym h.ends ∙ sym (length-map-range_with_len (sends_in all marks) 0 (length marks)) in
+    let scripts : c.scripts ≡ map (sends_in all marks) (range_with_len 0 (length marks)) =
+    ext_get_or no_sends c.scripts (map (sends_in all marks) (range_with_len 0 (length marks))) many
+    (λ k below.
+    sends_same all marks c k (h.legal.lists k below ∙ ap (sent_by k) own) (h.counts k fresh_mark below)
+    ∙ sym (get_or-map-range_with_len (sends_in all marks) 0 (length marks) k k no_sends (omega (arith, below, h.ends)) (omega arith))) in
+    sym (λ j.
+    let d : Core = record {
+      places = sym h.limit j;
+      scripts = scripts j;
+      waiting = sym h.line j;
+      journal = sym h.log j;
+      blocks = sym h.time j;
+    } in d)
+
+-- so they stand for it
+pub stands_for : (places : ℕ) (waiting : List Entry) (journal : List Logged) (blocks : ℕ) (marks : List Mark) (i : Instrument) (c : Core)
+    → Stands places waiting journal blocks marks i c → Stands places waiting journal blocks marks i (core_of places waiting journal blocks marks)
+stands_for places waiting journal blocks marks i c h =
+    subst (λ (d : Core). Stands places waiting journal blocks marks i d) (sym (determined places waiting journal blocks marks i c h)) h

@@ -1,27 +1,49 @@
 -- The core of a schedule as plain data: scripts send entries into a line of limited length, and one taker logs them block by block.
-use Rattle.std.specs.Prelude.{ℕ, ◌+◌, ◌-◌, ◌^◌, ◌<◌, ◌==◌, min, nat_lt, ◌&&◌, if◌then◌else◌, List, [], ◌∷◌, ◌++◌, length, map, ℤ}
+use Rattle.std.specs.Prelude.{ℕ, ◌+◌, ◌-◌, ◌^◌, ◌<◌, ◌==◌, min, nat_lt, if◌then◌else◌, List, [], ◌∷◌, ◌++◌, length, map, replicate, slice_index_or, slice_set, ℤ}
 use Rattle.command_set.specs.Command.{CommandData}
 use Rattle.command_set.specs.Entries.{EntryData, LoggedData}
 use Rattle.instrument.specs.Journal.{sound}
 use Rattle.instrument.specs.Logging.{logged_at}
 
--- How many entries may wait, how many scripts there are, the entries that wait, the journal of those that were taken, the blocks that were rendered; and by the number of a script
--- the entries that were accepted of it, how often it was refused, and how many had been accepted of it at its first refusal.
+-- what became of a script's sends: the entries that were accepted, how often one was refused, and how many had been accepted at
+-- the first refusal
+pub record Sends : Type 0 where
+  pub accepted : List EntryData
+  pub refusals : ℕ
+  pub first : ℕ
+
+-- nothing was sent yet
+abbrev pub no_sends : Sends
+no_sends = record { accepted = []; refusals = 0; first = 0 }
+
+-- how many entries may wait, the sends of each script, the entries that wait, the journal of those that were taken, and the blocks
+-- that were rendered
 pub record Core : Type 0 where
   pub places : ℕ
-  pub scripts : ℕ
+  pub scripts : List Sends
   pub waiting : List EntryData
   pub journal : List LoggedData
   pub blocks : ℕ
-  pub accepted : ℕ → List EntryData
-  pub refusals : ℕ → ℕ
-  pub first : ℕ → ℕ
 
--- nothing was sent yet
+-- of a script by its number
+abbrev pub sends_of : Core → ℕ → Sends
+sends_of c script = slice_index_or c.scripts script no_sends
+
+abbrev pub accepted_of : Core → ℕ → List EntryData
+accepted_of c script = (sends_of c script).accepted
+
+abbrev pub refusals_of : Core → ℕ → ℕ
+refusals_of c script = (sends_of c script).refusals
+
+abbrev pub first_of : Core → ℕ → ℕ
+first_of c script = (sends_of c script).first
+
+-- a core of so many places and scripts, of which nothing was sent yet
 abbrev pub opening : ℕ → ℕ → Core
-opening places scripts = record { places = places; scripts = scripts; waiting = []; journal = []; blocks = 0; accepted = λ _. []; refusals = λ _. 0; first = λ _. 0 }
+opening places scripts = record { places = places; scripts = replicate scripts no_sends; waiting = []; journal = []; blocks = 0 }
 
--- what may happen next: a script sends a command that was due at a block, the first entry is taken, a block is rendered, or all entries are taken
+-- what may happen next: a script sends a command that was due at a block, the first entry is taken, a block is rendered, or all
+-- entries are taken
 pub data Step : Type 0 where
   Send : ℕ → ℕ → CommandData → Step
   Take : Step
@@ -30,18 +52,29 @@ pub data Step : Type 0 where
 
 -- a script's next entry
 abbrev pub next_entry : Core → ℕ → ℕ → CommandData → EntryData
-next_entry c script due command = record { script = script; seq = length (c.accepted script); sent_at = due; command = command }
+next_entry c script due command = record { script = script; seq = length (accepted_of c script); sent_at = due; command = command }
+
+-- one more entry of a script
+abbrev pub with_entry : Sends → EntryData → Sends
+with_entry s e = record s { accepted = s.accepted ++ e ∷ [] }
+
+-- one more refusal of it, counted up to 2^64 - 1
+abbrev pub with_refusal : Sends → Sends
+with_refusal s = record s {
+  refusals = min (s.refusals + 1) (2 ^ 64 - 1);
+  first = if s.refusals == 0 then length s.accepted else s.first;
+}
 
 -- the entry goes last into the line and into its script's list
 abbrev pub queued : Core → EntryData → Core
-queued c e = record c { waiting = c.waiting ++ e ∷ []; accepted = λ s. if e.script == s then c.accepted s ++ e ∷ [] else c.accepted s }
-
--- one more refusal of a script, counted up to 2^64 - 1
-abbrev pub refused : Core → ℕ → Core
-refused c script = record c {
-  refusals = λ s. if script == s then min (c.refusals s + 1) (2 ^ 64 - 1) else c.refusals s;
-  first = λ s. if script == s && c.refusals s == 0 then length (c.accepted s) else c.first s;
+queued c e = record c {
+  scripts = slice_set c.scripts e.script (with_entry (sends_of c e.script) e);
+  waiting = c.waiting ++ e ∷ [];
 }
+
+-- a script is refused
+abbrev pub refused : Core → ℕ → Core
+refused c script = record c { scripts = slice_set c.scripts script (with_refusal (sends_of c script)) }
 
 -- the first of the entries that wait is logged at the present block, if one waits
 abbrev pub taken : Core → List EntryData → Core
@@ -53,7 +86,8 @@ abbrev pub settled : Core → Core
 settled c = record c { waiting = []; journal = c.journal ++ map (logged_at c.blocks) c.waiting }
 
 abbrev pub step : Core → Step → Core
-step c (Send script due command) = if nat_lt (length c.waiting) c.places then queued c (next_entry c script due command) else refused c script
+step c (Send script due command) =
+    if nat_lt (length c.waiting) c.places then queued c (next_entry c script due command) else refused c script
 step c Take = taken c c.waiting
 step c Render = record c { blocks = c.blocks + 1 }
 step c Settle = settled c

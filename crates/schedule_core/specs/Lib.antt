@@ -1,4 +1,5 @@
 pub mod Core
+pub mod Fields
 pub mod Ranges
 pub mod Schedule
 pub mod World

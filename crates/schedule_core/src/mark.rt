@@ -1,3 +1,5 @@
+//! What became of the sends of a script.
+
 ghost use Rattle.std.specs.Prelude.{◌≡◌, ◌+◌, ◌-◌, ◌^◌, ◌<◌, ◌==◌, min, if◌then◌else◌};
 
 /// What became of a script's sends: how many were accepted, how many were refused, up to 2^64 - 1,
@@ -34,7 +36,10 @@ impl Mark {
 
     /// One more was refused.
     pub fn refuse(self) -> Mark
-        ensures { result ≡ record { accepted = self.accepted; refusals = min (self.refusals + 1) (2 ^ 64 - 1); first = if self.refusals == 0 then self.accepted else self.first } }
+        ensures { result ≡ record {
+            accepted = self.accepted;
+            refusals = min (self.refusals + 1) (2 ^ 64 - 1);
+            first = if self.refusals == 0 then self.accepted else self.first } }
     {
         Mark {
             accepted: self.accepted,

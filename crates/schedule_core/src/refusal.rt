@@ -1,3 +1,5 @@
+//! Why a send did not take place.
+
 use command_set::Command;
 
 /// Why a send didn't take place. The command comes back.

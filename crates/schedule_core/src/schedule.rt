@@ -1,3 +1,5 @@
+//! The laws over all schedules.
+
 ghost use Rattle.schedule_core.specs.Schedule.{EverySchedule, SettlesByTaking};
 
 /// A law, with nothing to compute: after every list of sends, takes, settlings and blocks the core is legal, and each block

@@ -1,5 +1,7 @@
-ghost use Rattle.std.specs.Prelude.{ℕ, ◌≡◌, ◌<◌, OnOk};
-ghost use Rattle.schedule_core.specs.World.{IsFirst, IsLater, ends_of, accepted_of, blocks_of};
+//! A world beside a plain program, schedule by schedule.
+
+ghost use Rattle.std.specs.Prelude.{ℕ, ◌≡◌, ◌<◌, OnOk, length};
+ghost use Rattle.schedule_core.specs.Core.{Step, accepted_of, opening, step};
 
 use super::*;
 use crate::plain::{PlainCore, command_of};
@@ -39,10 +41,10 @@ fn one_step(
     plain: &mut PlainCore,
     random: u32,
 ) -> Result<bool, AllocError>
-    requires ends { ends_of world.old ≡ 3 }
-    requires accepted { (script : ℕ) → accepted_of world.old script < 1000 }
-    requires blocks { blocks_of world.old < 1000 }
-    ensures { OnOk result (IsLater 1 1 world.old world.new) }
+    requires scripts { length world.old.scripts ≡ 3 }
+    requires accepted { (script : ℕ) → length (accepted_of world.old script) < 1000 }
+    requires blocks { world.old.blocks < 1000 }
+    ensures { OnOk result ((s : Step) × (world.new ≡ step world.old s)) }
 {
     let kind = random % 9;
     if kind == 0 {
@@ -75,8 +77,8 @@ fn one_schedule(
     plain: &mut PlainCore,
     seed: u32,
 ) -> Result<u32, AllocError>
-    requires { IsFirst 3 world.old }
-    ensures { OnOk result (ends_of world.new ≡ 3) }
+    requires { world.old ≡ opening world.old.places 3 }
+    ensures { OnOk result (length world.new.scripts ≡ 3) }
 {
     let mut random = seed;
     let mut heard = 0u32;

@@ -1,7 +1,12 @@
-ghost use Rattle.std.specs.Prelude.{◌≤◌, All};
-ghost use Rattle.std.specs.VecDeque.{deque_len};
+//! The world: a line of entries, a journal of those that were taken, and the instrument that plays them.
+
+ghost use Rattle.std.specs.Prelude.{ℕ, ◌≡◌, ◌+◌, ◌<◌, ◌≤◌, ◌↔◌, IsTrue, IfOk, OnOk, OnErr, length, replicate};
 ghost use Rattle.command_set.specs.Command.{IsInRange, content};
-ghost use Rattle.schedule_core.specs.Ranges.{in_range_once};
+ghost use Rattle.command_set.specs.Entries.{journal_data};
+ghost use Rattle.instrument.specs.Journal.{sound};
+ghost use Rattle.schedule_core.specs.Core.{accepted_of, refusals_of, opening, step, run, Take, Settle, Render};
+ghost use Rattle.schedule_core.specs.Schedule.{IsLegal};
+ghost use Rattle.schedule_core.specs.World.{HasSent};
 
 use crate::mark::Mark;
 use crate::refusal::WorldRefusal;
@@ -10,8 +15,11 @@ use dx_tables::Engine;
 use instrument::Instrument;
 use std::alloc::{AllocError, Global};
 use std::collections::VecDeque;
+use std::marker::Model;
 
-/// Scripts send commands into one line, and one taker logs them and plays them, block by block: all of it on one thread.
+/// Scripts send commands into one line, and one taker logs them and plays them, block by block: all of it on one thread. Contracts
+/// see the core of the schedule: the places, the entries that wait, the journal, the blocks that were rendered, and what was
+/// accepted and refused of each script.
 #[derive(Drop)]
 pub struct World {
     places: usize,
@@ -20,26 +28,31 @@ pub struct World {
     blocks: u32,
     marks: Vec<Mark>,
     instrument: Instrument,
-    ghost limit: { places ≤ 1000000 },
-    ghost room: { deque_len waiting ≤ places },
-    ghost ranges: { All (λ e. IsInRange (content e.command)) waiting.items } by { Prim.hlevel in_range_once },
+}
+
+impl Model for World {
+    ghost use Rattle.std.specs.Prelude.{◌≤◌, All};
+    ghost use Rattle.command_set.specs.Command.{IsInRange, content};
+    ghost use Rattle.schedule_core.specs.Core.{Core};
+    ghost use Rattle.schedule_core.specs.Fields.{Stands, core_of};
+
+    ghost Value = { Core };
+
+    ghost view = { λ w. core_of w.places w.waiting.items w.journal.items w.blocks w.marks.items };
+
+    ghost invariant = { λ w. (w.places ≤ 1000000)
+        × Stands w.places w.waiting.items w.journal.items w.blocks w.marks.items w.instrument (core_of w.places w.waiting.items w.journal.items w.blocks w.marks.items)
+        × All (λ e. IsInRange (content e.command)) w.waiting.items };
 }
 
 impl World {
-    ghost use Rattle.std.specs.Prelude.{ℕ, ◌≡◌, ◌+◌, ◌<◌, ◌↔◌, IsTrue, IfOk, OnOk, OnErr, length, replicate, if◌then◌else◌};
-    ghost use Rattle.command_set.specs.Entries.{journal_data};
-    ghost use Rattle.instrument.specs.Journal.{sound};
-    ghost use Rattle.schedule_core.specs.Core.{Core, opening, step, run, Take, Settle, Render};
-    ghost use Rattle.schedule_core.specs.World.{IsWorld, HasSent, IsFirst, IsLater, ends_of, waiting_of, blocks_of, accepted_of};
-
     /// A world of so many places in the line, 1 to 1,000,000, and scripts, 1 to 256. Nothing was sent.
     ///
     /// The one error is want of memory.
     pub fn new(alloc: Global, places: usize, ends: u32, engine: Engine) -> Result<World, AllocError>
         requires places { (1 ≤ places) × (places ≤ 1000000) }
         requires ends { (1 ≤ ends) × (ends ≤ 256) }
-        ensures opening { IfOk result (λ world. IsWorld world (opening places ends)) }
-        ensures first { IfOk result (λ world. IsFirst ends world) }
+        ensures opening { IfOk result (λ world. world ≡ opening places ends) }
     {
         let marks = vec![in alloc; Mark::new(); ends as usize]?;
         let instrument = Instrument::new(alloc, engine)?;
@@ -65,11 +78,11 @@ impl World {
         sent_at: u32,
         command: Command,
     ) -> Result<u32, WorldRefusal>
-        requires script { script < ends_of self.old }
-        requires count { accepted_of self.old script < 4294967295 }
+        requires script { script < length self.old.scripts }
+        requires count { length (accepted_of self.old script) < 4294967295 }
         requires range { IsInRange (content command) }
-        ensures sent { (c : Core) → IsWorld self.old c → HasSent c script sent_at command result self.new }
-        ensures later { IsLater 1 0 self.old self.new }
+        ensures sent { HasSent self.old script sent_at command result self.new }
+        ensures legal { IsLegal self.new }
     {
         let _ = alloc;
         let mark = self.marks[script as usize];
@@ -96,11 +109,10 @@ impl World {
     ///
     /// The one error is want of memory, and then nothing happened.
     pub fn take(&mut self, alloc: Global) -> Result<bool, AllocError>
-        ensures some { IfOk result (λ taken. IsTrue taken ↔ (0 < waiting_of self.old)) }
-        ensures left { IfOk result (λ taken. waiting_of self.old ≡ waiting_of self.new + (if taken then 1 else 0)) }
-        ensures taken { (c : Core) → IsWorld self.old c → OnOk result (IsWorld self.new (step c Take)) }
-        ensures err { (c : Core) → IsWorld self.old c → OnErr result (IsWorld self.new c) }
-        ensures later { IsLater 0 0 self.old self.new }
+        ensures some { IfOk result (λ taken. IsTrue taken ↔ (0 < length self.old.waiting)) }
+        ensures taken { OnOk result (self.new ≡ step self.old Take) }
+        ensures err { OnErr result (self.new ≡ self.old) }
+        ensures legal { IsLegal self.new }
     {
         let _ = alloc;
         if self.waiting.is_empty() {
@@ -124,12 +136,13 @@ impl World {
     ///
     /// The one error is want of memory, and then those that were taken stay taken.
     pub fn settle(&mut self, alloc: Global) -> Result<u32, AllocError>
-        ensures count { IfOk result (λ count. count ≡ waiting_of self.old) }
-        ensures none { OnOk result (waiting_of self.new ≡ 0) }
-        ensures settled { (c : Core) → IsWorld self.old c → OnOk result (IsWorld self.new (step c Settle)) }
-        ensures err { (c : Core) → IsWorld self.old c → OnErr result ((k : ℕ) × (k ≤ length c.waiting) × IsWorld self.new (run c (replicate k Take))) }
-        ensures later { IsLater 0 0 self.old self.new }
+        ensures count { IfOk result (λ count. count ≡ length self.old.waiting) }
+        ensures settled { OnOk result (self.new ≡ step self.old Settle) }
+        ensures err { OnErr result ((k : ℕ) × (k ≤ length self.old.waiting) × (self.new ≡ run self.old (replicate k Take))) }
+        ensures legal { IsLegal self.new }
     {
+        // Here the proof reads what holds of every world.
+        let _ = &self.places;
         let mut count = 0;
         while self.take(alloc)? {
             count += 1;
@@ -139,11 +152,10 @@ impl World {
 
     /// Renders the next block of 64 samples. It takes no memory and refuses nothing.
     pub fn render(&mut self, out: &mut [i16; 64])
-        requires { blocks_of self.old < 4294967295 }
-        ensures sound { (c : Core) → IsWorld self.old c → out.new ≡ sound c.journal c.blocks }
-        ensures rendered { (c : Core) → IsWorld self.old c → IsWorld self.new (step c Render) }
-        ensures blocks { blocks_of self.new ≡ blocks_of self.old + 1 }
-        ensures later { IsLater 0 1 self.old self.new }
+        requires { self.old.blocks < 4294967295 }
+        ensures sound { out.new ≡ sound self.old.journal self.old.blocks }
+        ensures rendered { self.new ≡ step self.old Render }
+        ensures legal { IsLegal self.new }
     {
         self.instrument.block(out);
         self.blocks += 1;
@@ -151,23 +163,23 @@ impl World {
 
     /// The entries that were taken, each with its block.
     pub fn journal(&self) -> &[Logged]
-        ensures { (c : Core) → IsWorld self.now c → journal_data result.now ≡ c.journal }
+        ensures journal { journal_data result.now ≡ self.now.journal }
+        ensures legal { IsLegal self.now }
     {
         self.journal.as_slice()
     }
 
     /// How many blocks were rendered.
     pub fn blocks(&self) -> u32
-        ensures value { result ≡ blocks_of self.now }
-        ensures blocks { (c : Core) → IsWorld self.now c → result ≡ c.blocks }
+        ensures { result ≡ self.now.blocks }
     {
         self.blocks
     }
 
     /// Whether a send of the script was ever refused.
     pub fn was_refused(&self, script: u32) -> bool
-        requires { script < ends_of self.now }
-        ensures { (c : Core) → IsWorld self.now c → IsTrue result ↔ (0 < c.refusals script) }
+        requires { script < length self.now.scripts }
+        ensures { IsTrue result ↔ (0 < refusals_of self.now script) }
     {
         0 < self.marks[script as usize].refusals
     }

@@ -12,7 +12,7 @@ use Rattle.command_set.specs.declared.entry.Logged.{Logged}
 use Rattle.instrument.specs.State.{State, passed, apply, samples}
 use Rattle.instrument.specs.Journal.{commands_at, applied, state_at, sound}
 use Rattle.take_files.specs.Files.{AreOrdered, wav_block, wav_blocks}
-use Rattle.take_files.specs.Playback.{state_before}
+use Rattle.take_files.specs.Playing.{state_before}
 
 -- entries in order
 
@@ -40,7 +40,7 @@ none_at b least (l ∷ ls) below order =
     let other : (l.block == b) ≡ false = differs l.block b (λ e. absurd (omega (arith, above, e))) in
     rw other (none_at b l.block ls above order.2)
 
--- the entries at the front that were taken at a block
+-- the entries at the beginning that were taken at a block
 abbrev pub run_of : ℕ → List Logged → List Logged
 run_of b [] = []
 run_of b (l ∷ ls) = cond (l.block == b) (l ∷ run_of b ls) []
@@ -49,7 +49,7 @@ run_is : (b : ℕ) (ls : List Logged) → take_while (is_at b) ls ≡ run_of b l
 run_is b [] = refl
 run_is b (l ∷ ls) = take_while-cons (is_at b) l ls ∙ ap (λ (k : List Logged). cond (l.block == b) (l ∷ k) []) (run_is b ls)
 
--- what waits at a block from the front is all that was taken at it
+-- what waits at a block from the beginning is all that was taken at it
 by_test : (b : ℕ) (l : Logged) (ls : List Logged) (t : Bool) → (l.block == b) ≡ t → AreOrdered l.block (journal_data ls) → b ≤ l.block
     → (AreOrdered b (journal_data ls) → filter (is_at b) ls ≡ run_of b ls)
     → filter (is_at b) (l ∷ ls) ≡ run_of b (l ∷ ls)
@@ -60,11 +60,11 @@ by_test b l ls false is order up rest =
     let ne : l.block ≢ b = λ e. let yes = eq-eqb l.block b e in absurd (cc) in
     rw is (none_at b l.block ls (let above : b < l.block = omega (arith, ne) in above) order)
 
-pub front_at : (b : ℕ) (ls : List Logged) → AreOrdered b (journal_data ls) → filter (is_at b) ls ≡ run_of b ls
-front_at b [] order = refl
-front_at b (l ∷ ls) order = by_test b l ls (l.block == b) refl order.2 order.0 (front_at b ls)
+pub first_at : (b : ℕ) (ls : List Logged) → AreOrdered b (journal_data ls) → filter (is_at b) ls ≡ run_of b ls
+first_at b [] order = refl
+first_at b (l ∷ ls) order = by_test b l ls (l.block == b) refl order.2 order.0 (first_at b ls)
 
--- the entries behind those that wait at a block
+-- the entries after those that wait at a block
 
 abbrev pub count_at : ℕ → List Logged → ℕ
 count_at b ls = length (run_of b ls)
@@ -102,9 +102,9 @@ taken_by : (b : ℕ) (l : Logged) (ls : List Logged) (t : Bool) → (l.block == 
 taken_by b l ls true is rest = rw is (ap (λ (k : List Logged). l ∷ k) rest)
 taken_by b l ls false is rest = rw is refl
 
-front_taken : (b : ℕ) (ls : List Logged) → take (count_at b ls) ls ≡ run_of b ls
-front_taken b [] = refl
-front_taken b (l ∷ ls) = taken_by b l ls (l.block == b) refl (front_taken b ls)
+first_taken : (b : ℕ) (ls : List Logged) → take (count_at b ls) ls ≡ run_of b ls
+first_taken b [] = refl
+first_taken b (l ∷ ls) = taken_by b l ls (l.block == b) refl (first_taken b ls)
 
 abbrev pub command_in : Logged → CommandData
 command_in l = content l.entry.command
@@ -122,10 +122,10 @@ pub commands_data : (ls : List Logged) (b : ℕ) → commands_at (journal_data l
 commands_data [] b = refl
 commands_data (l ∷ ls) b = data_by b l ls (l.block == b) refl (commands_data ls b)
 
--- the commands at the front are those of the block
-pub front_commands : (b count : ℕ) (ls : List Logged) → count ≡ count_at b ls → AreOrdered b (journal_data ls) → map command_in (take count ls) ≡ commands_in ls b
-front_commands b count ls is order =
-    ap (map command_in) (ap (λ (n : ℕ). take n ls) is ∙ front_taken b ls ∙ sym (front_at b ls order))
+-- the commands at the beginning are those of the block
+pub first_commands : (b count : ℕ) (ls : List Logged) → count ≡ count_at b ls → AreOrdered b (journal_data ls) → map command_in (take count ls) ≡ commands_in ls b
+first_commands b count ls is order =
+    ap (map command_in) (ap (λ (n : ℕ). take n ls) is ∙ first_taken b ls ∙ sym (first_at b ls order))
 
 pub rest_commands : (b c count : ℕ) (ls : List Logged) → count ≡ count_at b ls → b < c → commands_in ls c ≡ commands_in (drop count ls) c
 rest_commands b c count ls is later = ap (map command_in) (sym (ap (λ (n : ℕ). filter (is_at c) (drop n ls)) is ∙ rest_later b c ls later))
@@ -157,7 +157,7 @@ pub plays : (journal : List LoggedData) (waiting : List Logged) (b count : ℕ) 
     → ((c : ℕ) → b ≤ c → commands_at journal c ≡ commands_at (journal_data waiting) c)
     → applied (state_before journal b) (map command_in (take count waiting)) ≡ state_at journal b
 plays journal waiting b count is order rest =
-    ap (applied (state_before journal b)) (front_commands b count waiting is order ∙ sym (commands_data waiting b) ∙ sym (rest b (omega arith))) ∙ sym (state_is journal b)
+    ap (applied (state_before journal b)) (first_commands b count waiting is order ∙ sym (commands_data waiting b) ∙ sym (rest b (omega arith))) ∙ sym (state_is journal b)
 
 pub sounds : (journal : List LoggedData) (b : ℕ) → samples (state_at journal b) ≡ sound journal b
 unfolding sound
@@ -177,7 +177,7 @@ pub rest_at : (journal : List LoggedData) (waiting : List Logged) (b n count : �
 rest_at journal waiting b n count is later was =
     was ∙ commands_data waiting n ∙ rest_commands b n count waiting is later ∙ sym (commands_data (drop count waiting) n)
 
-pub block_behind : (journal : List LoggedData) (b : ℕ) (before bytes : List ℕ) → wav_blocks journal b ≡ before ++ bytes
+pub block_after : (journal : List LoggedData) (b : ℕ) (before bytes : List ℕ) → wav_blocks journal b ≡ before ++ bytes
     → wav_blocks journal (b + 1) ≡ before ++ (bytes ++ wav_block (sound journal b))
 unfolding wav_blocks
-block_behind journal b before bytes is = rw add-one (ap (λ (l : List ℕ). l ++ wav_block (sound journal b)) is ∙ append_assoc before bytes (wav_block (sound journal b)))
+block_after journal b before bytes is = rw add-one (ap (λ (l : List ℕ). l ++ wav_block (sound journal b)) is ∙ append_assoc before bytes (wav_block (sound journal b)))

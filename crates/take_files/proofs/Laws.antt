@@ -7,7 +7,7 @@ use Rattle.std.proofs.lemmas.List.{append-nil}
 use Rattle.std.proofs.lemmas.List.Elements.{All-head, All-tail}
 use Rattle.command_set.specs.Entries.{LoggedData}
 use Rattle.take_files.specs.Files.{order_header, order_line, order}
-use Rattle.take_files.specs.Orders.{IsWritable, HasBlock, Follows, IsOrdered, BeginsWith, HasFault, HasNoHeader, StopsBehind, IsRefused, OrderData, IsOrder, OrdersAreUnique, entry_limit, count_of}
+use Rattle.take_files.specs.Orders.{IsWritable, HasBlock, Follows, IsOrdered, BeginsWith, HasFault, HasNoHeader, StopsAfter, IsRefused, OrderData, IsOrder, OrdersAreUnique, entry_limit, count_of}
 use Rattle.take_files.specs.declared.read.OrderKind.{OrderKind}
 use Rattle.take_files.specs.declared.read.OrderKind.TheVariants.{Line, Block, Script, Sequence, Many}
 use Rattle.take_files.specs.declared.read.OrderFault.{OrderFault}
@@ -18,11 +18,11 @@ use Rattle.take_files.proofs.Lines.{line_same, line_some, header_same}
 abbrev pub lines : List LoggedData → List ℕ
 lines journal = flat_map order_line journal
 
--- one text lists some entries, and a second one goes on behind them
+-- one text lists some entries, and a second one goes on after them
 abbrev GoesOn : List LoggedData → List LoggedData → List ℕ → List ℕ → Type 0
 GoesOn short long after rest = (l : LoggedData) × (more : List LoggedData) × (long ≡ short ++ l ∷ more) × (after ≡ order_line l ++ (lines more ++ rest))
 
--- texts that begin with the lines of two journals: one journal is the front of the other
+-- texts that begin with the lines of two journals: one journal is the prefix of the other
 agree : (js ks : List LoggedData) (r s : List ℕ) → All IsWritable js → All IsWritable ks → lines js ++ r ≡ lines ks ++ s
     → GoesOn ks js s r ⊎ (((js ≡ ks) × (r ≡ s)) ⊎ GoesOn js ks r s)
 agree [] [] r s wj wk e = inr (inl (refl, e))
@@ -40,28 +40,28 @@ agree (j ∷ js) (k ∷ ks) r s wj wk e =
       ]
     ]
 
-writable : (journal : List LoggedData) (blocks scripts : ℕ) → IsOrdered journal blocks scripts → All IsWritable journal
+pub writable : (journal : List LoggedData) (blocks scripts : ℕ) → IsOrdered journal blocks scripts → All IsWritable journal
 writable journal blocks scripts h i d below = (h.each i d below).writable
 
--- an entry in an order may stand behind those before it
-behind : (front more : List LoggedData) (l : LoggedData) (blocks scripts : ℕ) → IsOrdered (front ++ l ∷ more) blocks scripts → Follows front blocks scripts l
-behind front more l blocks scripts h =
-    let count : length (front ++ l ∷ more) ≡ length front + length (l ∷ more) = length-append front (l ∷ more) in
-    let f : Follows (take (length front) (front ++ l ∷ more)) blocks scripts (get_or (front ++ l ∷ more) (length front) l) = h.each (length front) l (omega (arith, count)) in
-    subst (λ (x : LoggedData). Follows front blocks scripts x) (get_or-append_seam front l more l)
-    (subst (λ (ls : List LoggedData). Follows ls blocks scripts (get_or (front ++ l ∷ more) (length front) l)) (take-append_seam front (l ∷ more)) f)
+-- an entry in an order may stand after those before it
+after : (prefix more : List LoggedData) (l : LoggedData) (blocks scripts : ℕ) → IsOrdered (prefix ++ l ∷ more) blocks scripts → Follows prefix blocks scripts l
+after prefix more l blocks scripts h =
+    let count : length (prefix ++ l ∷ more) ≡ length prefix + length (l ∷ more) = length-append prefix (l ∷ more) in
+    let f : Follows (take (length prefix) (prefix ++ l ∷ more)) blocks scripts (get_or (prefix ++ l ∷ more) (length prefix) l) = h.each (length prefix) l (omega (arith, count)) in
+    subst (λ (x : LoggedData). Follows prefix blocks scripts x) (get_or-append_seam prefix l more l)
+    (subst (λ (ls : List LoggedData). Follows ls blocks scripts (get_or (prefix ++ l ∷ more) (length prefix) l)) (take-append_seam prefix (l ∷ more)) f)
 
-fewer : (front more : List LoggedData) (l : LoggedData) (blocks scripts : ℕ) → IsOrdered (front ++ l ∷ more) blocks scripts → length front < entry_limit
-fewer front more l blocks scripts h =
-    let few : length (front ++ l ∷ more) ≤ entry_limit = h.few in
-    let count : length (front ++ l ∷ more) ≡ length front + length (l ∷ more) = length-append front (l ∷ more) in
+fewer : (prefix more : List LoggedData) (l : LoggedData) (blocks scripts : ℕ) → IsOrdered (prefix ++ l ∷ more) blocks scripts → length prefix < entry_limit
+fewer prefix more l blocks scripts h =
+    let few : length (prefix ++ l ∷ more) ≤ entry_limit = h.few in
+    let count : length (prefix ++ l ∷ more) ≡ length prefix + length (l ∷ more) = length-append prefix (l ∷ more) in
     omega (arith, count)
 
 -- the entry with whose line a text begins
 begun : (text rest : List ℕ) (l m : LoggedData) → text ≡ order_line l ++ rest → IsWritable l → BeginsWith text m → m ≡ l
 begun text rest l m e w b = (line_same m l b.more rest b.writable w (sym b.spelled ∙ e)).0
 
--- a line that may stand behind a journal has no fault
+-- a line that may stand after a journal has no fault
 sound : (kind : OrderKind) (journal : List LoggedData) (blocks scripts : ℕ) (text rest : List ℕ) (l : LoggedData) → text ≡ order_line l ++ rest
     → Follows journal blocks scripts l → length journal < entry_limit → ¬ HasFault kind journal blocks scripts text
 sound Line journal blocks scripts text rest l e f few fault = fault l (record { writable = f.writable; more = rest; spelled = e })
@@ -177,21 +177,21 @@ unfolding order
 order_more journal blocks scripts rest = append_assoc (order_header blocks scripts) (lines journal) rest
 
 -- texts that begin with two orders
-fronts : (js ks : List LoggedData) (a b c d : ℕ) (r s : List ℕ) → IsOrdered js a b → IsOrdered ks c d → order js a b ++ r ≡ order ks c d ++ s
+prefixes : (js ks : List LoggedData) (a b c d : ℕ) (r s : List ℕ) → IsOrdered js a b → IsOrdered ks c d → order js a b ++ r ≡ order ks c d ++ s
     → (a ≡ c) × (b ≡ d) × (lines js ++ r ≡ lines ks ++ s)
-fronts js ks a b c d r s hj hk e =
+prefixes js ks a b c d r s hj hk e =
     header_same a b c d _ _ (omega (arith, hj.few_blocks)) (omega (arith, hj.few_scripts)) (omega (arith, hk.few_blocks)) (omega (arith, hk.few_scripts))
     (sym (order_more js a b r) ∙ e ∙ order_more ks c d s)
 
--- an order that goes on behind a fault
+-- an order that goes on after a fault
 no_fault : (kind : OrderKind) (js ks : List LoggedData) (a b c d : ℕ) (r s : List ℕ) → a ≡ c → b ≡ d → IsOrdered js a b → HasFault kind ks c d s → GoesOn ks js s r → ⊥
 no_fault kind js ks a b c d r s ea eb hj fault g =
     let whole : IsOrdered (ks ++ g.0 ∷ g.1) c d =
     subst (λ (n : ℕ). IsOrdered (ks ++ g.0 ∷ g.1) c n) eb
     (subst (λ (n : ℕ). IsOrdered (ks ++ g.0 ∷ g.1) n b) ea (subst (λ (ls : List LoggedData). IsOrdered ls a b) g.2 hj)) in
-    sound kind ks c d s (lines g.1 ++ r) g.0 g.3 (behind ks g.1 g.0 c d whole) (fewer ks g.1 g.0 c d whole) fault
+    sound kind ks c d s (lines g.1 ++ r) g.0 g.3 (after ks g.1 g.0 c d whole) (fewer ks g.1 g.0 c d whole) fault
 
--- nothing goes on behind an order
+-- nothing goes on after an order
 no_more : (short long : List LoggedData) (rest : List ℕ) → GoesOn short long [] rest → ⊥
 no_more short long rest g = line_some g.0 (lines g.1 ++ rest) (sym g.3)
 
@@ -205,7 +205,7 @@ one_journal : (text : List ℕ) (a b : OrderData) → IsOrder text a → IsOrder
 unfolding made_order
 one_journal text a b x y =
     let f =
-    fronts a.journal b.journal a.blocks a.scripts b.blocks b.scripts [] [] x.ordered y.ordered
+    prefixes a.journal b.journal a.blocks a.scripts b.blocks b.scripts [] [] x.ordered y.ordered
     (append-nil (order a.journal a.blocks a.scripts) ∙ sym x.spelled ∙ y.spelled ∙ sym (append-nil (order b.journal b.blocks b.scripts))) in
     elim (agree a.journal b.journal [] [] (writable a.journal a.blocks a.scripts x.ordered) (writable b.journal b.blocks b.scripts y.ordered) f.2) [
       | inl g ↦ absurd (no_more b.journal a.journal [] g)
@@ -215,16 +215,16 @@ one_journal text a b x y =
       ]
     ]
 
-has_header : (text rest : List ℕ) (journal : List LoggedData) (blocks scripts : ℕ) → IsOrdered journal blocks scripts → text ≡ order journal blocks scripts ++ rest → ¬ HasNoHeader text
+pub has_header : (text rest : List ℕ) (journal : List LoggedData) (blocks scripts : ℕ) → IsOrdered journal blocks scripts → text ≡ order journal blocks scripts ++ rest → ¬ HasNoHeader text
 has_header text rest journal blocks scripts h e never =
     never blocks scripts (lines journal ++ rest) h.some_blocks h.few_blocks h.some_scripts h.few_scripts (e ∙ order_more journal blocks scripts rest)
 
 spelled_more : (text : List ℕ) (o : OrderData) → IsOrder text o → text ≡ order o.journal o.blocks o.scripts ++ []
 spelled_more text o x = x.spelled ∙ sym (append-nil (order o.journal o.blocks o.scripts))
 
-stopped : (text : List ℕ) (o : OrderData) (kind : OrderKind) (journal : List LoggedData) (blocks scripts : ℕ) → IsOrder text o → StopsBehind text kind journal blocks scripts → ⊥
+stopped : (text : List ℕ) (o : OrderData) (kind : OrderKind) (journal : List LoggedData) (blocks scripts : ℕ) → IsOrder text o → StopsAfter text kind journal blocks scripts → ⊥
 stopped text o kind journal blocks scripts x y =
-    let f = fronts o.journal journal o.blocks o.scripts blocks scripts [] y.rest x.ordered y.ordered (sym (spelled_more text o x) ∙ y.spelled) in
+    let f = prefixes o.journal journal o.blocks o.scripts blocks scripts [] y.rest x.ordered y.ordered (sym (spelled_more text o x) ∙ y.spelled) in
     elim (agree o.journal journal [] y.rest (writable o.journal o.blocks o.scripts x.ordered) (writable journal blocks scripts y.ordered) f.2) [
       | inl g ↦ no_fault kind o.journal journal o.blocks o.scripts blocks scripts [] y.rest f.0 f.1 x.ordered y.fault g
       | inr h ↦ elim h [
@@ -237,10 +237,10 @@ no_order : (text : List ℕ) (o : OrderData) (line : ℕ) (kind : OrderKind) →
 no_order text o line kind x (inl y) = has_header text [] o.journal o.blocks o.scripts x.ordered (spelled_more text o x) y.2
 no_order text o line kind x (inr y) = stopped text o kind y.0 y.1 y.2 x y.4
 
-stops_same : (text : List ℕ) (kind second : OrderKind) (js ks : List LoggedData) (a b c d : ℕ) → StopsBehind text kind js a b → StopsBehind text second ks c d
+stops_same : (text : List ℕ) (kind second : OrderKind) (js ks : List LoggedData) (a b c d : ℕ) → StopsAfter text kind js a b → StopsAfter text second ks c d
     → (length js ≡ length ks) × (kind ≡ second)
 stops_same text kind second js ks a b c d x y =
-    let f = fronts js ks a b c d x.rest y.rest x.ordered y.ordered (sym x.spelled ∙ y.spelled) in
+    let f = prefixes js ks a b c d x.rest y.rest x.ordered y.ordered (sym x.spelled ∙ y.spelled) in
     elim (agree js ks x.rest y.rest (writable js a b x.ordered) (writable ks c d y.ordered) f.2) [
       | inl g ↦ absurd (no_fault second js ks a b c d x.rest y.rest f.0 f.1 x.ordered y.fault g)
       | inr h ↦ elim h [
@@ -262,9 +262,20 @@ one_fault text line other kind second (inr x) (inr y) =
     let h = stops_same text kind second x.0 y.0 x.1 x.2 y.1 y.2 x.4 y.4 in
     (x.3 ∙ ap (λ (n : ℕ). n + 2) h.0 ∙ sym y.3, h.1)
 
--- a text without a first line is no order
-pub no_first_line : (text : List ℕ) → HasNoHeader text → (o : OrderData) → IsOrder text o → Refused 1 Line ≡ Memory
-no_first_line text never o is = absurd (no_order text o 1 Line is (inl (refl, refl, never)))
+-- the first fault of a text comes after each order that it begins with
+pub fault_after : (text rest : List ℕ) (journal : List LoggedData) (blocks scripts line : ℕ) (kind : OrderKind) → IsOrdered journal blocks scripts
+    → text ≡ order journal blocks scripts ++ rest → IsRefused text line kind → length journal + 2 ≤ line
+fault_after text rest journal blocks scripts line kind h e (inl y) = absurd (has_header text rest journal blocks scripts h e y.2)
+fault_after text rest journal blocks scripts line kind h e (inr y) =
+    let at : line ≡ length y.0 + 2 = y.3 in
+    let f = prefixes journal y.0 blocks scripts y.1 y.2 rest y.4.rest h y.4.ordered (sym e ∙ y.4.spelled) in
+    elim (agree journal y.0 rest y.4.rest (writable journal blocks scripts h) (writable y.0 y.1 y.2 y.4.ordered) f.2) [
+      | inl g ↦ absurd (no_fault kind journal y.0 blocks scripts y.1 y.2 rest y.4.rest f.0 f.1 h y.4.fault g)
+      | inr k ↦ elim k [
+        | inl same ↦ let long : length journal ≡ length y.0 = ap length same.0 in omega (arith, at, long)
+        | inr g ↦ let long : length y.0 ≡ length journal + length (g.0 ∷ g.1) = ap length g.2 ∙ length-append journal (g.0 ∷ g.1) in omega (arith, at, long)
+      ]
+    ]
 
 pub orders_unique : OrdersAreUnique
 orders_unique = record { journals = one_journal; orders = no_order; faults = one_fault }

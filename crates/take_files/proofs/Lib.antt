@@ -1,8 +1,10 @@
-pub mod Waves
 pub mod Journals
 pub mod Ordered
 pub mod Lines
 pub mod Laws
 pub mod Growing
-pub mod Fronts
-pub mod Stopping
+pub mod Prefixes
+pub mod Results
+pub mod Lengths
+pub mod Feeding
+pub mod Standings

@@ -20,9 +20,8 @@ use Rattle.command_set.specs.Entries.{LoggedData}
 use Rattle.command_set.specs.Text.{text, packed}
 use Rattle.command_set.proofs.Words.{voice_bytes, cartridge_bytes, known_small}
 use Rattle.command_set.proofs.Reading.{unique}
-use Rattle.take_files.specs.Files.{order_header, order_line}
+use Rattle.take_files.specs.Files.{entry_text, header_text, order_header, order_line}
 use Rattle.take_files.specs.Orders.{IsWritable, BeginsWith}
-use Rattle.take_files.specs.Reading.{entry_text, header_text}
 
 -- no byte of the word has this code
 abbrev pub HasNo : ℕ → List ℕ → Type 0
@@ -30,41 +29,41 @@ HasNo code word = All (λ byte. (byte == code) ≡ false) word
 
 -- ---- texts and their cuts
 
-join_front : (code : ℕ) (front : List ℕ) (ps : List (List ℕ)) → ps ≢ [] → join_with_byte code (front ∷ ps) ≡ front ++ code ∷ join_with_byte code ps
-join_front code front [] some = absurd (some refl)
-join_front code front (p ∷ ps) some = refl
+join_prefix : (code : ℕ) (prefix : List ℕ) (ps : List (List ℕ)) → ps ≢ [] → join_with_byte code (prefix ∷ ps) ≡ prefix ++ code ∷ join_with_byte code ps
+join_prefix code prefix [] some = absurd (some refl)
+join_prefix code prefix (p ∷ ps) some = refl
 
--- a text that was cut is its front, the byte, and the rest
-pub cut_text : (code : ℕ) (whole front rest : List ℕ) → split code whole ≡ front ∷ split code rest → whole ≡ front ++ code ∷ rest
-cut_text code whole front rest e =
-    sym (join_with_byte-slice_split code whole) ∙ ap (join_with_byte code) e ∙ join_front code front (split code rest) (split_some code rest)
-    ∙ ap (λ (bs : List ℕ). front ++ code ∷ bs) (join_with_byte-slice_split code rest)
+-- a text that was cut is its prefix, the byte, and the rest
+pub cut_text : (code : ℕ) (whole prefix rest : List ℕ) → split code whole ≡ prefix ∷ split code rest → whole ≡ prefix ++ code ∷ rest
+cut_text code whole prefix rest e =
+    sym (join_with_byte-slice_split code whole) ∙ ap (join_with_byte code) e ∙ join_prefix code prefix (split code rest) (split_some code rest)
+    ∙ ap (λ (bs : List ℕ). prefix ++ code ∷ bs) (join_with_byte-slice_split code rest)
 
 heads : (a b : List ℕ) (xs ys : List (List ℕ)) → a ∷ xs ≡ b ∷ ys → (a ≡ b) × (xs ≡ ys)
 heads a b xs ys e = (cc, cc)
 
-same_parts : (code : ℕ) (a b xs ys : List ℕ) → a ∷ split code xs ≡ b ∷ split code ys → (a ≡ b) × (xs ≡ ys)
-same_parts code a b xs ys e =
+same_split : (code : ℕ) (a b xs ys : List ℕ) → a ∷ split code xs ≡ b ∷ split code ys → (a ≡ b) × (xs ≡ ys)
+same_split code a b xs ys e =
     let h = heads a b (split code xs) (split code ys) e in
     (h.0, sym (join_with_byte-slice_split code xs) ∙ ap (join_with_byte code) h.1 ∙ join_with_byte-slice_split code ys)
 
-parts_at : (code : ℕ) (front rest : List ℕ) → HasNo code front → split code (front ++ code ∷ rest) ≡ front ∷ split code rest
-parts_at code front rest h = slice_split_at (λ byte. byte == code) front code rest h (eq-eqb code code refl)
+split_first : (code : ℕ) (prefix rest : List ℕ) → HasNo code prefix → split code (prefix ++ code ∷ rest) ≡ prefix ∷ split code rest
+split_first code prefix rest h = slice_split_at (λ byte. byte == code) prefix code rest h (eq-eqb code code refl)
 
 -- a text is cut at its first byte of the code
-pub cut_only : (code : ℕ) (whole front rest a b : List ℕ) → split code whole ≡ front ∷ split code rest → HasNo code a → whole ≡ a ++ code ∷ b
-    → (front ≡ a) × (rest ≡ b)
-cut_only code whole front rest a b e h is = same_parts code front a rest b (sym e ∙ ap (split code) is ∙ parts_at code a b h)
+pub cut_only : (code : ℕ) (whole prefix rest a b : List ℕ) → split code whole ≡ prefix ∷ split code rest → HasNo code a → whole ≡ a ++ code ∷ b
+    → (prefix ≡ a) × (rest ≡ b)
+cut_only code whole prefix rest a b e h is = same_split code prefix a rest b (sym e ∙ ap (split code) is ∙ split_first code a b h)
 
 -- a text that was not cut has no byte of the code
 pub cut_none : (code : ℕ) (whole a b : List ℕ) → split code whole ≡ whole ∷ [] → HasNo code a → whole ≢ a ++ code ∷ b
 cut_none code whole a b e h is =
-    let h2 = heads a whole (split code b) [] (sym (parts_at code a b h) ∙ sym (ap (split code) is) ∙ e) in
+    let h2 = heads a whole (split code b) [] (sym (split_first code a b h) ∙ sym (ap (split code) is) ∙ e) in
     split_some code b h2.1
 
--- two texts with the same byte behind fronts without it
-pub front_same : (code : ℕ) (a b xs ys : List ℕ) → HasNo code a → HasNo code b → a ++ code ∷ xs ≡ b ++ code ∷ ys → (a ≡ b) × (xs ≡ ys)
-front_same code a b xs ys ha hb e = same_parts code a b xs ys (sym (parts_at code a xs ha) ∙ ap (split code) e ∙ parts_at code b ys hb)
+-- two texts with the same byte after prefixes without it
+pub prefix_same : (code : ℕ) (a b xs ys : List ℕ) → HasNo code a → HasNo code b → a ++ code ∷ xs ≡ b ++ code ∷ ys → (a ≡ b) × (xs ≡ ys)
+prefix_same code a b xs ys ha hb e = same_split code a b xs ys (sym (split_first code a xs ha) ∙ ap (split code) e ∙ split_first code b ys hb)
 
 -- ---- bytes of words
 
@@ -84,7 +83,7 @@ decimal_same n m ln lm e = sym (digits_value-decimal own n (omega arith)) ∙ ap
 -- two texts that begin with numbers and spaces
 pub number_same : (n m : ℕ) (xs ys : List ℕ) → n < 2 ^ 32 → m < 2 ^ 32 → decimal n ++ 32 ∷ xs ≡ decimal m ++ 32 ∷ ys → (n ≡ m) × (xs ≡ ys)
 number_same n m xs ys ln lm e =
-    let h = front_same 32 (decimal n) (decimal m) xs ys (decimal_whole 32 n (omega arith) ln) (decimal_whole 32 m (omega arith) lm) e in
+    let h = prefix_same 32 (decimal n) (decimal m) xs ys (decimal_whole 32 n (omega arith) ln) (decimal_whole 32 m (omega arith) lm) e in
     (decimal_same n m ln lm h.0, h.1)
 
 no_digit_is_feed : every (λ k. not (get_or lower_digits k 0 == 10)) 16 ≡ true
@@ -162,7 +161,7 @@ pub line_more : (l : LoggedData) (more : List ℕ) → order_line l ++ more ≡ 
 unfolding order_line
 line_more l more = append_assoc (entry_text l) (10 ∷ []) more
 
-entry_whole : (l : LoggedData) → IsWritable l → HasNo 10 (entry_text l)
+pub entry_whole : (l : LoggedData) → IsWritable l → HasNo 10 (entry_text l)
 entry_whole l w =
     spaced_whole (decimal l.block) (decimal l.entry.sent_at ∷ decimal l.entry.script ∷ decimal l.entry.seq ∷ text l.entry.command ∷ []) (number_whole l.block w.block)
     (All-cons (HasNo 10) (decimal l.entry.sent_at) (decimal l.entry.script ∷ decimal l.entry.seq ∷ text l.entry.command ∷ []) (number_whole l.entry.sent_at w.due)
@@ -188,37 +187,26 @@ entry_same l m w v e =
 -- texts that begin with lines of entries
 pub line_same : (l m : LoggedData) (xs ys : List ℕ) → IsWritable l → IsWritable m → order_line l ++ xs ≡ order_line m ++ ys → (l ≡ m) × (xs ≡ ys)
 line_same l m xs ys w v e =
-    let h = front_same 10 (entry_text l) (entry_text m) xs ys (entry_whole l w) (entry_whole m v) (sym (line_more l xs) ∙ e ∙ line_more m ys) in
+    let h = prefix_same 10 (entry_text l) (entry_text m) xs ys (entry_whole l w) (entry_whole m v) (sym (line_more l xs) ∙ e ∙ line_more m ys) in
     (entry_same l m w v h.0, h.1)
 
 pub line_some : (l : LoggedData) (more : List ℕ) → order_line l ++ more ≢ []
 line_some l more e = let none : length (entry_text l ++ 10 ∷ more) ≡ 0 = ap length (sym (line_more l more) ∙ e) in ends (entry_text l) more none where
-  ends : (front more : List ℕ) → length (front ++ 10 ∷ more) ≡ 0 → ⊥
+  ends : (prefix more : List ℕ) → length (prefix ++ 10 ∷ more) ≡ 0 → ⊥
   ends [] more none = absurd (omega arith)
-  ends (x ∷ front) more none = absurd (omega arith)
+  ends (x ∷ prefix) more none = absurd (omega arith)
 
--- a text that begins with the line of an entry is cut behind it
-pub line_cut : (whole front rest : List ℕ) (l : LoggedData) → split 10 whole ≡ front ∷ split 10 rest → BeginsWith whole l → entry_text l ≡ front
-line_cut whole front rest l e b = sym (cut_only 10 whole front rest (entry_text l) b.more e (entry_whole l b.writable) (b.spelled ∙ line_more l b.more)).0
-
-pub line_uncut : (whole : List ℕ) (l : LoggedData) → split 10 whole ≡ whole ∷ [] → ¬ BeginsWith whole l
-line_uncut whole l e b = cut_none 10 whole (entry_text l) b.more e (entry_whole l b.writable) (b.spelled ∙ line_more l b.more)
-
-pub line_read : (whole front rest : List ℕ) (l : LoggedData) → split 10 whole ≡ front ∷ split 10 rest → entry_text l ≡ front → whole ≡ order_line l ++ rest
-line_read whole front rest l e is = cut_text 10 whole front rest e ∙ ap (λ (bs : List ℕ). bs ++ 10 ∷ rest) (sym is) ∙ sym (line_more l rest)
+-- a text with one line feed or more begins with the line of an entry where its first line is the entry's
+pub line_begins : (line more : List ℕ) (l : LoggedData) → HasNo 10 line → BeginsWith (line ++ 10 ∷ more) l → entry_text l ≡ line
+line_begins line more l h b = (prefix_same 10 (entry_text l) line b.more more (entry_whole l b.writable) h (sym (b.spelled ∙ line_more l b.more))).0
 
 -- ---- the first line
 
-tail_more : (b s more : List ℕ) → (b ++ (codes " scripts " ++ (s ++ 10 ∷ []))) ++ more ≡ (b ++ 32 ∷ (codes "scripts " ++ s)) ++ 10 ∷ more
-tail_more b s more = simp append_assoc
-
 pub header_more : (blocks scripts : ℕ) (more : List ℕ) → order_header blocks scripts ++ more ≡ header_text blocks scripts ++ 10 ∷ more
-unfolding order_header header_text
-header_more blocks scripts more =
-    append_assoc (codes "order engine 1 blocks ") _ more ∙ ap (λ (bs : List ℕ). codes "order engine 1 blocks " ++ bs) (tail_more (decimal blocks) (decimal scripts) more)
-    ∙ sym (append_assoc (codes "order engine 1 blocks ") _ (10 ∷ more))
+unfolding order_header
+header_more blocks scripts more = append_assoc (header_text blocks scripts) (10 ∷ []) more
 
-header_whole : (blocks scripts : ℕ) → blocks < 2 ^ 32 → scripts < 2 ^ 32 → HasNo 10 (header_text blocks scripts)
+pub header_whole : (blocks scripts : ℕ) → blocks < 2 ^ 32 → scripts < 2 ^ 32 → HasNo 10 (header_text blocks scripts)
 unfolding header_text every
 header_whole blocks scripts lb ls =
     All-append (λ byte. (byte == 10) ≡ false) (codes "order engine 1 blocks ") _ (codes_whole (codes "order engine 1 blocks ") refl)
@@ -235,19 +223,11 @@ header_text_same a b c d la lb lc ld e =
 pub header_same : (a b c d : ℕ) (xs ys : List ℕ) → a < 2 ^ 32 → b < 2 ^ 32 → c < 2 ^ 32 → d < 2 ^ 32 → order_header a b ++ xs ≡ order_header c d ++ ys
     → (a ≡ c) × (b ≡ d) × (xs ≡ ys)
 header_same a b c d xs ys la lb lc ld e =
-    let h = front_same 10 (header_text a b) (header_text c d) xs ys (header_whole a b la lb) (header_whole c d lc ld) (sym (header_more a b xs) ∙ e ∙ header_more c d ys) in
+    let h = prefix_same 10 (header_text a b) (header_text c d) xs ys (header_whole a b la lb) (header_whole c d lc ld) (sym (header_more a b xs) ∙ e ∙ header_more c d ys) in
     let n = header_text_same a b c d la lb lc ld h.0 in
     (n.0, n.1, h.1)
 
-pub header_cut : (whole front rest more : List ℕ) (blocks scripts : ℕ) → split 10 whole ≡ front ∷ split 10 rest → blocks < 2 ^ 32 → scripts < 2 ^ 32
-    → whole ≡ order_header blocks scripts ++ more → front ≡ header_text blocks scripts
-header_cut whole front rest more blocks scripts e lb ls is =
-    (cut_only 10 whole front rest (header_text blocks scripts) more e (header_whole blocks scripts lb ls) (is ∙ header_more blocks scripts more)).0
-
-pub header_uncut : (whole more : List ℕ) (blocks scripts : ℕ) → split 10 whole ≡ whole ∷ [] → blocks < 2 ^ 32 → scripts < 2 ^ 32 → whole ≢ order_header blocks scripts ++ more
-header_uncut whole more blocks scripts e lb ls is = cut_none 10 whole (header_text blocks scripts) more e (header_whole blocks scripts lb ls) (is ∙ header_more blocks scripts more)
-
-pub header_read : (whole front rest : List ℕ) (blocks scripts : ℕ) → split 10 whole ≡ front ∷ split 10 rest → front ≡ header_text blocks scripts
-    → whole ≡ order_header blocks scripts ++ rest
-header_read whole front rest blocks scripts e is =
-    cut_text 10 whole front rest e ∙ ap (λ (bs : List ℕ). bs ++ 10 ∷ rest) is ∙ sym (header_more blocks scripts rest)
+pub header_begins : (line rest more : List ℕ) (blocks scripts : ℕ) → HasNo 10 line → blocks < 2 ^ 32 → scripts < 2 ^ 32
+    → line ++ 10 ∷ rest ≡ order_header blocks scripts ++ more → header_text blocks scripts ≡ line
+header_begins line rest more blocks scripts h lb ls e =
+    (prefix_same 10 (header_text blocks scripts) line more rest (header_whole blocks scripts lb ls) h (sym (e ∙ header_more blocks scripts more))).0

@@ -8,13 +8,22 @@ use Rattle.command_set.specs.Entries.{LoggedData}
 use Rattle.command_set.specs.Text.{text}
 use Rattle.instrument.specs.Journal.{sound}
 
--- the first line of an order, with the number of blocks and of scripts
-unfoldable pub order_header : ℕ → ℕ → List ℕ
-order_header blocks scripts = codes "order engine 1 blocks " ++ (decimal blocks ++ (codes " scripts " ++ (decimal scripts ++ 10 ∷ [])))
+-- the first line of an order, without its line feed: how many blocks its sound has, and how many scripts were played
+unfoldable pub header_text : ℕ → ℕ → List ℕ
+header_text blocks scripts = codes "order engine 1 blocks " ++ (decimal blocks ++ 32 ∷ (codes "scripts " ++ decimal scripts))
 
--- BLOCK DUE SCRIPT SEQ TEXT
+-- the first line of an order
+unfoldable pub order_header : ℕ → ℕ → List ℕ
+order_header blocks scripts = header_text blocks scripts ++ 10 ∷ []
+
+-- BLOCK DUE SCRIPT SEQ TEXT, without the line feed
+abbrev pub entry_text : LoggedData → List ℕ
+entry_text l =
+    spaced (decimal l.block) (decimal l.entry.sent_at ∷ decimal l.entry.script ∷ decimal l.entry.seq ∷ text l.entry.command ∷ [])
+
+-- the line of an entry
 unfoldable pub order_line : LoggedData → List ℕ
-order_line l = spaced (decimal l.block) (decimal l.entry.sent_at ∷ decimal l.entry.script ∷ decimal l.entry.seq ∷ text l.entry.command ∷ []) ++ 10 ∷ []
+order_line l = entry_text l ++ 10 ∷ []
 
 -- the order file
 unfoldable pub order : List LoggedData → ℕ → ℕ → List ℕ
@@ -24,7 +33,8 @@ order journal blocks scripts = order_header blocks scripts ++ flat_map order_lin
 unfoldable pub wav_header : ℕ → List ℕ
 wav_header blocks =
     codes "RIFF" ++ to_le_bytes w32 (36 + 128 * blocks) ++ codes "WAVEfmt " ++ to_le_bytes w32 16
-    ++ to_le_bytes w16 1 ++ to_le_bytes w16 1 ++ to_le_bytes w32 44100 ++ to_le_bytes w32 88200 ++ to_le_bytes w16 2 ++ to_le_bytes w16 16
+    ++ to_le_bytes w16 1 ++ to_le_bytes w16 1 ++ to_le_bytes w32 44100 ++ to_le_bytes w32 88200
+    ++ to_le_bytes w16 2 ++ to_le_bytes w16 16
     ++ codes "data" ++ to_le_bytes w32 (128 * blocks)
 
 -- the two bytes of a sample, the lower one first

@@ -1,4 +1,6 @@
 pub mod Files
-pub mod Playback
 pub mod Orders
+pub mod Pieces
+pub mod Playback
 pub mod Reading
+pub mod Playing

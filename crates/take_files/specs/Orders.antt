@@ -33,14 +33,15 @@ pub record HasBlock (journal : List LoggedData) (blocks : ℕ) (l : LoggedData) 
   pub due : l.entry.sent_at ≤ l.block
   pub within : l.block < blocks
 
--- an entry may stand behind the entries of a journal: its script is one of the run's, and its number is how many of the script stand before it
+-- An entry may stand after the entries of a journal: its script is one of the run's, and its number is how many of the
+-- script stand before it.
 pub record Follows (journal : List LoggedData) (blocks scripts : ℕ) (l : LoggedData) : Type 0 where
   pub writable : IsWritable l
   pub block : HasBlock journal blocks l
   pub script : l.entry.script < scripts
   pub seq : l.entry.seq ≡ count_of l.entry.script journal
 
--- an order lists these entries: 1 to 1048576 blocks, 1 to 256 scripts, and each entry may stand behind those before it
+-- an order lists these entries: 1 to 1048576 blocks, 1 to 256 scripts, and each entry may stand after those before it
 pub record IsOrdered (journal : List LoggedData) (blocks scripts : ℕ) : Type 0 where
   pub some_blocks : 1 ≤ blocks
   pub few_blocks : blocks ≤ 1048576
@@ -55,33 +56,36 @@ pub record BeginsWith (text : List ℕ) (l : LoggedData) : Type 0 where
   pub more : List ℕ
   pub spelled : text ≡ order_line l ++ more
 
--- what is wrong with the next line, behind the entries of a journal: the first in this order
+-- what is wrong with the next line, after the entries of a journal: the first in this order
 abbrev pub HasFault : OrderKind → List LoggedData → ℕ → ℕ → List ℕ → Type 0
 HasFault Line journal blocks scripts text = (l : LoggedData) → ¬ BeginsWith text l
 HasFault Block journal blocks scripts text = (l : LoggedData) × BeginsWith text l × (¬ HasBlock journal blocks l)
 HasFault Script journal blocks scripts text = (l : LoggedData) × BeginsWith text l × HasBlock journal blocks l × (scripts ≤ l.entry.script)
 HasFault Sequence journal blocks scripts text =
-    (l : LoggedData) × BeginsWith text l × HasBlock journal blocks l × (l.entry.script < scripts) × (l.entry.seq ≢ count_of l.entry.script journal)
-HasFault Many journal blocks scripts text = (l : LoggedData) × BeginsWith text l × Follows journal blocks scripts l × (length journal ≡ entry_limit)
+    (l : LoggedData) × BeginsWith text l × HasBlock journal blocks l × (l.entry.script < scripts)
+    × (l.entry.seq ≢ count_of l.entry.script journal)
+HasFault Many journal blocks scripts text =
+    (l : LoggedData) × BeginsWith text l × Follows journal blocks scripts l × (length journal ≡ entry_limit)
 
 -- the text has no first line of an order
 abbrev pub HasNoHeader : List ℕ → Type 0
 HasNoHeader text =
-    (blocks scripts : ℕ) (more : List ℕ) → 1 ≤ blocks → blocks ≤ 1048576 → 1 ≤ scripts → scripts ≤ 256 → text ≢ order_header blocks scripts ++ more
+    (blocks scripts : ℕ) (more : List ℕ) → 1 ≤ blocks → blocks ≤ 1048576 → 1 ≤ scripts → scripts ≤ 256
+    → text ≢ order_header blocks scripts ++ more
 
--- a text that goes on behind an order, with a line that has this fault
-pub record StopsBehind (text : List ℕ) (kind : OrderKind) (journal : List LoggedData) (blocks scripts : ℕ) : Type 0 where
+-- a text that goes on after an order, with a line that has this fault
+pub record StopsAfter (text : List ℕ) (kind : OrderKind) (journal : List LoggedData) (blocks scripts : ℕ) : Type 0 where
   pub ordered : IsOrdered journal blocks scripts
   pub rest : List ℕ
   pub some : rest ≢ []
   pub spelled : text ≡ order journal blocks scripts ++ rest
   pub fault : HasFault kind journal blocks scripts rest
 
--- the first fault of a text: in its first line, or in the line behind the longest order that it begins with
+-- the first fault of a text: in its first line, or in the line after the longest order that it begins with
 abbrev pub IsRefused : List ℕ → ℕ → OrderKind → Type 0
 IsRefused text line kind =
     ((line ≡ 1) × (kind ≡ Line) × HasNoHeader text)
-    ⊎ ((journal : List LoggedData) × (blocks : ℕ) × (scripts : ℕ) × (line ≡ length journal + 2) × StopsBehind text kind journal blocks scripts)
+    ⊎ ((journal : List LoggedData) × (blocks : ℕ) × (scripts : ℕ) × (line ≡ length journal + 2) × StopsAfter text kind journal blocks scripts)
 
 -- what an order says: its journal, how many blocks its sound has, and how many scripts were played
 pub record OrderData : Type 0 where
@@ -98,4 +102,5 @@ pub record IsOrder (text : List ℕ) (o : OrderData) : Type 0 where
 pub record OrdersAreUnique : Type 0 where
   pub journals : (text : List ℕ) (a b : OrderData) → IsOrder text a → IsOrder text b → a ≡ b
   pub orders : (text : List ℕ) (o : OrderData) (line : ℕ) (kind : OrderKind) → IsOrder text o → IsRefused text line kind → ⊥
-  pub faults : (text : List ℕ) (line other : ℕ) (kind second : OrderKind) → IsRefused text line kind → IsRefused text other second → (line ≡ other) × (kind ≡ second)
+  pub faults : (text : List ℕ) (line other : ℕ) (kind second : OrderKind) → IsRefused text line kind → IsRefused text other second
+      → (line ≡ other) × (kind ≡ second)

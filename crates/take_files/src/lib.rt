@@ -7,13 +7,15 @@ mod listing;
 mod order;
 mod playback;
 mod read;
+mod reader;
 mod sound;
 mod wav;
 mod words;
 
 pub use order::{order_file, order_header, order_line};
-pub use playback::{Piece, Playback};
+pub use playback::{Chunk, Playback};
 pub use read::{Order, OrderFault, OrderKind, orders_are_unique, read_order};
+pub use reader::OrderReader;
 pub use sound::sound_file;
 pub use wav::{wav_block, wav_header};
 

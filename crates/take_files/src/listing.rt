@@ -3,8 +3,8 @@
 ghost use Rattle.std.specs.Prelude.{ℕ, List, ◌≡◌, ◌≤◌, ◌+◌, ◌↔◌, [], IfOk, OnOk, IfNone, IsTrue, Some, length};
 ghost use Rattle.command_set.specs.Entries.{logged_data};
 ghost use Rattle.take_files.specs.declared.read.OrderKind.{OrderKind};
-ghost use Rattle.take_files.specs.Orders.{BeginsWith, HasBlock, IsWritable};
-ghost use Rattle.take_files.specs.Reading.{CanFollow, HasRoom, IsListing, StopsAt, listed, with_entry};
+ghost use Rattle.take_files.specs.Orders.{BeginsWith, HasBlock, HasFault, IsWritable};
+ghost use Rattle.take_files.specs.Reading.{CanFollow, HasRoom, IsListing, listed, with_entry};
 
 use crate::read::OrderKind;
 use command_set::Logged;
@@ -41,7 +41,7 @@ impl Listing {
         })
     }
 
-    /// The number of the line behind these, counted from 1.
+    /// The number of the line after these, counted from 1.
     pub(crate) fn next_line(&self) -> u32
         requires { IsListing self.now }
         ensures { result ≡ length (listed self.now).journal + 2 }
@@ -49,12 +49,13 @@ impl Listing {
         self.entries.len() as u32 + 2
     }
 
-    /// What is wrong with an entry behind these.
+    /// What is wrong with an entry after these.
     pub(crate) fn fault(&self, logged: &Logged) -> Option<OrderKind>
         requires { IsListing self.now }
         ensures none { IfNone result (IsWritable (logged_data logged.now) → CanFollow self.now (logged_data logged.now)) }
         ensures room { IfNone result (HasRoom self.now) }
-        ensures some { (kind : OrderKind) (text : List ℕ) → result ≡ Some kind → BeginsWith text (logged_data logged.now) → StopsAt self.now kind text }
+        ensures some { (kind : OrderKind) (text : List ℕ) → result ≡ Some kind → BeginsWith text (logged_data logged.now)
+            → HasFault kind (listed self.now).journal self.now.blocks self.now.scripts text }
     {
         let script = logged.entry.script as usize;
         if !self.has_block(logged) {
@@ -70,7 +71,7 @@ impl Listing {
         }
     }
 
-    /// Whether the block of an entry may stand behind these.
+    /// Whether the block of an entry may stand after these.
     fn has_block(&self, logged: &Logged) -> bool
         requires { IsListing self.now }
         ensures { IsTrue result ↔ HasBlock (listed self.now).journal self.now.blocks (logged_data logged.now) }
@@ -79,7 +80,7 @@ impl Listing {
         self.last <= block && logged.entry.sent_at <= block && block < self.blocks
     }
 
-    /// Adds an entry that may stand behind these.
+    /// Adds an entry that may stand after these.
     pub(crate) fn push(&mut self, logged: Logged) -> Result<(), AllocError>
         requires listing { IsListing self.old }
         requires follows { CanFollow self.old (logged_data logged) }

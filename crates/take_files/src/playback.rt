@@ -1,6 +1,8 @@
-ghost use Rattle.std.specs.Prelude.{ℕ, List, ◌≡◌, ◌≤◌, ◌==◌, ◌<◌, ◌+◌, ◌-◌, ◌*◌, ◌++◌, length, map, IfOk, All, take_while};
+//! A journal that is played.
+
+ghost use Rattle.std.specs.Prelude.{◌≡◌, ◌≤◌, ◌==◌, ◌<◌, ◌+◌, ◌*◌, ◌++◌, All, IfOk, length, map, take_while};
 ghost use Rattle.command_set.specs.Command.{IsInRange, content};
-ghost use Rattle.command_set.specs.Entries.{LoggedData, journal_data};
+ghost use Rattle.command_set.specs.Entries.{journal_data};
 ghost use Rattle.instrument.specs.State.{State};
 ghost use Rattle.instrument.specs.Journal.{applied, sound};
 ghost use Rattle.instrument.specs.Instrument.{IsIn};
@@ -11,68 +13,87 @@ use arrayvec::ArrayVec;
 use command_set::Logged;
 use instrument::{Engine, Instrument};
 use std::alloc::{AllocError, Global};
+use std::marker::Model;
 
-/// A piece of a sound file: the bytes of up to 64 blocks.
-pub type Piece = ArrayVec<u8, 8192>;
+/// A chunk of a sound file: the bytes of up to 64 blocks.
+pub type Chunk = ArrayVec<u8, 8192>;
 
-/// A journal that is played on one instrument, block after block.
+/// A journal that is played on one instrument, block after block. Contracts see the journal, and the block up to which
+/// it was played.
 #[derive(Drop)]
 pub struct Playback<'a> {
     instrument: Instrument,
-    waiting: &'a [Logged],
+    journal: &'a [Logged],
+    /// How many entries were taken.
+    next: usize,
+    block: u32,
+}
+
+impl<'a> Model for Playback<'a> {
+    ghost use Rattle.std.specs.Prelude.{◌≤◌, drop, length};
+    ghost use Rattle.command_set.specs.Entries.{journal_data};
+    ghost use Rattle.take_files.specs.Playback.{PlaybackView};
+    ghost use Rattle.take_files.specs.Playing.{IsPlaying};
+
+    ghost Value = { PlaybackView };
+
+    ghost view = { λ p. record { journal = journal_data p.journal.now; block = p.block } };
+
+    ghost invariant = { λ p. (p.next ≤ length p.journal.now) × IsPlaying p.instrument (drop p.next p.journal.now) (journal_data p.journal.now) p.block };
 }
 
 impl<'a> Playback<'a> {
-    ghost use Rattle.take_files.specs.Playback.{IsAt};
-
-    /// The journal from its front, whose blocks don't fall. No later call takes memory.
+    /// The journal from its beginning, whose blocks don't fall. No later call takes memory.
     pub fn new(
         alloc: Global,
         engine: Engine,
         journal: &'a [Logged],
     ) -> Result<Playback<'a>, AllocError>
         requires { AreOrdered 0 (journal_data journal.now) }
-        ensures { IfOk result (λ p. IsAt p (journal_data journal.now) 0) }
+        ensures { IfOk result (λ p. p ≡ record { journal = journal_data journal.now; block = 0 }) }
     {
         Ok(Playback {
             instrument: Instrument::new(alloc, engine)?,
-            waiting: journal,
+            journal,
+            next: 0,
+            block: 0,
         })
     }
 
-    /// The samples of the block up to which the journal was played: what the instrument renders after the commands that were taken up to it.
-    pub fn render(&mut self, block: u32, out: &mut [i16; 64])
-        requires { (journal : List LoggedData) × IsAt self.old journal block }
-        ensures samples { (journal : List LoggedData) → IsAt self.old journal block → out.new ≡ sound journal block }
-        ensures played { (journal : List LoggedData) → IsAt self.old journal block → IsAt self.new journal (block + 1) }
+    /// The samples of the next block: what the instrument renders after the commands that were taken up to it.
+    pub fn render(&mut self, out: &mut [i16; 64])
+        requires { self.old.block < 4294967295 }
+        ensures samples { out.new ≡ sound self.old.journal self.old.block }
+        ensures played { self.new ≡ record self.old { block = self.old.block + 1 } }
     {
-        let count = count_at(self.waiting, block);
-        let (taken, later) = self.waiting.split_at(count);
+        let (_, waiting) = self.journal.split_at(self.next);
+        let count = count_at(waiting, self.block);
+        let (taken, _) = waiting.split_at(count);
         apply_all(&mut self.instrument, taken);
         self.instrument.block(out);
-        self.waiting = later;
+        self.next += count;
+        self.block += 1;
     }
 
-    /// The bytes of up to 64 blocks, from the one up to which the journal was played, in the place of the piece.
-    pub fn render_piece(&mut self, from: u32, to: u32, into: &mut Piece)
-        requires from { from ≤ to }
-        requires to { to ≤ from + 64 }
-        requires at { (journal : List LoggedData) × IsAt self.old journal from }
-        ensures bytes { (journal : List LoggedData) → IsAt self.old journal from → wav_blocks journal to ≡ wav_blocks journal from ++ into.new.items }
-        ensures played { (journal : List LoggedData) → IsAt self.old journal from → IsAt self.new journal to }
-        ensures size { length into.new.items ≡ 128 * (to - from) }
+    /// The bytes of the next blocks, up to 64, in the place of the chunk.
+    pub fn render_chunk(&mut self, count: u32, into: &mut Chunk)
+        requires few { count ≤ 64 }
+        requires blocks { self.old.block + count ≤ 4294967295 }
+        ensures bytes { wav_blocks self.old.journal (self.old.block + count) ≡ wav_blocks self.old.journal self.old.block ++ into.new.items }
+        ensures played { self.new ≡ record self.old { block = self.old.block + count } }
+        ensures size { length into.new.items ≡ 128 * count }
     {
         into.clear();
         let mut samples = [0i16; 64];
-        for block in from..to {
-            self.render(block, &mut samples);
+        'playing: for _ in 0..count {
+            self.render(&mut samples);
             push_block(into, &wav_block(&samples));
         }
     }
 }
 
-/// Adds the bytes of a block to a piece that has room for them.
-fn push_block(into: &mut Piece, bytes: &[u8; 128])
+/// Adds the bytes of a block to a chunk that has room for them.
+fn push_block(into: &mut Chunk, bytes: &[u8; 128])
     requires { length into.old.items ≤ 8064 }
     ensures bytes { into.new.items ≡ into.old.items ++ bytes.now }
     ensures size { length into.new.items ≡ length into.old.items + 128 }
@@ -80,7 +101,7 @@ fn push_block(into: &mut Piece, bytes: &[u8; 128])
     let _ = into.try_extend_from_slice(bytes);
 }
 
-/// How many entries at the front were taken at the block.
+/// How many entries at the beginning were taken at the block.
 fn count_at(journal: &[Logged], block: u32) -> usize
     ensures count { result ≡ length (take_while (λ l. l.block == block) journal.now) }
     ensures within { result ≤ length journal.now }
@@ -94,7 +115,8 @@ fn count_at(journal: &[Logged], block: u32) -> usize
 /// Applies the commands of the entries, one after the other.
 fn apply_all(instrument: &mut Instrument, entries: &[Logged])
     requires { All (λ l. IsInRange (content l.entry.command)) entries.now }
-    ensures { (s : State) → IsIn instrument.old s → IsIn instrument.new (applied s (map (λ l. content l.entry.command) entries.now)) }
+    ensures { (s : State) → IsIn instrument.old s
+        → IsIn instrument.new (applied s (map (λ l. content l.entry.command) entries.now)) }
 {
     for logged in entries {
         instrument.apply(&logged.entry.command);

@@ -1,3 +1,5 @@
+//! The sound file, written.
+
 ghost use Rattle.std.specs.Prelude.{◌≡◌, ◌≤◌, IfOk};
 ghost use Rattle.command_set.specs.Entries.{journal_data};
 ghost use Rattle.take_files.specs.Files.{AreOrdered, wav};
@@ -8,8 +10,8 @@ use command_set::Logged;
 use instrument::Engine;
 use std::alloc::{AllocError, Global};
 
-/// The bytes of the sound file of a journal whose blocks don't fall, up to 1048576 blocks: block by block, what one instrument renders after
-/// the commands that were taken up to it.
+/// The bytes of the sound file of a journal whose blocks don't fall, up to 1048576 blocks: block by block, what one
+/// instrument renders after the commands that were taken up to it.
 #[tactic(auto, unfolding(crate::specs::Files::wav))]
 pub fn sound_file(
     alloc: Global,
@@ -25,8 +27,8 @@ pub fn sound_file(
     sound.extend_from_slice(&wav_header(blocks))?;
     let mut playback = Playback::new(alloc, engine, journal)?;
     let mut samples = [0i16; 64];
-    for block in 0..blocks {
-        playback.render(block, &mut samples);
+    'playing: for _ in 0..blocks {
+        playback.render(&mut samples);
         sound.extend_from_slice(&wav_block(&samples))?;
     }
     Ok(sound)

@@ -7,7 +7,7 @@ use Rattle.std.proofs.Math.Nat.{eq-or-lt_of_le}
 use Rattle.std.proofs.lemmas.Fmt.{decimal_injective}
 use Rattle.outside.specs.Files.{Files}
 use Rattle.outside.proofs.Shelves.{get-insert_same, get-insert_other}
-use Rattle.generator.specs.Drawn.{generated_text}
+use Rattle.generator.specs.Generated.{generated_text}
 use Rattle.tool_core.specs.Lines.{script_name}
 use Rattle.tool_core.specs.Words.{Gen}
 use Rattle.tool_core.specs.Outcomes.{BeginsOut, AreBegun, Reports}

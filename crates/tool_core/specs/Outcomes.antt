@@ -16,7 +16,7 @@ use Rattle.tool_core.specs.Words.{Asked, Check, Names, Pick, Pack, Replay, Verif
 use Rattle.tool_core.specs.Decisions.{IsAmong, Decides, IsDecided, IsReading, read_by}
 use Rattle.tool_core.specs.Lines.{ok_line, same_line, differs_line, refusal_line, check_report, list_report, script_name, scripts_line, bench_line}
 use Rattle.fault_lines.specs.Lines.{Says, cannot_read, cannot_write, limit_file, limit_commands, out_of_memory}
-use Rattle.generator.specs.Drawn.{drawn_journal, sum_of_samples}
+use Rattle.generator.specs.Generated.{generated_journal, sum_of_samples}
 use Rattle.tool_core.specs.Scripts.{IsBegun, AreDrawn, StopsAt}
 
 -- what a shelf and an output show at a moment
@@ -83,7 +83,7 @@ report (Replay order out) files = ok_line
 report (Verify order sound) files = same_line
 report (Gen seed scripts commands) files = scripts_line scripts (scripts * commands)
 report (Bench seed blocks) files =
-    bench_line (length (drawn_journal seed blocks)) blocks (sum_of_samples (drawn_journal seed blocks) blocks)
+    bench_line (length (generated_journal seed blocks)) blocks (sum_of_samples (generated_journal seed blocks) blocks)
 
 -- what is printed: that, or where the sound file differs
 abbrev pub IsReport : Asked → Files → List ℕ → Type 0

@@ -2,7 +2,7 @@
 use Rattle.std.specs.Prelude.{◌≡◌, ◌≢◌, ◌⊎◌, ℕ, ◌<◌, ◌≤◌, List, take, length, slice_index_or, string_bytes, Option, Some}
 use Rattle.std.specs.FinMap.{get}
 use Rattle.outside.specs.Files.{Files, file_of}
-use Rattle.generator.specs.Drawn.{generated_text}
+use Rattle.generator.specs.Generated.{generated_text}
 use Rattle.tool_core.specs.declared.generating.ScriptFile.{ScriptFile}
 use Rattle.tool_core.specs.Lines.{script_name}
 

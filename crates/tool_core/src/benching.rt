@@ -1,7 +1,7 @@
 //! The command that plays drawn scripts.
 
 ghost use Rattle.std.specs.Prelude.{◌≡◌, ◌≤◌, length, option_map};
-ghost use Rattle.generator.specs.Drawn.{drawn_journal, sum_of_samples};
+ghost use Rattle.generator.specs.Generated.{generated_journal, sum_of_samples};
 ghost use Rattle.outside.specs.Files.{said};
 ghost use Rattle.tool_core.specs.Lines as lines;
 ghost use Rattle.tool_core.specs.Outcomes.{moment, Ends};
@@ -11,7 +11,7 @@ use crate::commands::refuse;
 use crate::line::bench_line;
 use crate::trouble::Trouble;
 use crate::writing::put_report;
-use generator::play_drawn;
+use generator::play_generated;
 use outside::{Out, Shelf};
 use std::alloc::Global;
 
@@ -25,12 +25,12 @@ pub fn bench<S: Shelf, O: Out>(
 ) -> u8
     requires { blocks ≤ 100000 }
     ensures told { result ≡ 0 → O.written out.new ≡ option_map
-        (said (lines.bench_line (length (drawn_journal seed blocks)) blocks (sum_of_samples (drawn_journal seed blocks) blocks))) (O.written out.old) }
+        (said (lines.bench_line (length (generated_journal seed blocks)) blocks (sum_of_samples (generated_journal seed blocks) blocks))) (O.written out.old) }
     ensures ends { Ends (words.Bench seed blocks) result
         (moment (S.files shelf.old) (S.reading shelf.old) (S.writing shelf.old) (O.written out.old) (O.faults out.old))
         (moment (S.files shelf.new) (S.reading shelf.new) (S.writing shelf.new) (O.written out.new) (O.faults out.new)) }
 {
-    match play_drawn(alloc, seed, blocks) {
+    match play_generated(alloc, seed, blocks) {
         Ok(played) => {
             let line = bench_line(played.commands, blocks, played.sum);
             put_report(out, line.as_slice())

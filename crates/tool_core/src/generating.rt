@@ -2,7 +2,7 @@
 
 ghost use Rattle.std.specs.Prelude.{ℕ, ◌≡◌, ◌≤◌, ◌<◌, ◌*◌, IfErr, IfOk, IfSome, IsSomeAnd, OnErr, OnOk, length, option_map, string_bytes};
 ghost use Rattle.std.specs.FinMap.{insert};
-ghost use Rattle.generator.specs.Drawn.{generated_text};
+ghost use Rattle.generator.specs.Generated.{generated_text};
 ghost use Rattle.outside.specs.Faults.{HasCause};
 ghost use Rattle.tool_core.specs.Lines.{script_name};
 ghost use Rattle.tool_core.specs.Outcomes.{moment, BeginsOut, Ends, WritesScripts};

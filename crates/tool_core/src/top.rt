@@ -1,5 +1,5 @@
 ghost use Rattle.std.specs.Prelude.{ℕ, ◌≡◌, ◌↔◌, [], ◌∷◌, IfSome, None, Some, length, map, option_map, string_bytes};
-ghost use Rattle.generator.specs.Drawn.{drawn_journal, sum_of_samples};
+ghost use Rattle.generator.specs.Generated.{generated_journal, sum_of_samples};
 ghost use Rattle.outside.specs.Files.{said};
 ghost use Rattle.tool_core.specs.Lines.{bench_line, usage};
 ghost use Rattle.tool_core.specs.Outcomes.{done_by, moment, Ends, IsDifferent, IsDone, IsOutOfMemory, IsPastLimit, IsRefused, IsUnread, IsUnwritten, OnSuccess};
@@ -41,7 +41,7 @@ pub fn tool_main<S: Shelf, O: Out>(
         (moment (S.files shelf.new) (S.reading shelf.new) (S.writing shelf.new) (O.written out.new) (O.faults out.new))) }
     // What `bench` prints rests on no file: it holds over every shelf.
     ensures summed { (seed blocks : ℕ) → asked_by (map string_bytes words.now) ≡ Some (Bench seed blocks) → result ≡ 0 → O.written out.new ≡ option_map
-        (said (bench_line (length (drawn_journal seed blocks)) blocks (sum_of_samples (drawn_journal seed blocks) blocks))) (O.written out.old) }
+        (said (bench_line (length (generated_journal seed blocks)) blocks (sum_of_samples (generated_journal seed blocks) blocks))) (O.written out.old) }
     ensures unread { result ≡ 2 → IfSome (asked_by (map string_bytes words.now)) (λ asked. IsUnread asked
         (moment (S.files shelf.old) (S.reading shelf.old) (S.writing shelf.old) (O.written out.old) (O.faults out.old))
         (moment (S.files shelf.new) (S.reading shelf.new) (S.writing shelf.new) (O.written out.new) (O.faults out.new))) }
@@ -85,7 +85,7 @@ pub fn tool_main<S: Shelf, O: Out>(
 fn run<S: Shelf, O: Out>(alloc: Global, request: Request<'_>, shelf: &mut S, out: &mut O) -> u8
     requires { IsInRange request }
     ensures summed { (seed blocks : ℕ) → asked request.entry ≡ Bench seed blocks → result ≡ 0 → O.written out.new ≡ option_map
-        (said (bench_line (length (drawn_journal seed blocks)) blocks (sum_of_samples (drawn_journal seed blocks) blocks))) (O.written out.old) }
+        (said (bench_line (length (generated_journal seed blocks)) blocks (sum_of_samples (generated_journal seed blocks) blocks))) (O.written out.old) }
     ensures ends { Ends (asked request.entry) result
         (moment (S.files shelf.old) (S.reading shelf.old) (S.writing shelf.old) (O.written out.old) (O.faults out.old))
         (moment (S.files shelf.new) (S.reading shelf.new) (S.writing shelf.new) (O.written out.new) (O.faults out.new)) }

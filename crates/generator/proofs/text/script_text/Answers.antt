@@ -1,5 +1,5 @@
 use Rattle.std.proofs.Common.{◌≡◌, ℕ, ◌∙◌, ap, arith}
-use Rattle.generator.specs.Drawn.{script_seed, generated_text}
+use Rattle.generator.specs.Generated.{script_seed, generated_text}
 use Rattle.generator.proofs.Lines.{line_is, lines_of, lines_more}
 use Rattle.generator.proofs.text.script_text.Goals as goal
 
@@ -12,8 +12,8 @@ loop-turn-preserved c =
       text =
           c.in_ok-extend_from_slice-2.ensures.items
           ∙ lines_more seed n c.loop-turn.text.items _ i.text
-          (c.as_slice.ensures.value ∙ c.write_line.ensures ∙ line_is seed c.loop-turn.drawn.count n c.loop-turn.drawn.due _ i.drawn.due (c.next_command-command.ensures.command seed i.drawn) i.count);
-      drawn = c.next_command-command.ensures.drawn seed i.drawn;
+          (c.as_slice.ensures.value ∙ c.write_line.ensures ∙ line_is seed c.loop-turn.generated.count n c.loop-turn.generated.due _ i.generated.due (c.next_command-command.ensures.command seed i.generated) i.count);
+      generated = c.next_command-command.ensures.generated seed i.generated;
       count = omega (arith, c.next_command-command.ensures.count, i.count);
     }
 

@@ -1,4 +1,4 @@
-use Rattle.std.proofs.Common.{sym, subst, Some, None}
+use Rattle.std.proofs.Common.{sym, subst, None}
 use Rattle.operator_kernel.specs.Operator.{IsMixed, samples_of}
 use Rattle.operator_kernel.proofs.lanes.run_alone.Goals as goal
 

@@ -1,5 +1,5 @@
-use Rattle.std.proofs.Common.{refl}
-use Rattle.schedule_core.specs.Core.{opening}
+use Rattle.std.proofs.lemmas.List.{length-replicate}
+use Rattle.schedule_core.specs.Core.{no_sends, opening}
 use Rattle.schedule_core.proofs.Sounds.{sounds_kept}
 use Rattle.schedule_core.proofs.Legal.{run_legal, opening_legal}
 use Rattle.schedule_core.proofs.Settling.{settles_by_taking}
@@ -7,7 +7,7 @@ use Rattle.schedule_core.proofs.schedule.every_schedule.Goals as goal
 
 pub returns-clause-schedule : goal.returns-clause-schedule
 returns-clause-schedule c places scripts steps more can later = record {
-  legal = run_legal scripts (opening places scripts) steps refl can (opening_legal places scripts);
+  legal = run_legal scripts (opening places scripts) steps (length-replicate scripts no_sends) can (opening_legal places scripts);
   sounds = sounds_kept places scripts steps more;
 }
 

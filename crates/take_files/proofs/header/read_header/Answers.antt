@@ -1,25 +1,35 @@
-use Rattle.std.proofs.Common.{arith}
-use Rattle.take_files.proofs.Lines.{header_cut, header_uncut, header_read}
+use Rattle.std.proofs.Common.{◌++◌, ◌∷◌, ◌∙◌, arith}
+use Rattle.std.specs.Prelude.{codes, decimal}
+use Rattle.take_files.proofs.Prefixes.{header_first, header_second, header_third, no_header, header_found}
 use Rattle.take_files.proofs.header.read_header.Goals as goal
 
 pub returns-in_err-line-clause-none : goal.returns-in_err-line-clause-none
 returns-in_err-line-clause-none c =
     rw c.from_residual.ensures
-    (λ blocks scripts more some few least most. header_uncut c.args.text.now more blocks scripts c.in_err-line.ensures.whole (omega (arith, few)) (omega (arith, most)))
+    (λ blocks scripts h. c.in_err-line.ensures.none (decimal blocks ++ 32 ∷ (codes "scripts " ++ decimal scripts)) (h.spelled ∙ header_first blocks scripts))
 
 pub returns-in_err-block_count-clause-none : goal.returns-in_err-block_count-clause-none
 returns-in_err-block_count-clause-none c =
     rw c.from_residual-in_err-block_count.ensures
-    (λ blocks scripts more some few least most is.
-    c.in_err-block_count.ensures.none blocks scripts (record {
-      some_blocks = some;
-      few_blocks = few;
-      some_scripts = least;
-      few_scripts = most;
-      spelled = header_cut c.args.text.now c.in_ok-line.line.now c.in_ok-line.rest.now more blocks scripts c.in_ok-line.ensures.cut (omega (arith, few)) (omega (arith, most)) is;
-    }))
+    (λ blocks scripts h.
+    c.in_err-block_count.ensures.none blocks (codes "scripts " ++ decimal scripts) h.some_blocks h.few_blocks
+    (header_second c.args.line.now c.in_ok-line.line.now blocks scripts c.in_ok-line.ensures.found h.spelled))
+
+pub returns-in_err-line-2-clause-none : goal.returns-in_err-line-2-clause-none
+returns-in_err-line-2-clause-none c =
+    rw c.from_residual-in_err-line-2.ensures
+    (λ blocks scripts h.
+    c.in_err-line-2.ensures.none (decimal scripts)
+    (header_third c.args.line.now c.in_ok-line.line.now c.in_ok-block_count.line.now c.in_ok-block_count.block_count blocks scripts c.in_ok-line.ensures.found c.in_ok-block_count.ensures.found
+    (omega (arith, c.in_ok-block_count.ensures.range)) (omega (arith, h.few_blocks)) h.spelled))
+
+pub returns-in_err-script_count-clause-none : goal.returns-in_err-script_count-clause-none
+returns-in_err-script_count-clause-none c =
+    rw c.from_residual-in_err-script_count.ensures
+    (no_header c.args.line.now c.in_ok-line.line.now c.in_ok-block_count.line.now c.in_ok-line-2.line.now c.in_ok-block_count.block_count c.in_ok-line.ensures.found c.in_ok-block_count.ensures.found
+    c.in_ok-line-2.ensures.found (omega (arith, c.in_ok-block_count.ensures.range)) c.in_err-script_count.ensures.value)
 
 pub returns-clause-read : goal.returns-clause-read
 returns-clause-read c =
-    header_read c.args.text.now c.in_ok-line.line.now c.in_ok-line.rest.now c.in_ok-block_count.block_count c.in_ok-block_count.script_count c.in_ok-line.ensures.cut
-    c.in_ok-block_count.ensures.read.spelled
+    header_found c.args.line.now c.in_ok-line.line.now c.in_ok-block_count.line.now c.in_ok-line-2.line.now c.in_ok-block_count.block_count c.in_ok-script_count.script_count c.in_ok-line.ensures.found
+    c.in_ok-block_count.ensures.found c.in_ok-line-2.ensures.found c.in_ok-block_count.ensures.range c.in_ok-script_count.ensures.value

@@ -1,5 +1,5 @@
 use Rattle.std.proofs.Common.{arith}
-use Rattle.take_files.proofs.Fronts.{no_space, no_number, number_found}
+use Rattle.take_files.proofs.Prefixes.{no_space, no_number, number_found}
 use Rattle.take_files.proofs.words.number_before.Goals as goal
 
 pub returns-in_err-word-clause-none : goal.returns-in_err-word-clause-none

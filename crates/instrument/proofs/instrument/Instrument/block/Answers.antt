@@ -42,6 +42,6 @@ returns-clause-passed c = λ s h.
       wheel = t.wheel;
       pedal = t.pedal;
       next = t.next;
-      oscillator = t.oscillator;
+      lfo = t.lfo;
       slots = subst (λ m. AreSlots c.sound_all.new.slots (λ i. slot_later m (s.slots i))) (c.next_modulation-modulation.ensures.value s h) (c.sound_all.ensures.passed s.slots t.slots);
     }

@@ -13,6 +13,6 @@ returns c = λ s h. record {
   wheel = h.wheel;
   pedal = h.pedal;
   next = h.next;
-  oscillator = h.oscillator;
+  lfo = h.lfo;
   slots = subst (λ p. AreSlots c.key_up_all.new.slots (λ i. key_up p c.args.channel c.args.key (s.slots i))) h.pedal (c.key_up_all.ensures s.slots h.slots);
 }

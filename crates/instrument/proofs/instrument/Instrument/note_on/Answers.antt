@@ -14,7 +14,7 @@ returns c = λ s h.
       wheel = h.wheel;
       pedal = h.pedal;
       next = refl;
-      oscillator = pressed_is _ s _ h.voice (c.key_down.ensures _ 0 (c.assign.ensures s.oscillation s.steps h.oscillator));
+      lfo = pressed_is _ s _ h.voice (c.key_down.ensures _ 0 (c.assign.ensures s.lfo s.steps h.lfo));
       slots = fresh_slots _ s _ _ _ _ _ _ h.voice h.switch (c.start_at.ensures s.slots h.slots);
     })
 

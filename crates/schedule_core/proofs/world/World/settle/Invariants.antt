@@ -1,15 +1,14 @@
-use Rattle.std.proofs.Common.{◌≡◌, ◌+◌, replicate}
-use Rattle.std.specs.VecDeque.{deque_len}
-use Rattle.schedule_core.specs.Core.{Core, run, Take}
-use Rattle.schedule_core.specs.World.{IsWorld, IsLater}
+use Rattle.std.proofs.Common.{◌≡◌, ◌+◌, length, replicate}
+use Rattle.schedule_core.specs.Core.{run, Take}
+use Rattle.schedule_core.specs.Schedule.{IsLegal}
 use Rattle.schedule_core.proofs.world.World.settle.Given as goal
 
 abbrev pub invariant-loop-count : goal.invariant-loop-count
 invariant-loop-count l = record {
-  counted : l.count + deque_len l.self.waiting ≡ deque_len l.fn.self.waiting;
-  later : IsLater 0 0 l.fn.self l.self;
-  taken : (c : Core) → IsWorld l.fn.self c → IsWorld l.self (run c (replicate l.count Take));
+  counted : l.count + length l.self.waiting ≡ length l.fn.self.waiting;
+  legal : IsLegal l.self;
+  taken : l.self ≡ run l.fn.self (replicate l.count Take);
 }
 
 abbrev pub decreases-loop-count : goal.decreases-loop-count
-decreases-loop-count l = deque_len l.self.waiting
+decreases-loop-count l = length l.self.waiting
