@@ -394,7 +394,7 @@ fn failing_calls_are_told<R: Threads + Wait + Sync + Abort>(
 
 /// A shelf that holds back has written out both files when a run ends. Where OUT is on a device that takes nothing, ORDER has what came
 /// before the failing write.
-fn held_back_is_written_out<R: Threads + Wait + Sync + Files>(
+fn held_back_is_written_out<R: Threads + Wait + Sync + Files + Abort>(
     rt: &R,
     alloc: Global,
     maps: &MapSet,
