@@ -1,5 +1,7 @@
 //! Runs of the top call over files in memory.
 
+ghost use Rattle.std.specs.Prelude.{◌≤◌};
+
 use super::*;
 use crate::one_byte::OneByteShelf;
 use outside::{DiskShelf, Gate, MemOut, MemShelf, NoGate, Shelf, SureShelf, append_all, read_all};
@@ -323,7 +325,9 @@ fn limits_are_told<R: Threads + Wait + Sync + Abort>(
 
 /// What stands in both files of a run of `NOTE` over 100 blocks before its append of this number is made, those of the headers left out: how
 /// many blocks, and how many lines. The first line comes in turn 0, the second one after the block of turn 50.
-fn made_before(append: usize) -> (usize, usize) {
+fn made_before(append: usize) -> (usize, usize)
+    ensures { (result.0 ≤ 100) × (result.1 ≤ 2) }
+{
     if append == 0 {
         (0, 0)
     } else if append <= 51 {
