@@ -23,7 +23,7 @@ abbrev pub IsWithin : Step → ℕ → Type 0
 IsWithin (Same count) most = (0 < count) × (count ≤ most)
 IsWithin (Differs place) most = place < most
 
--- some bytes at the front are the same, or they differ
+-- the first bytes are the same, or they differ
 abbrev pub IsStep : Step → List ℕ → List ℕ → Type 0
 IsStep (Same count) file front = take count file ≡ take count front
 IsStep (Differs place) file front = DiffersAt file front place

@@ -77,7 +77,8 @@ reads (Verify order sound) = input order AnOrder ∷ (input sound ASound ∷ [])
 reads (Gen seed scripts commands) = []
 reads (Bench seed blocks) = []
 
--- What the command does. What is said of a file's bytes holds where the files are told; all else holds of every shelf. Messages that are written have the device number 0.
+-- What the command does. What is said of a file's bytes holds where the files are told; all else holds of every shelf.
+-- Messages that are written have the device number 0.
 abbrev pub HasEffect : RequestData → Option Files → Effect → Type 0
 HasEffect (Check file) files d = (text : List ℕ) × (d ≡ prints text) × IfSome files (λ told. text ≡ check_report (content told file))
 HasEffect (Names file) files d = (text : List ℕ) × (d ≡ prints text) × IfSome files (λ told. text ≡ list_report (cartridge_of told file))

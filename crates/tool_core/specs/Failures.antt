@@ -32,7 +32,8 @@ IsFault failure.TooMany kind file = IsVerdict kind file TooMany
 IsFault (failure.Refused why) kind file = IsVerdict kind file (Refused why)
 IsFault failure.Memory kind file = Unit {0}
 
--- why a file doesn't serve, with the count of reading faults before and after: a read failed, or the told files lack it; or no read failed, and its bytes are at fault
+-- why a file doesn't serve, with the count of reading faults before and after: a read failed, or the told files lack it; or no read
+-- failed, and its bytes are at fault
 abbrev pub IsReason : Failure → Kind → Option Files → List ℕ → ℕ → ℕ → Type 0
 IsReason failure.Unread kind files name before now = Rose before now ⊎ Lacks files name
 IsReason failure.TooLarge kind files name before now = (now ≡ before) × IfSome files (λ told. IsFault failure.TooLarge kind (get told name))

@@ -8,6 +8,6 @@ pub record Holds (before now : Option (List ℕ)) (page text : List ℕ) : Type 
   pub was_put : now ≡ option_map (said front) before
   pub whole : front ++ page ≡ text
 
--- the output failed: of the text some was put, from the front
+-- the output failed: a prefix of the text was put
 abbrev pub FailsIn : List ℕ → Option (List ℕ) → Option (List ℕ) → Type 0
 FailsIn text before now = (now ≡ before) ⊎ SaidSome text before now

@@ -1,4 +1,4 @@
-//! What the program `tool` does: it looks at files of MIDI bytes with DX7 voices, and writes such files; it plays the order of a run
+//! What the program `tool` does: it checks files of MIDI bytes with DX7 voices, and writes such files; it plays the order of a run
 //! again, and compares a sound file with an order; it writes scripts that are generated from a number, and plays them.
 #![tactic(auto)]
 

@@ -43,8 +43,8 @@ pub fn ending_of(message: Option<MidiMessage>, place: u32) -> Option<Ended>
     }
 }
 
-/// Where the last `F0` stands, behind a byte at a place.
-fn start_behind(start: u32, place: u32, byte: u8) -> u32
+/// Where the last `F0` stands, after a byte at an offset.
+fn start_after(start: u32, place: u32, byte: u8) -> u32
     ensures { result ≡ (if byte == 240 then place else start) }
 {
     if byte == 0xF0 { place } else { start }
@@ -80,7 +80,7 @@ impl Scanner {
     {
         let start = self.start;
         let message = self.reader.feed(byte);
-        self.start = start_behind(start, place, byte);
+        self.start = start_after(start, place, byte);
         ending_of(message, start)
     }
 

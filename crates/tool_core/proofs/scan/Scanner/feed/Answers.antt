@@ -11,7 +11,7 @@ use Rattle.tool_core.proofs.scan.Scanner.feed.Goals as goal
 pub returns-clause-follows : goal.returns-clause-follows
 returns-clause-follows c file below is h = record {
   reads = rw (take_next file c.args.place c.args.byte below is) (c.feed-message.ensures.stands (take c.args.place file) h.reads);
-  start = c.start_behind-self.ensures
+  start = c.start_after-self.ensures
       ∙ ap (λ (b : ℕ). if b == 240 then c.args.place else c.args.self.now.start) (sym is)
       ∙ ap (λ (s : ℕ). if get_or file c.args.place 0 == 240 then c.args.place else s) h.start
       ∙ sym (start_next file c.args.place);
