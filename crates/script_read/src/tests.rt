@@ -429,6 +429,11 @@ fn streams_are_read(rt: HostRuntime) -> Result<(), Fail> {
     message.push(0xF7)?;
     let voice = told(alloc, &maps, &message, None, 1)?;
     assert!(rt; voice.len() == 319 && voice.starts_with(b"0 voice 0000"));
+    let mut alone = Vec::from_slice(alloc, b"\xF0")?;
+    alone.resize(5999, 0u8)?;
+    alone.push(0xF7)?;
+    let refused = told(alloc, &maps, &alone, None, 1)?;
+    assert_eq!(rt; refused.as_slice(), b"byte 0: long".as_slice());
     let mut long = Vec::from_slice(alloc, b"\xF0\xF7\xF0")?;
     long.resize(6001, 0u8)?;
     long.push(0xF7)?;
