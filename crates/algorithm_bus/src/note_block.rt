@@ -2,9 +2,9 @@ ghost use Rattle.std.specs.Prelude.{◌≡◌, ◌≤◌, ℕ, pos, false};
 ghost use Rattle.operator_kernel.specs.Operator.{feedback_state_of};
 ghost use Rattle.algorithm_bus.specs.Buses.{HaveGains};
 
+use crate::audible::has_audible_carrier;
 use crate::bus::{feed_back, run_note};
 use crate::four::run_four_notes;
-use crate::audible::has_audible_carrier;
 use dx_tables::Tables;
 use operator_kernel::OpBlock;
 

@@ -1,5 +1,6 @@
 -- Scripts of generated commands, their texts, and the journal of four of them.
-use Rattle.std.specs.Prelude.{ℕ, zero, suc, ◌+◌, ◌*◌, ◌/◌, ◌%◌, ◌^◌, ◌==◌, nat_lt, if◌then◌else◌, List, [], ◌∷◌, ◌++◌, map, filter, ℤ, pos, ◌+ℤ◌, fold, codes, decimal}
+use Rattle.std.specs.Prelude.{ℕ, zero, suc, ◌+◌, ◌*◌, ◌/◌, ◌%◌, ◌^◌, ◌==◌, nat_lt, if◌then◌else◌, List, [], ◌∷◌, ◌++◌, map, filter, ℤ}
+use Rattle.std.specs.Prelude.{pos, ◌+ℤ◌, fold, codes, decimal}
 use Rattle.std.specs.List.{range_with_len, flat_map}
 use Rattle.plain_text.specs.Split.{spaced}
 use Rattle.command_set.specs.Command.{CommandData, StartsNote, EndsNote, SetsNumber}

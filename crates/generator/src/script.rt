@@ -27,11 +27,7 @@ impl GeneratedScript {
     {
         let mut lcg = Lcg::of_script(seed, script);
         let due = u32::from(lcg.next_below(8));
-        GeneratedScript {
-            lcg,
-            count: 0,
-            due,
-        }
+        GeneratedScript { lcg, count: 0, due }
     }
 
     /// Generates the next command, and the block at which the one after it is due.

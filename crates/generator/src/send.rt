@@ -43,9 +43,11 @@ fn send_due(
     requires few { commands ≤ 25000 }
     requires ready { (seed : ℕ) × CanSend number seed commands script.old world.old }
     ensures sent { (seed : ℕ) →
-        CanSend number seed commands script.old world.old → OnOk result (HasSentTo world.old number seed commands script.old.count script.new world.new) }
+        CanSend number seed commands script.old world.old
+        → OnOk result (HasSentTo world.old number seed commands script.old.count script.new world.new) }
     ensures before { (seed : ℕ) →
-        IsGenerated seed script.old → AreBefore seed commands block script.old.count → OnOk result (AreBefore seed commands (block + 1) script.new.count) }
+        IsGenerated seed script.old → AreBefore seed commands block script.old.count
+        → OnOk result (AreBefore seed commands (block + 1) script.new.count) }
     ensures count { OnOk result (script.old.count ≤ script.new.count) }
 {
     while script.count < commands && script.due <= block {

@@ -7,7 +7,7 @@ ghost use Rattle.instrument.specs.State.{State, apply, controlled, free_slot, mo
 use crate::mix::{output, silence};
 use crate::modulation::BlockModulation;
 use crate::slot::Slot;
-use crate::slots::{key_up_all, silence_all, sound_all, start_at, pedal_up_all};
+use crate::slots::{key_up_all, pedal_up_all, silence_all, sound_all, start_at};
 use block_rates::Lfo;
 use cartridge::Cartridge;
 use command_set::Command;

@@ -65,7 +65,11 @@ pub(crate) fn silence_all(slots: &mut [Slot; 16])
 }
 
 /// What is to be run in the next block, slot by slot.
-fn begin_all(slots: &mut [Slot; 16], tables: &Tables, modulation: &BlockModulation) -> [NoteBlock; 16]
+fn begin_all(
+    slots: &mut [Slot; 16],
+    tables: &Tables,
+    modulation: &BlockModulation,
+) -> [NoteBlock; 16]
     ensures { (ws : ℕ → Option SlotData) → AreSlots slots.old ws → AreSlotsBegun slots.new result (modulation_of modulation.now) ws }
 {
     let mut blocks = [NoteBlock::silent(); 16];

@@ -3,7 +3,8 @@ use Rattle.std.specs.Prelude.{ℕ, ◌≡◌, ◌⊎◌}
 use Rattle.std.proofs.Common.{inl, inr, ap, arith}
 use Rattle.std.proofs.Math.Bridge.{le_prop}
 use Rattle.std.proofs.Math.Nat.{ℕ_set}
-use Rattle.command_set.specs.Command.{CommandData, IsInRange, IsKnownControl, StartsNote, EndsNote, Bends, Controls, PicksProgram, SetsNumber, StoresVoice, TakesVoice, TakesCartridge}
+use Rattle.command_set.specs.Command.{CommandData, IsInRange, IsKnownControl, StartsNote, EndsNote, Bends, Controls, PicksProgram}
+use Rattle.command_set.specs.Command.{SetsNumber, StoresVoice, TakesVoice, TakesCartridge}
 
 one_of_two : {A B : Type 0} → IsProp A → IsProp B → (A → B → ⊥) → IsProp (A ⊎ B)
 one_of_two p q apart (inl a) (inl b) = ap inl (p a b)

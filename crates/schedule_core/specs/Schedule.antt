@@ -1,7 +1,7 @@
 -- What holds of a core after every schedule.
 use Rattle.std.specs.Prelude.{ℕ, ◌≡◌, ◌+◌, ◌<◌, ◌≤◌, List, ◌++◌, length, map, replicate, All}
 use Rattle.std.specs.List.{range_with_len}
-use Rattle.command_set.specs.Entries.{LoggedData, AreQueued, entries_of, sent_by}
+use Rattle.command_set.specs.Entries.{AreQueued, entries_of, sent_by}
 use Rattle.instrument.specs.Journal.{sound}
 use Rattle.instrument.specs.Logging.{AreTakenUpTo}
 use Rattle.schedule_core.specs.Core.{Core, accepted_of, refusals_of, first_of, opening, Step, Take, Settle, step, run, answers, CanStep}

@@ -37,9 +37,10 @@ impl Mark {
     /// One more was refused.
     pub fn refuse(self) -> Mark
         ensures { result ≡ record {
-            accepted = self.accepted;
-            refusals = min (self.refusals + 1) (2 ^ 64 - 1);
-            first = if self.refusals == 0 then self.accepted else self.first } }
+          accepted = self.accepted;
+          refusals = min (self.refusals + 1) (2 ^ 64 - 1);
+          first = if self.refusals == 0 then self.accepted else self.first;
+        } }
     {
         Mark {
             accepted: self.accepted,

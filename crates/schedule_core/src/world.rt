@@ -41,7 +41,8 @@ impl Model for World {
     ghost view = { λ w. core_of w.places w.waiting.items w.journal.items w.blocks w.marks.items };
 
     ghost invariant = { λ w. (w.places ≤ 1000000)
-        × Stands w.places w.waiting.items w.journal.items w.blocks w.marks.items w.instrument (core_of w.places w.waiting.items w.journal.items w.blocks w.marks.items)
+        × Stands w.places w.waiting.items w.journal.items w.blocks w.marks.items w.instrument
+        (core_of w.places w.waiting.items w.journal.items w.blocks w.marks.items)
         × All (λ e. IsInRange (content e.command)) w.waiting.items };
 }
 

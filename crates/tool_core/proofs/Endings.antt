@@ -1,409 +1,184 @@
 -- How commands end.
-use Rattle.std.proofs.Common.{◌≡◌, ◌⊎◌, inl, inr, ℕ, List, [], ◌∷◌, refl, sym, ◌∙◌, ap, subst, arith, ◌≢◌, ◌↔◌}
+use Rattle.std.proofs.Common.{◌≡◌, ◌⊎◌, inl, inr, ℕ, ℤ, ◌*◌, length, List, [], ◌∷◌, refl, sym, ◌∙◌, ap, subst}
 use Rattle.std.specs.Prelude.{Option, Some, None, IfSome, option_map, unwrap_or}
-use Rattle.std.specs.FinMap.{insert, get}
-use Rattle.outside.specs.Files.{Files, said, SaidSome}
+use Rattle.std.specs.FinMap.{get, insert}
+use Rattle.outside.specs.Files.{Files}
 use Rattle.outside.specs.Faults.{Rose}
-use Rattle.cartridge.specs.Cartridge.{voice_at, IsMessageOf}
+use Rattle.outside.specs.Snapshot.{Snapshot}
+use Rattle.generator.specs.Generated.{generated_journal, sum_of_samples}
+use Rattle.fault_lines.specs.Lines.{cannot_write}
+use Rattle.cartridge.specs.Cartridge.{voice_at}
 use Rattle.sysex_frame.specs.Frame.{IsFrame, VoiceDump}
-use Rattle.tool_core.specs.declared.trouble.Trouble.{Trouble}
-use Rattle.tool_core.specs.declared.trouble.Trouble.TheVariants as trouble
-use Rattle.tool_core.specs.Verdicts.{Verdict, Lacking, Good, Refused, TooLarge, TooMany, AreJudged}
-use Rattle.tool_core.specs.Refusals.{Wanted}
-use Rattle.tool_core.specs.Words.{Asked, Check, Names, Pick, Pack, Replay, Verify, Gen, Bench}
-use Rattle.tool_core.specs.Decisions.{IsAmong, Decides, IsDecided, IsReading, read_by}
-use Rattle.tool_core.specs.Orders.{IsOrderVerdict}
-use Rattle.tool_core.specs.Lines.{ok_line, differs_line, check_report, list_report}
-use Rattle.tool_core.specs.Pages.{FailsIn}
-use Rattle.tool_core.specs.Outcomes.{Answers, Reports, Finishes, Moment, Tells, Ends, IsDone, IsUnread, IsUnwritten, IsRefused, IsPastLimit, IsDifferent, IsOutOfMemory, IsSame, IsOther, IsReport, IsVerify, FailsOut, FailsReport, AreWritten, AreBegun, IsWritten, BeginsOut, done_by, report, OnSuccess, cartridge_of, picked, packed}
-use Rattle.fault_lines.specs.Statuses.{IsOneOf}
-use Rattle.tool_core.specs.Troubles.{HasReasonAmong, Stops, status_of, line_of}
+use Rattle.tool_core.specs.declared.failure.Failure.{Failure}
+use Rattle.tool_core.specs.declared.failure.Failure.TheVariants as failure
+use Rattle.tool_core.specs.Verdicts.{Good}
+use Rattle.tool_core.specs.Words.{RequestData, Check, Names, Pick, Gen, Bench}
+use Rattle.tool_core.specs.Inputs.{Input, Kind, input, AreGood, IsJudged}
+use Rattle.tool_core.specs.Effects.{Effect, HasEffect, Output, prints, writes, written, reads, scripts_of, cartridge_of, picked}
+use Rattle.tool_core.specs.Lines.{bench_line, check_report, list_report, ok_line, scripts_line}
+use Rattle.tool_core.specs.Failures.{IsReason, Stops, StopsAt, status_of, line_of}
+use Rattle.tool_core.specs.Outcomes.{HasGood, BeginsOut, Tells}
+use Rattle.tool_core.specs.Scripts.{StopsIn}
+use Rattle.tool_core.specs.Endings.{Puts, Finishes, Ends}
 
--- why a command on files of messages refuses
-pub stops_among : (why : Trouble) (asked : Asked) (wanted : Wanted) (files : Option Files) (names : List (List ℕ)) (name : List ℕ) (before now : ℕ)
-    → ((it : Verdict) → AreJudged wanted files names it → IsDecided asked files it) → (IsAmong name names → IsAmong name (read_by asked))
-    → HasReasonAmong why wanted files names name before now → Stops why asked files name before now
-stops_among trouble.Unread asked wanted files names name before now judged among reason = (among (reason.0), reason.1, λ lacks. judged Lacking (reason.2 lacks))
-stops_among trouble.TooLarge asked wanted files names name before now judged among reason = (reason.0, judged TooLarge (reason.1))
-stops_among trouble.TooMany asked wanted files names name before now judged among reason = absurd reason
-stops_among (trouble.Refused why) asked wanted files names name before now judged among reason = (reason.0, judged (Refused why) (reason.1))
-stops_among trouble.Memory asked wanted files names name before now judged among reason = reason
+-- ---- a effect that is done, or whose text could not be put
+pub put_ends : (effect : Effect) (status : ℕ) (before now : Snapshot) → now.reading ≡ before.reading → now.writing ≡ before.writing
+    → now.files ≡ option_map (written effect.writes) before.files
+    → Puts effect.status effect.prints status before.written now.written before.faults now.faults → Finishes effect status before now
+put_ends effect status before now reading writing files (inl (is, whole, faults)) =
+    record { reading = reading; ends = inl (is, record { files = files; writing = writing; report = whole; faults = faults }) }
+put_ends effect status before now reading writing files (inr (is, rose, part)) =
+    record { reading = reading; ends = inr (is, inr (record { cause = rose; writing = writing; files = files; prefix = part })) }
 
-pub refused_ends : (asked : Asked) (why : Trouble) (name : List ℕ) (before now : Moment) (status : ℕ)
-    → IsReading asked → Stops why asked before.files name before.reading now.reading
-    → status ≡ status_of why → Tells (line_of why name) before now → now.files ≡ before.files
-    → Ends asked status before now
-refused_ends asked trouble.Unread name before now status reads reason is line files =
-    inr (inl (is, record { name = name; named = reason.0; cause = reason.1; first = reason.2; files = files; line = line }))
-refused_ends asked trouble.TooLarge name before now status reads reason is line files =
-    inr (inr (inr (inr (inl (is, record { reads = reads; limit = inl (reason.1, line); files = files })))))
-refused_ends asked trouble.TooMany name before now status reads reason is line files =
-    inr (inr (inr (inr (inl (is, record { reads = reads; limit = inr (reason.1, line); files = files })))))
-refused_ends asked (trouble.Refused why) name before now status reads reason is line files =
-    inr (inr (inr (inl (is, record { reads = reads; why = why; refused = reason.1; files = files; line = line }))))
-refused_ends asked trouble.Memory name before now status reads reason is line files =
-    inr (inr (inr (inr (inr (inr (is, record { files = files; line = line }))))))
+pub none_written : (o now : Option Files) → now ≡ o → now ≡ option_map (written []) o
+none_written None now is = is
+none_written (Some told) now is = is
 
-pub memory_ends : (asked : Asked) (before now : Moment) (status : ℕ) → status ≡ 8 → Tells (line_of trouble.Memory []) before now → now.files ≡ before.files → Ends asked status before now
-memory_ends asked before now status is line files = inr (inr (inr (inr (inr (inr (is, record { files = files; line = line }))))))
+-- one that writes no file
+pub print_ends : (text : List ℕ) (status : ℕ) (before now : Snapshot) → now.reading ≡ before.reading → now.writing ≡ before.writing → now.files ≡ before.files
+    → Puts 0 text status before.written now.written before.faults now.faults → Finishes (prints text) status before now
+print_ends text status before now reading writing files put = put_ends (prints text) status before now reading writing (none_written before.files now.files files) put
 
-pub done_ends : (asked : Asked) (before now : Moment) (status : ℕ) → status ≡ 0
-    → IsDecided asked before.files Good → IfSome before.files (λ files. IsSame asked files) → IfSome before.files (λ files. AreWritten asked files now.files)
-    → IfSome before.files (λ files. now.written ≡ option_map (said (report asked files)) before.written)
-    → Ends asked status before now
-done_ends asked before now status is good same files said_all = inl (is, record { good = good; same = same; files = files; report = said_all })
+one_written : (o now : Option Files) (name text : List ℕ) → now ≡ option_map (λ told. insert told name text) o → now ≡ option_map (written (writes name text).writes) o
+one_written None now name text is = is
+one_written (Some told) now name text is = is
 
-pub unwritten_ends : (asked : Asked) (before now : Moment) (status : ℕ) → status ≡ 3
-    → IsDecided asked before.files Good → now.reading ≡ before.reading
-    → FailsOut asked before now ⊎ FailsReport asked before now
-    → Ends asked status before now
-unwritten_ends asked before now status is good reading failed = inr (inr (inl (is, record { good = good; reading = reading; failed = failed })))
+-- one that writes a file
+pub write_ends : (name text : List ℕ) (status : ℕ) (before now : Snapshot) → now.reading ≡ before.reading → now.writing ≡ before.writing
+    → now.files ≡ option_map (λ told. insert told name text) before.files
+    → Puts 0 ok_line status before.written now.written before.faults now.faults → Finishes (writes name text) status before now
+write_ends name text status before now reading writing files put =
+    put_ends (writes name text) status before now reading writing (one_written before.files now.files name text files) put
 
-pub different_ends : (asked : Asked) (place : ℕ) (before now : Moment) (status : ℕ) → status ≡ 7 → IsVerify asked
-    → IsDecided asked before.files Good → IfSome before.files (λ files. IsOther asked files place) → now.files ≡ before.files
-    → now.written ≡ option_map (said (differs_line place)) before.written
-    → Ends asked status before now
-different_ends asked place before now status is verify good other files report =
-    inr (inr (inr (inr (inr (inl (is, record { verify = verify; good = good; place = place; differs = other; files = files; report = report }))))))
+first_begun : (o now : Option Files) (name text : List ℕ) → IfSome o (λ told. BeginsOut told now name text) → IfSome o (λ told. BeginsOut (written [] told) now name text)
+first_begun None now name text is = tt
+first_begun (Some told) now name text is = is
 
--- a report was put, or its front
-reports_known : (files : Option Files) (asked : Asked) (text : List ℕ) (before now : Option (List ℕ)) → IfSome files (λ told. report asked told ≡ text)
-    → now ≡ option_map (said text) before → IfSome files (λ told. now ≡ option_map (said (report asked told)) before)
-reports_known None asked text before now known is = tt
-reports_known (Some told) asked text before now known is = is ∙ ap (λ (t : List ℕ). option_map (said t) before) (sym known)
-
--- the front of a report was put
-abbrev IsFrontOf : Asked → Option Files → Option (List ℕ) → Option (List ℕ) → Type 0
-IsFrontOf asked files before now = IfSome files (λ told. (text : List ℕ) × IsReport asked told text × ((now ≡ before) ⊎ SaidSome text before now))
-
-fails_known : (files : Option Files) (asked : Asked) (text : List ℕ) (before now : Option (List ℕ)) → IfSome files (λ told. IsSame asked told)
-    → IfSome files (λ told. report asked told ≡ text) → FailsIn text before now → IsFrontOf asked files before now
-fails_known None asked text before now same known some = tt
-fails_known (Some told) asked text before now same known some = (text, inl (same, sym known), some)
-
-fails_other : (files : Option Files) (asked : Asked) (place : ℕ) (before now : Option (List ℕ)) → IfSome files (λ told. IsOther asked told place)
-    → FailsIn (differs_line place) before now → IsFrontOf asked files before now
-fails_other None asked place before now other some = tt
-fails_other (Some told) asked place before now other some = (differs_line place, inr (place, other, refl), some)
-
-pub reported_ends : (asked : Asked) (text : List ℕ) (before now : Moment) (status : ℕ)
-    → IsDecided asked before.files Good → IfSome before.files (λ files. IsSame asked files) → now.reading ≡ before.reading → now.writing ≡ before.writing
-    → IfSome before.files (λ files. AreWritten asked files now.files) → IfSome before.files (λ files. report asked files ≡ text)
-    → Reports text status before.written now.written before.faults now.faults
-    → Ends asked status before now
-reported_ends asked text before now status good same reading writing files known (inl (is, whole)) =
-    done_ends asked before now status is good same files (reports_known before.files asked text before.written now.written known whole)
-reported_ends asked text before now status good same reading writing files known (inr (is, rose, some)) =
-    unwritten_ends asked before now status is good reading
-    (inr (record { cause = rose; writing = writing; files = files; front = fails_known before.files asked text before.written now.written same known some }))
-
-pub compared_ends : (asked : Asked) (place : ℕ) (before now : Moment) (status : ℕ) → IsVerify asked
-    → IsDecided asked before.files Good → IfSome before.files (λ files. IsOther asked files place) → now.reading ≡ before.reading → now.writing ≡ before.writing
-    → now.files ≡ before.files → IfSome before.files (λ files. AreWritten asked files now.files)
-    → Answers 7 (differs_line place) status before.written now.written before.faults now.faults
-    → Ends asked status before now
-compared_ends asked place before now status verify good other reading writing same_files files (inl (is, whole)) =
-    different_ends asked place before now status is verify good other same_files whole
-compared_ends asked place before now status verify good other reading writing same_files files (inr (is, rose, some)) =
-    unwritten_ends asked before now status is good reading
-    (inr (record { cause = rose; writing = writing; files = files; front = fails_other before.files asked place before.written now.written other some }))
+-- one whose file could not be written
+pub unwritten_ends : (name text : List ℕ) (status : ℕ) (before now : Snapshot) → now.reading ≡ before.reading → status ≡ 3 → (Rose before.writing now.writing ⊎ ⊥)
+    → IfSome before.files (λ told. BeginsOut told now.files name text) → Tells (cannot_write name) before now → Finishes (writes name text) status before now
+unwritten_ends name text status before now reading is cause begun line = record {
+  reading = reading;
+  ends = inr (
+    is,
+    inl (record {
+      file = record { name = name; text = text };
+      earlier = [];
+      later = [];
+      place = refl;
+      cause = elim cause [ inl rose ↦ rose | inr never ↦ absurd never ];
+      begun = first_begun before.files now.files name text begun;
+      line = line;
+    }),
+  );
+}
 
 -- the same after calls that left the files and the counts of the shelf
-pub read_first : (asked : Asked) (status : ℕ) (files mid_files : Option Files) (reading mid_reading writing mid_writing faults : ℕ) (written : Option (List ℕ)) (now : Moment)
+pub read_first : (effect : Effect) (status : ℕ) (files mid_files : Option Files) (reading mid_reading writing mid_writing faults : ℕ) (written_before : Option (List ℕ)) (now : Snapshot)
     → mid_files ≡ files → mid_reading ≡ reading → mid_writing ≡ writing
-    → Ends asked status (record { files = mid_files; reading = mid_reading; writing = mid_writing; written = written; faults = faults }) now
-    → Ends asked status (record { files = files; reading = reading; writing = writing; written = written; faults = faults }) now
-read_first asked status files mid_files reading mid_reading writing mid_writing faults written now a b d ends =
-    subst (λ (f : Option Files). Ends asked status (record { files = f; reading = reading; writing = writing; written = written; faults = faults }) now) a
-    (subst (λ (r : ℕ). Ends asked status (record { files = mid_files; reading = r; writing = writing; written = written; faults = faults }) now) b
-    (subst (λ (w : ℕ). Ends asked status (record { files = mid_files; reading = mid_reading; writing = w; written = written; faults = faults }) now) d ends))
+    → Finishes effect status (record { files = mid_files; reading = mid_reading; writing = mid_writing; written = written_before; faults = faults }) now
+    → Finishes effect status (record { files = files; reading = reading; writing = writing; written = written_before; faults = faults }) now
+read_first effect status files mid_files reading mid_reading writing mid_writing faults written_before now a b d ends =
+    subst (λ (f : Option Files). Finishes effect status (record { files = f; reading = reading; writing = writing; written = written_before; faults = faults }) now) a
+    (subst (λ (r : ℕ). Finishes effect status (record { files = mid_files; reading = r; writing = writing; written = written_before; faults = faults }) now) b
+    (subst (λ (w : ℕ). Finishes effect status (record { files = mid_files; reading = mid_reading; writing = w; written = written_before; faults = faults }) now) d ends))
 
--- the file that is written, as a command has it
-pub record HasOut (asked : Asked) (files : Files) (name text : List ℕ) : Type 0 where
-  pub same : IsSame asked files
-  pub whole : AreWritten asked files (Some (insert files name text))
-  pub begun : (now : Option Files) → BeginsOut files now name text → AreBegun asked files now name
-  pub answer : report asked files ≡ ok_line
+-- ---- the two ways in which a command ends
+pub performs : (request : RequestData) (status : ℕ) (before now : Snapshot) (effect : Effect) → HasGood request before.files → HasEffect request before.files effect
+    → Finishes effect status before now → Ends request status before now
+performs request status before now effect good does finishes = inl (record { good = good; effect = effect; does = does; finishes = finishes })
 
-inserted : (files now : Option Files) (asked : Asked) (name text : List ℕ) → IfSome files (λ told. HasOut asked told name text)
-    → now ≡ option_map (λ told. insert told name text) files → IfSome files (λ told. AreWritten asked told now)
-inserted None now asked name text out is = tt
-inserted (Some told) now asked name text out is = rw is out.whole
+pub refuses : (request : RequestData) (why : Failure) (name : List ℕ) (status : ℕ) (before now : Snapshot)
+    → Stops why (reads request) before.files name before.reading now.reading
+    → status ≡ status_of why → Tells (line_of why name) before now → now.files ≡ before.files → now.writing ≡ before.writing
+    → Ends request status before now
+refuses request why name status before now stops is line files writing =
+    inr (record { why = why; name = name; stops = stops; status_is = is; line = line; files = files; writing = writing })
 
-begun : (files now : Option Files) (asked : Asked) (name text : List ℕ) → IfSome files (λ told. HasOut asked told name text)
-    → IfSome files (λ told. BeginsOut told now name text) → IfSome files (λ told. AreBegun asked told now name)
-begun None now asked name text out is = tt
-begun (Some told) now asked name text out is = out.begun now is
+-- ---- one file that is read
+pub none_before : (files : Option Files) → IfSome files (λ told. AreGood [] told)
+none_before None = tt
+none_before (Some told) = tt
 
-answered : (files : Option Files) (asked : Asked) (name text : List ℕ) → IfSome files (λ told. HasOut asked told name text)
-    → IfSome files (λ told. report asked told ≡ ok_line)
-answered None asked name text out = tt
-answered (Some told) asked name text out = out.answer
+pub one_good : (one : Input) (files : Option Files) → IfSome files (λ told. IsJudged one told Good) → IfSome files (λ told. AreGood (one ∷ []) told)
+one_good one None good = tt
+one_good one (Some told) good = (good, tt)
 
-same_out : (files : Option Files) (asked : Asked) (name text : List ℕ) → IfSome files (λ told. HasOut asked told name text)
-    → IfSome files (λ told. IsSame asked told)
-same_out None asked name text out = tt
-same_out (Some told) asked name text out = out.same
+first_at : (why : Failure) (kind : Kind) (later : List Input) (files : Option Files) (name : List ℕ) (before now : ℕ)
+    → IsReason why kind files name before now → StopsAt why (input name kind ∷ later) files name before now
+first_at why kind later files name before now reason = record {
+  one = input name kind;
+  named = refl;
+  reached = record { earlier = []; later = later; place = refl; good = none_before files };
+  reason = reason;
+}
 
-pub finished_ends : (asked : Asked) (name text : List ℕ) (before now : Moment) (status : ℕ)
-    → IsDecided asked before.files Good → IfSome before.files (λ files. HasOut asked files name text)
-    → IsWritten asked name
-    → Finishes name text status before now
-    → Ends asked status before now
-finished_ends asked name text before now status good out named (reading, inl (writing, files, reports)) =
-    reported_ends asked ok_line before now status good (same_out before.files asked name text out) reading writing (inserted before.files now.files asked name text out files)
-    (answered before.files asked name text out) reports
-finished_ends asked name text before now status good out named (reading, inr (is, fails)) =
-    unwritten_ends asked before now status is good reading
-    (inl (record { name = name; named = named; cause = fails.cause; begun = begun before.files now.files asked name text out fails.begun; line = fails.line }))
+pub first_stops : (why : Failure) (kind : Kind) (later : List Input) (files : Option Files) (name : List ℕ) (before now : ℕ)
+    → IsReason why kind files name before now → Stops why (input name kind ∷ later) files name before now
+first_stops failure.Unread kind later files name before now reason = first_at failure.Unread kind later files name before now reason
+first_stops failure.TooLarge kind later files name before now reason = first_at failure.TooLarge kind later files name before now reason
+first_stops failure.TooMany kind later files name before now reason = first_at failure.TooMany kind later files name before now reason
+first_stops (failure.Refused why) kind later files name before now reason = first_at (failure.Refused why) kind later files name before now reason
+first_stops failure.Memory kind later files name before now reason = reason
 
--- ---- each status by itself
-pub ends_0 : (asked : Asked) (s : ℕ) (b n : Moment) → Ends asked s b n → s ≡ 0 → IsDone asked b n
-ends_0 asked s b n (inl (p, x)) q = x
-ends_0 asked s b n (inr (inl (p, x))) q = absurd (omega arith)
-ends_0 asked s b n (inr (inr (inl (p, x)))) q = absurd (omega arith)
-ends_0 asked s b n (inr (inr (inr (inl (p, x))))) q = absurd (omega arith)
-ends_0 asked s b n (inr (inr (inr (inr (inl (p, x)))))) q = absurd (omega arith)
-ends_0 asked s b n (inr (inr (inr (inr (inr (inl (p, x))))))) q = absurd (omega arith)
-ends_0 asked s b n (inr (inr (inr (inr (inr (inr (p, x))))))) q = absurd (omega arith)
+-- ---- what a command prints or writes
+pub check_does : (files : Option Files) (name file text : List ℕ) → text ≡ file → IfSome files (λ told. get told name ≡ Some file)
+    → HasEffect (Check name) files (prints (check_report text))
+check_does files name file text same found = (check_report text, refl, known files found)
+  where
+    known : (o : Option Files) → IfSome o (λ told. get told name ≡ Some file) → IfSome o (λ told. check_report text ≡ check_report (unwrap_or (get told name) []))
+    known None has = tt
+    known (Some told) has = ap check_report same ∙ sym (ap (λ (g : Option (List ℕ)). check_report (unwrap_or g [])) has)
 
-pub ends_1 : (asked : Asked) (s : ℕ) (b n : Moment) → Ends asked s b n → s ≡ 1 → ⊥
-ends_1 asked s b n (inl (p, x)) q = absurd (omega arith)
-ends_1 asked s b n (inr (inl (p, x))) q = absurd (omega arith)
-ends_1 asked s b n (inr (inr (inl (p, x)))) q = absurd (omega arith)
-ends_1 asked s b n (inr (inr (inr (inl (p, x))))) q = absurd (omega arith)
-ends_1 asked s b n (inr (inr (inr (inr (inl (p, x)))))) q = absurd (omega arith)
-ends_1 asked s b n (inr (inr (inr (inr (inr (inl (p, x))))))) q = absurd (omega arith)
-ends_1 asked s b n (inr (inr (inr (inr (inr (inr (p, x))))))) q = absurd (omega arith)
+pub list_does : (files : Option Files) (name text : List ℕ) (cartridge : List (List ℕ)) → text ≡ list_report cartridge → IfSome files (λ told. cartridge_of told name ≡ cartridge)
+    → HasEffect (Names name) files (prints text)
+list_does files name text cartridge is has = (text, refl, known files has)
+  where
+    known : (o : Option Files) → IfSome o (λ told. cartridge_of told name ≡ cartridge) → IfSome o (λ told. text ≡ list_report (cartridge_of told name))
+    known None h = tt
+    known (Some told) h = is ∙ sym (ap list_report h)
 
-pub ends_2 : (asked : Asked) (s : ℕ) (b n : Moment) → Ends asked s b n → s ≡ 2 → IsUnread asked b n
-ends_2 asked s b n (inl (p, x)) q = absurd (omega arith)
-ends_2 asked s b n (inr (inl (p, x))) q = x
-ends_2 asked s b n (inr (inr (inl (p, x)))) q = absurd (omega arith)
-ends_2 asked s b n (inr (inr (inr (inl (p, x))))) q = absurd (omega arith)
-ends_2 asked s b n (inr (inr (inr (inr (inl (p, x)))))) q = absurd (omega arith)
-ends_2 asked s b n (inr (inr (inr (inr (inr (inl (p, x))))))) q = absurd (omega arith)
-ends_2 asked s b n (inr (inr (inr (inr (inr (inr (p, x))))))) q = absurd (omega arith)
-
-pub ends_3 : (asked : Asked) (s : ℕ) (b n : Moment) → Ends asked s b n → s ≡ 3 → IsUnwritten asked b n
-ends_3 asked s b n (inl (p, x)) q = absurd (omega arith)
-ends_3 asked s b n (inr (inl (p, x))) q = absurd (omega arith)
-ends_3 asked s b n (inr (inr (inl (p, x)))) q = x
-ends_3 asked s b n (inr (inr (inr (inl (p, x))))) q = absurd (omega arith)
-ends_3 asked s b n (inr (inr (inr (inr (inl (p, x)))))) q = absurd (omega arith)
-ends_3 asked s b n (inr (inr (inr (inr (inr (inl (p, x))))))) q = absurd (omega arith)
-ends_3 asked s b n (inr (inr (inr (inr (inr (inr (p, x))))))) q = absurd (omega arith)
-
-pub ends_4 : (asked : Asked) (s : ℕ) (b n : Moment) → Ends asked s b n → s ≡ 4 → IsRefused asked b n
-ends_4 asked s b n (inl (p, x)) q = absurd (omega arith)
-ends_4 asked s b n (inr (inl (p, x))) q = absurd (omega arith)
-ends_4 asked s b n (inr (inr (inl (p, x)))) q = absurd (omega arith)
-ends_4 asked s b n (inr (inr (inr (inl (p, x))))) q = x
-ends_4 asked s b n (inr (inr (inr (inr (inl (p, x)))))) q = absurd (omega arith)
-ends_4 asked s b n (inr (inr (inr (inr (inr (inl (p, x))))))) q = absurd (omega arith)
-ends_4 asked s b n (inr (inr (inr (inr (inr (inr (p, x))))))) q = absurd (omega arith)
-
-pub ends_6 : (asked : Asked) (s : ℕ) (b n : Moment) → Ends asked s b n → s ≡ 6 → IsPastLimit asked b n
-ends_6 asked s b n (inl (p, x)) q = absurd (omega arith)
-ends_6 asked s b n (inr (inl (p, x))) q = absurd (omega arith)
-ends_6 asked s b n (inr (inr (inl (p, x)))) q = absurd (omega arith)
-ends_6 asked s b n (inr (inr (inr (inl (p, x))))) q = absurd (omega arith)
-ends_6 asked s b n (inr (inr (inr (inr (inl (p, x)))))) q = x
-ends_6 asked s b n (inr (inr (inr (inr (inr (inl (p, x))))))) q = absurd (omega arith)
-ends_6 asked s b n (inr (inr (inr (inr (inr (inr (p, x))))))) q = absurd (omega arith)
-
-pub ends_7 : (asked : Asked) (s : ℕ) (b n : Moment) → Ends asked s b n → s ≡ 7 → IsDifferent asked b n
-ends_7 asked s b n (inl (p, x)) q = absurd (omega arith)
-ends_7 asked s b n (inr (inl (p, x))) q = absurd (omega arith)
-ends_7 asked s b n (inr (inr (inl (p, x)))) q = absurd (omega arith)
-ends_7 asked s b n (inr (inr (inr (inl (p, x))))) q = absurd (omega arith)
-ends_7 asked s b n (inr (inr (inr (inr (inl (p, x)))))) q = absurd (omega arith)
-ends_7 asked s b n (inr (inr (inr (inr (inr (inl (p, x))))))) q = x
-ends_7 asked s b n (inr (inr (inr (inr (inr (inr (p, x))))))) q = absurd (omega arith)
-
-pub ends_8 : (asked : Asked) (s : ℕ) (b n : Moment) → Ends asked s b n → s ≡ 8 → IsOutOfMemory asked b n
-ends_8 asked s b n (inl (p, x)) q = absurd (omega arith)
-ends_8 asked s b n (inr (inl (p, x))) q = absurd (omega arith)
-ends_8 asked s b n (inr (inr (inl (p, x)))) q = absurd (omega arith)
-ends_8 asked s b n (inr (inr (inr (inl (p, x))))) q = absurd (omega arith)
-ends_8 asked s b n (inr (inr (inr (inr (inl (p, x)))))) q = absurd (omega arith)
-ends_8 asked s b n (inr (inr (inr (inr (inr (inl (p, x))))))) q = absurd (omega arith)
-ends_8 asked s b n (inr (inr (inr (inr (inr (inr (p, x))))))) q = x
-
-pub one_of : (asked : Asked) (s : ℕ) (b n : Moment) → Ends asked s b n → IsOneOf s (0 ∷ 1 ∷ 2 ∷ 3 ∷ 4 ∷ 6 ∷ 7 ∷ 8 ∷ [])
-one_of asked s b n (inl (p, x)) = inl p
-one_of asked s b n (inr (inl (p, x))) = inr (inr (inl p))
-one_of asked s b n (inr (inr (inl (p, x)))) = inr (inr (inr (inl p)))
-one_of asked s b n (inr (inr (inr (inl (p, x))))) = inr (inr (inr (inr (inl p))))
-one_of asked s b n (inr (inr (inr (inr (inl (p, x)))))) = inr (inr (inr (inr (inr (inl p)))))
-one_of asked s b n (inr (inr (inr (inr (inr (inl (p, x))))))) = inr (inr (inr (inr (inr (inr (inl p))))))
-one_of asked s b n (inr (inr (inr (inr (inr (inr (p, x))))))) = inr (inr (inr (inr (inr (inr (inr (inl p)))))))
-
--- ---- where all is right
-order_good : (o : Option (List ℕ)) (it : Verdict) → IsOrderVerdict o Good → IsOrderVerdict o it → it ≡ Good
-order_good None it good is = absurd (cc)
-order_good (Some file) Lacking good is = absurd is
-order_good (Some file) TooLarge good is = absurd (omega (arith, good.0, is))
-order_good (Some file) TooMany good is = absurd (is.1 (good.1.0) (good.1.1))
-order_good (Some file) (Refused why) good is = absurd (is.1 (good.1.0) (good.1.1))
-order_good (Some file) Good good is = refl
-
--- a command has one verdict, if one is good
-pub only_good : (asked : Asked) (told : Files) (it : Verdict) → Decides asked told Good → Decides asked told it → it ≡ Good
-only_good (Check file) told it good is = sym is ∙ good
-only_good (Names file) told it good is = sym is ∙ good
-only_good (Pick file slot out) told it good is = sym is ∙ good
-only_good (Pack out names) told it good is = sym is ∙ good
-only_good (Replay order out) told it good is = order_good (get told order) it good is
-only_good (Verify order sound) told it (inl (good, never)) is = absurd (never refl)
-only_good (Verify order sound) told it (inr (good, there)) (inl (is, never)) = order_good (get told order) it good is
-only_good (Verify order sound) told it (inr (good, there)) (inr (also, is)) = sym is ∙ there
-only_good (Gen seed scripts commands) told it good is = is
-only_good (Bench seed blocks) told it good is = is
-
-never_decided : (asked : Asked) (told : Files) (files : Option Files) (it : Verdict) → files ≡ Some told → (it ≡ Good → ⊥) → Decides asked told Good → IsDecided asked files it → ⊥
-never_decided asked told files it same never good is =
-    never (only_good asked told it good (let h : IsDecided asked (Some told) it = subst (λ (o : Option Files). IsDecided asked o it) same is in h))
-
-zero_done : (asked : Asked) (s : ℕ) → s ≡ 0 → IsOneOf s (done_by asked)
-zero_done (Check file) s p = inl p
-zero_done (Names file) s p = inl p
-zero_done (Pick file slot out) s p = inl p
-zero_done (Pack out names) s p = inl p
-zero_done (Replay order out) s p = inl p
-zero_done (Verify order sound) s p = inl p
-zero_done (Gen seed scripts commands) s p = inl p
-zero_done (Bench seed blocks) s p = inl p
-
-eight_done : (asked : Asked) (s : ℕ) → s ≡ 8 → IsOneOf s (done_by asked)
-eight_done (Check file) s p = inr (inl p)
-eight_done (Names file) s p = inr (inl p)
-eight_done (Pick file slot out) s p = inr (inl p)
-eight_done (Pack out names) s p = inr (inl p)
-eight_done (Replay order out) s p = inr (inl p)
-eight_done (Verify order sound) s p = inr (inr (inl p))
-eight_done (Gen seed scripts commands) s p = inr (inl p)
-eight_done (Bench seed blocks) s p = inr (inl p)
-
-seven_done : (asked : Asked) (s : ℕ) → IsVerify asked → s ≡ 7 → IsOneOf s (done_by asked)
-seven_done (Check file) s v p = absurd v
-seven_done (Names file) s v p = absurd v
-seven_done (Pick file slot out) s v p = absurd v
-seven_done (Pack out names) s v p = absurd v
-seven_done (Replay order out) s v p = absurd v
-seven_done (Verify order sound) s v p = inr (inl p)
-seven_done (Gen seed scripts commands) s v p = absurd v
-seven_done (Bench seed blocks) s v p = absurd v
-
-success : (asked : Asked) (s : ℕ) (told : Files) (b n : Moment) → b.files ≡ Some told → Ends asked s b n
-    → Decides asked told Good
-    → ¬ (Rose b.reading n.reading) → ¬ (Rose b.writing n.writing) → ¬ (Rose b.faults n.faults) → IsOneOf s (done_by asked)
-success asked s told b n is (inl (p, x)) good r w f = zero_done asked s p
-success asked s told b n is (inr (inl (p, x))) good r w f =
-    elim x.cause [ inl rose ↦ absurd (r rose) | inr lacks ↦ absurd (never_decided asked told b.files Lacking is (λ e. cc) good (x.first lacks)) ]
-success asked s told b n is (inr (inr (inl (p, x)))) good r w f =
-    elim x.failed [ inl out ↦ absurd (w out.cause) | inr rep ↦ absurd (f rep.cause) ]
-success asked s told b n is (inr (inr (inr (inl (p, x))))) good r w f =
-    absurd (never_decided asked told b.files (Refused x.why) is (λ e. cc) good x.refused)
-success asked s told b n is (inr (inr (inr (inr (inl (p, x)))))) good r w f =
-    elim x.limit [
-      | inl large ↦ absurd (never_decided asked told b.files TooLarge is (λ e. cc) good (large.0))
-      | inr many ↦ absurd (never_decided asked told b.files TooMany is (λ e. cc) good (many.0))
-    ]
-success asked s told b n is (inr (inr (inr (inr (inr (inl (p, x))))))) good r w f = seven_done asked s x.verify p
-success asked s told b n is (inr (inr (inr (inr (inr (inr (p, x))))))) good r w f = eight_done asked s p
-
-pub completes : (asked : Asked) (s : ℕ) (files now_files : Option Files) (reading now_reading writing now_writing faults now_faults : ℕ) (written now_written : Option (List ℕ))
-    → Ends asked s (record { files = files; reading = reading; writing = writing; written = written; faults = faults })
-    (record { files = now_files; reading = now_reading; writing = now_writing; written = now_written; faults = now_faults })
-    → OnSuccess asked (record { files = files; reading = reading; writing = writing; written = written; faults = faults })
-    (record { files = now_files; reading = now_reading; writing = now_writing; written = now_written; faults = now_faults }) (IsOneOf s (done_by asked))
-completes asked s None now_files reading now_reading writing now_writing faults now_faults written now_written ends = tt
-completes asked s (Some told) now_files reading now_reading writing now_writing faults now_faults written now_written ends = λ good r w f.
-    success asked s told (record { files = Some told; reading = reading; writing = writing; written = written; faults = faults })
-    (record { files = now_files; reading = now_reading; writing = now_writing; written = now_written; faults = now_faults }) refl ends good r w f
-
--- ---- what a command found
--- nothing is compared
-pub not_compared : (files : Option Files) → IfSome files (λ told. Unit {0})
-not_compared None = tt
-not_compared (Some told) = tt
-
-pub same_files : (o now : Option Files) → now ≡ o → IfSome o (λ told. now ≡ Some told)
-same_files None now is = tt
-same_files (Some told) now is = is
-
-pub check_known : (files : Option Files) (name file text : List ℕ) → text ≡ file → IfSome files (λ told. get told name ≡ Some file)
-    → IfSome files (λ told. report (Check name) told ≡ check_report text)
-check_known None name file text same found = tt
-check_known (Some told) name file text same found = ap (λ (o : Option (List ℕ)). check_report (unwrap_or o [])) found ∙ ap check_report (sym same)
-
-pub list_known : (files : Option Files) (name text : List ℕ) (cartridge : List (List ℕ)) → text ≡ list_report cartridge → IfSome files (λ told. cartridge_of told name ≡ cartridge)
-    → IfSome files (λ told. report (Names name) told ≡ text)
-list_known None name text cartridge is known = tt
-list_known (Some told) name text cartridge is known = ap list_report known ∙ sym is
-
-pub pick_out : (files : Option Files) (file : List ℕ) (slot : ℕ) (out text : List ℕ) (cartridge : List (List ℕ)) (voice : List ℕ)
+pub pick_does : (files : Option Files) (file : List ℕ) (slot : ℕ) (out text : List ℕ) (cartridge : List (List ℕ)) (voice : List ℕ)
     → IfSome files (λ told. cartridge_of told file ≡ cartridge) → voice ≡ voice_at cartridge slot → IsFrame text (VoiceDump 0 voice)
-    → IfSome files (λ told. HasOut (Pick file slot out) told out text)
-pick_out None file slot out text cartridge voice known is frame = tt
-pick_out (Some told) file slot out text cartridge voice known is frame =
-    let e : voice ≡ picked told file slot = is ∙ ap (λ (v : List (List ℕ)). voice_at v slot) (sym known) in
-    let f : IsFrame text (VoiceDump 0 (picked told file slot)) = subst (λ (v : List ℕ). IsFrame text (VoiceDump 0 v)) e frame in
-    record { same = tt; whole = (text, f, refl); begun = λ now b. (text, f, b); answer = refl }
+    → HasEffect (Pick file slot out) files (writes out text)
+pick_does files file slot out text cartridge voice has is frame = (text, refl, known files has)
+  where
+    known : (o : Option Files) → IfSome o (λ told. cartridge_of told file ≡ cartridge) → IfSome o (λ told. IsFrame text (VoiceDump 0 (picked told file slot)))
+    known None h = tt
+    known (Some told) h =
+        let e : voice ≡ picked told file slot = is ∙ ap (λ (v : List (List ℕ)). voice_at v slot) (sym h) in
+        subst (λ (v : List ℕ). IsFrame text (VoiceDump 0 v)) e frame
 
-pub pack_out : (files : Option Files) (out text items : List ℕ) (names : List (List ℕ)) → text ≡ items → IfSome files (λ told. IsMessageOf (packed told names) 0 items)
-    → IfSome files (λ told. HasOut (Pack out names) told out text)
-pack_out None out text items names same message = tt
-pack_out (Some told) out text items names same message =
-    let f : IsMessageOf (packed told names) 0 text = subst (λ (t : List ℕ). IsMessageOf (packed told names) 0 t) (sym same) message in
-    record { same = tt; whole = (text, f, refl); begun = λ now b. (text, f, b); answer = refl }
+pub bench_does : (files : Option Files) (seed blocks commands : ℕ) (sum : ℤ) (text : List ℕ) → text ≡ bench_line commands blocks sum
+    → commands ≡ length (generated_journal seed blocks) → sum ≡ sum_of_samples (generated_journal seed blocks) blocks → HasEffect (Bench seed blocks) files (prints text)
+bench_does files seed blocks commands sum text is counted summed =
+    ap prints (is ∙ ap (λ (n : ℕ). bench_line n blocks sum) counted ∙ ap (λ (s : ℤ). bench_line (length (generated_journal seed blocks)) blocks s) summed)
 
-pub finishes_first : (name text : List ℕ) (status : ℕ) (files mid_files : Option Files) (reading mid_reading writing mid_writing faults : ℕ) (written : Option (List ℕ)) (now : Moment)
-    → mid_files ≡ files → mid_reading ≡ reading → mid_writing ≡ writing
-    → Finishes name text status (record { files = mid_files; reading = mid_reading; writing = mid_writing; written = written; faults = faults }) now
-    → Finishes name text status (record { files = files; reading = reading; writing = writing; written = written; faults = faults }) now
-finishes_first name text status files mid_files reading mid_reading writing mid_writing faults written now a b d ends =
-    subst (λ (f : Option Files). Finishes name text status (record { files = f; reading = reading; writing = writing; written = written; faults = faults }) now) a
-    (subst (λ (r : ℕ). Finishes name text status (record { files = mid_files; reading = r; writing = writing; written = written; faults = faults }) now) b
-    (subst (λ (w : ℕ). Finishes name text status (record { files = mid_files; reading = mid_reading; writing = w; written = written; faults = faults }) now) d ends))
+pub gen_does : (files : Option Files) (seed scripts commands count total : ℕ) (outputs : List Output) → outputs ≡ scripts_of seed commands scripts → count ≡ scripts → total ≡ scripts * commands
+    → HasEffect (Gen seed scripts commands) files (record { status = 0; writes = outputs; prints = scripts_line count total })
+gen_does files seed scripts commands count total outputs same counted summed =
+    ap (λ (o : List Output). made o (scripts_line count total)) same
+    ∙ ap (λ (c : ℕ). made (scripts_of seed commands scripts) (scripts_line c total)) counted
+    ∙ ap (λ (t : ℕ). made (scripts_of seed commands scripts) (scripts_line scripts t)) summed
+  where
+    made : List Output → List ℕ → Effect
+    made o text = record { status = 0; writes = o; prints = text }
 
--- what holds of a request holds of what the words ask for
-pub known : (P : Asked → Type 0) (request : Asked) (o : Option Asked) → Some request ≡ o → P request → IfSome o P
-known P request None e p = absurd (cc)
-known P request (Some a) e p = let same : request ≡ a = cc in subst P same p
-
-pub not_none : (request : Asked) (o : Option Asked) → Some request ≡ o → o ≡ None → ⊥
-not_none request o e f = let h : Some request ≡ None = e ∙ f in absurd (cc)
-
-pub if_none : (P : Asked → Type 0) (o : Option Asked) → None ≡ o → IfSome o P
-if_none P None e = tt
-if_none P (Some a) e = absurd (cc)
-
--- ---- over a shelf that never fails
-pub never_unread : (o : Option Asked) (s writing now_writing : ℕ) (now_files : Option Files) (written now_written : Option (List ℕ)) (faults now_faults : ℕ)
-    → (s ≡ 1) ↔ (o ≡ None)
-    → (s ≡ 2 → IfSome o (λ asked. IsUnread asked (record { files = None; reading = 0; writing = writing; written = written; faults = faults })
-    (record { files = now_files; reading = 0; writing = now_writing; written = now_written; faults = now_faults })))
-    → s ≢ 2
-never_unread None s writing now_writing now_files written now_written faults now_faults words unread is =
-    let one : s ≡ 1 = words.1 refl in absurd (omega arith)
-never_unread (Some asked) s writing now_writing now_files written now_written faults now_faults words unread is =
-    elim (unread is).cause [ inl rose ↦ absurd (omega (arith, rose)) | inr lacks ↦ absurd lacks ]
-
-pub only_put : (o : Option Asked) (s reading now_reading : ℕ) (written now_written : Option (List ℕ)) (faults now_faults : ℕ)
-    → (s ≡ 1) ↔ (o ≡ None)
-    → (s ≡ 3 → IfSome o (λ asked. IsUnwritten asked (record { files = None; reading = reading; writing = 0; written = written; faults = faults })
-    (record { files = None; reading = now_reading; writing = 0; written = now_written; faults = now_faults })))
-    → s ≡ 3 → Rose faults now_faults
-only_put None s reading now_reading written now_written faults now_faults words unwritten is =
-    let one : s ≡ 1 = words.1 refl in absurd (omega arith)
-only_put (Some asked) s reading now_reading written now_written faults now_faults words unwritten is =
-    elim (unwritten is).failed [ inl out ↦ absurd (omega (arith, out.cause)) | inr rep ↦ rep.cause ]
-
-pub only_verify : (o : Option Asked) (s reading now_reading writing now_writing : ℕ) (now_files : Option Files) (written now_written : Option (List ℕ)) (faults now_faults : ℕ)
-    → (s ≡ 7 → IfSome o (λ asked. IsDifferent asked (record { files = None; reading = reading; writing = writing; written = written; faults = faults })
-    (record { files = now_files; reading = now_reading; writing = now_writing; written = now_written; faults = now_faults })))
-    → s ≡ 7 → IfSome o IsVerify
-only_verify None s reading now_reading writing now_writing now_files written now_written faults now_faults different is = tt
-only_verify (Some asked) s reading now_reading writing now_writing now_files written now_written faults now_faults different is = (different is).verify
+-- one of several files that could not be written
+pub several_unwritten : (effect : Effect) (at : ℕ) (status : ℕ) (before now : Snapshot) (name : List ℕ) → now.reading ≡ before.reading → status ≡ 3 → (Rose before.writing now.writing ⊎ ⊥)
+    → (stop : StopsIn at effect.writes before.files now.files) → name ≡ stop.file.name → Tells (cannot_write name) before now → Finishes effect status before now
+several_unwritten effect at status before now name reading is cause stop named line = record {
+  reading = reading;
+  ends = inr (
+    is,
+    inl (record {
+      file = stop.file;
+      earlier = stop.earlier;
+      later = stop.later;
+      place = stop.place;
+      cause = elim cause [ inl rose ↦ rose | inr never ↦ absurd never ];
+      begun = stop.begun;
+      line = subst (λ (n : List ℕ). Tells (cannot_write n) before now) named line;
+    }),
+  );
+}

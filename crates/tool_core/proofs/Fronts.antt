@@ -6,8 +6,8 @@ use Rattle.std.proofs.Math.Seq.{take-add, take-append-add, take-append_seam, dro
 use Rattle.std.proofs.lemmas.List.{take-append-drop, take-append-le, length-take, length-take-le, take_all}
 use Rattle.std.proofs.lemmas.Option.{slice_get_past, slice_get-get_or}
 use Rattle.outside.specs.Files.{Files, ReadsFrom, file_of}
-use Rattle.tool_core.specs.declared.comparing.Step.{Step}
-use Rattle.tool_core.specs.declared.comparing.Step.TheVariants.{Same, Differs}
+use Rattle.tool_core.specs.declared.comparison.Step.{Step}
+use Rattle.tool_core.specs.declared.comparison.Step.TheVariants.{Same, Differs}
 use Rattle.tool_core.specs.Comparisons.{DiffersAt, IsFront, IsStep, IsWithin}
 
 -- ---- bytes at a place

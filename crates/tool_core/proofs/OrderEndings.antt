@@ -1,52 +1,23 @@
 -- How the commands on orders end.
-use Rattle.std.proofs.Common.{◌≡◌, inl, inr, ℕ, ◌<◌, ◌≤◌, List, [], length, refl, sym, ◌∙◌, ap, subst, lt-ltb}
+use Rattle.std.proofs.Common.{◌≡◌, inl, inr, ℕ, ◌<◌, ◌≤◌, List, [], ◌∷◌, length, refl, sym, ◌∙◌, ap, subst, lt-ltb}
 use Rattle.std.specs.Prelude.{Option, Some, None, IfSome, IsSomeAnd, is_some, false, unwrap_or}
 use Rattle.std.specs.FinMap.{get}
 use Rattle.std.proofs.lemmas.Bool.{le-ltb}
 use Rattle.outside.specs.Files.{Files, Lacks, content, file_of}
 use Rattle.take_files.specs.Files.{wav}
 use Rattle.take_files.specs.Orders.{IsOrder, OrderData}
-use Rattle.tool_core.specs.declared.trouble.Trouble.{Trouble}
-use Rattle.tool_core.specs.declared.trouble.Trouble.TheVariants as trouble
-use Rattle.tool_core.specs.Verdicts.{Verdict, Lacking, TooLarge, TooMany, Refused, Good}
+use Rattle.tool_core.specs.declared.failure.Failure.{Failure}
+use Rattle.tool_core.specs.declared.failure.Failure.TheVariants as failure
+use Rattle.tool_core.specs.Verdicts.{TooLarge, Good}
 use Rattle.tool_core.specs.Words.{Replay, Verify}
-use Rattle.tool_core.specs.Lines.{same_line}
 use Rattle.tool_core.specs.Comparisons.{IsCompared}
-use Rattle.tool_core.specs.Orders.{IsOrderVerdict, IsOrderJudged, HasOrderReason, sound_verdict, sound_limit, order_limit}
-use Rattle.tool_core.specs.Decisions.{IsDecided}
-use Rattle.tool_core.specs.Outcomes.{Moment, Ends, Compares, IsSame, IsOther}
-use Rattle.tool_core.specs.Troubles.{IsReadTrouble, Stops}
-use Rattle.tool_core.proofs.Endings.{HasOut, reported_ends, compared_ends, same_files}
-
--- ---- an order that doesn't serve
-not_there : (o : Option (List ℕ)) → is_some o ≡ false → IsOrderVerdict o Lacking
-not_there None e = refl
-not_there (Some file) e = absurd (cc)
-
-order_lacking : (files : Option Files) (name : List ℕ) → Lacks files name → IsOrderJudged files name Lacking
-order_lacking None name lacks = tt
-order_lacking (Some told) name lacks = not_there (get told name) lacks
-
-pub replay_stops : (why : Trouble) (order out : List ℕ) (files : Option Files) (before now : ℕ) → HasOrderReason why files order before now
-    → Stops why (Replay order out) files order before now
-replay_stops trouble.Unread order out files before now reason = (inl refl, reason, λ lacks. order_lacking files order lacks)
-replay_stops trouble.TooLarge order out files before now reason = reason
-replay_stops trouble.TooMany order out files before now reason = reason
-replay_stops (trouble.Refused why) order out files before now reason = reason
-replay_stops trouble.Memory order out files before now reason = reason
-
-first_decides : (files : Option Files) (order sound : List ℕ) (it : Verdict) → (it ≡ Good → ⊥) → IsOrderJudged files order it → IsDecided (Verify order sound) files it
-first_decides None order sound it never judged = tt
-first_decides (Some told) order sound it never judged = inl (judged, never)
-
-pub verify_stops : (why : Trouble) (order sound : List ℕ) (files : Option Files) (before now : ℕ) → HasOrderReason why files order before now
-    → Stops why (Verify order sound) files order before now
-verify_stops trouble.Unread order sound files before now reason =
-    (inl refl, reason, λ lacks. first_decides files order sound Lacking (λ e. cc) (order_lacking files order lacks))
-verify_stops trouble.TooLarge order sound files before now reason = (reason.0, first_decides files order sound TooLarge (λ e. cc) (reason.1))
-verify_stops trouble.TooMany order sound files before now reason = (reason.0, first_decides files order sound TooMany (λ e. cc) (reason.1))
-verify_stops (trouble.Refused why) order sound files before now reason = (reason.0, first_decides files order sound (Refused why) (λ e. cc) (reason.1))
-verify_stops trouble.Memory order sound files before now reason = reason
+use Rattle.tool_core.specs.Inputs.{AnOrder, ASound, AreGood, IsJudged, input}
+use Rattle.tool_core.specs.Orders.{IsOrderVerdict, sound_verdict, sound_limit, order_limit}
+use Rattle.tool_core.specs.Effects.{HasEffect, comparison, writes}
+use Rattle.tool_core.specs.Failures.{IsReason, Stops, StopsAt}
+use Rattle.outside.specs.Snapshot.{Snapshot}
+use Rattle.tool_core.specs.Endings.{IsReadFailure, Puts, Finishes}
+use Rattle.tool_core.proofs.Endings.{none_written, put_ends}
 
 -- ---- an order that serves
 abbrev pub IsRead : Option Files → List ℕ → OrderData → Type 0
@@ -60,23 +31,18 @@ order_in : (g : Option (List ℕ)) (o : OrderData) → IsSomeAnd g (λ file. (le
 order_in None o is = absurd is
 order_in (Some file) o is = is.1
 
-pub order_judged : (files : Option Files) (name : List ℕ) (o : OrderData) → IsRead files name o → IsOrderJudged files name Good
+pub order_judged : (files : Option Files) (name : List ℕ) (o : OrderData) → IsRead files name o → IfSome files (λ told. IsJudged (input name AnOrder) told Good)
 order_judged None name o is = tt
 order_judged (Some told) name o is = good_order (get told name) o is
 
-pub replay_out : (files : Option Files) (order out : List ℕ) (o : OrderData) → IsRead files order o
-    → IfSome files (λ told. HasOut (Replay order out) told out (wav o.journal o.blocks))
-replay_out None order out o is = tt
-replay_out (Some told) order out o is =
-    let known : IsOrder (content told order) o = order_in (get told order) o is in
-    record { same = tt; whole = (o, known, refl); begun = λ now b. (o, known, b); answer = refl }
+pub replay_does : (files : Option Files) (order out : List ℕ) (o : OrderData) → IsRead files order o → HasEffect (Replay order out) files (writes out (wav o.journal o.blocks))
+replay_does files order out o is = (o, refl, known files is)
+  where
+    known : (f : Option Files) → IsRead f order o → IfSome f (λ told. IsOrder (content told order) o)
+    known None h = tt
+    known (Some told) h = order_in (get told order) o h
 
 -- ---- a sound file
-sound_there : (g : Option (List ℕ)) → is_some g ≡ false → sound_verdict g ≡ Lacking
-unfolding sound_verdict
-sound_there None e = refl
-sound_there (Some file) e = absurd (cc)
-
 sound_large : (g : Option (List ℕ)) → IsSomeAnd g (λ file. sound_limit < length file) → sound_verdict g ≡ TooLarge
 unfolding sound_verdict
 sound_large None h = absurd h
@@ -86,37 +52,47 @@ sound_good : (g : Option (List ℕ)) (file : List ℕ) → g ≡ Some file → l
 unfolding sound_verdict
 sound_good g file is within = rw (is, le-ltb sound_limit (length file) within) refl
 
-second_decides : (files : Option Files) (order sound : List ℕ) (o : OrderData) (it : Verdict) → IsRead files order o → IfSome files (λ told. sound_verdict (get told sound) ≡ it)
-    → IsDecided (Verify order sound) files it
-second_decides None order sound o it read judged = tt
-second_decides (Some told) order sound o it read judged = inr (good_order (get told order) o read, judged)
-
-lacks_sound : (files : Option Files) (sound : List ℕ) → Lacks files sound → IfSome files (λ told. sound_verdict (get told sound) ≡ Lacking)
-lacks_sound None sound lacks = tt
-lacks_sound (Some told) sound lacks = sound_there (get told sound) lacks
-
 large_sound : (files : Option Files) (sound : List ℕ) → IfSome files (λ told. IsSomeAnd (get told sound) (λ file. sound_limit < length file))
     → IfSome files (λ told. sound_verdict (get told sound) ≡ TooLarge)
 large_sound None sound h = tt
 large_sound (Some told) sound h = sound_large (get told sound) h
 
-pub sound_stops : (why : Trouble) (order sound : List ℕ) (o : OrderData) (files : Option Files) (before now : ℕ) → IsRead files order o
-    → IsReadTrouble why sound_limit files sound before now → Stops why (Verify order sound) files sound before now
-sound_stops trouble.Unread order sound o files before now read reason =
-    (inr (inl refl), reason, λ lacks. second_decides files order sound o Lacking read (lacks_sound files sound lacks))
-sound_stops trouble.TooLarge order sound o files before now read reason =
-    (reason.0, second_decides files order sound o TooLarge read (large_sound files sound (reason.1)))
-sound_stops trouble.TooMany order sound o files before now read reason = absurd reason
-sound_stops (trouble.Refused why) order sound o files before now read reason = absurd reason
-sound_stops trouble.Memory order sound o files before now read reason = reason
+sound_reason : (why : Failure) (files : Option Files) (sound : List ℕ) (before now : ℕ) → IsReadFailure why sound_limit files sound before now → IsReason why ASound files sound before now
+sound_reason failure.Unread files sound before now reason = reason
+sound_reason failure.TooLarge files sound before now reason = (reason.0, large_sound files sound (reason.1))
+sound_reason failure.TooMany files sound before now reason = absurd reason
+sound_reason (failure.Refused why) files sound before now reason = absurd reason
+sound_reason failure.Memory files sound before now reason = reason
+
+pair_good : (files : Option Files) (order : List ℕ) (o : OrderData) → IsRead files order o → IfSome files (λ told. AreGood (input order AnOrder ∷ []) told)
+pair_good None order o read = tt
+pair_good (Some told) order o read = (good_order (get told order) o read, tt)
+
+second_at : (why : Failure) (order sound : List ℕ) (o : OrderData) (files : Option Files) (before now : ℕ) → IsRead files order o
+    → IsReason why ASound files sound before now → StopsAt why (input order AnOrder ∷ (input sound ASound ∷ [])) files sound before now
+second_at why order sound o files before now read reason = record {
+  one = input sound ASound;
+  named = refl;
+  reached = record { earlier = input order AnOrder ∷ []; later = []; place = refl; good = pair_good files order o read };
+  reason = reason;
+}
+
+second_stops : (why : Failure) (order sound : List ℕ) (o : OrderData) (files : Option Files) (before now : ℕ) → IsRead files order o
+    → IsReason why ASound files sound before now → Stops why (input order AnOrder ∷ (input sound ASound ∷ [])) files sound before now
+second_stops failure.Unread order sound o files before now read reason = second_at failure.Unread order sound o files before now read reason
+second_stops failure.TooLarge order sound o files before now read reason = second_at failure.TooLarge order sound o files before now read reason
+second_stops failure.TooMany order sound o files before now read reason = second_at failure.TooMany order sound o files before now read reason
+second_stops (failure.Refused why) order sound o files before now read reason = second_at (failure.Refused why) order sound o files before now read reason
+second_stops failure.Memory order sound o files before now read reason = reason
 
 -- the same after a read of the order
-pub sound_stops_then : (why : Trouble) (order sound : List ℕ) (o : OrderData) (files mid : Option Files) (before mid_reading now : ℕ) → mid ≡ files → mid_reading ≡ before
-    → IsRead files order o → IsReadTrouble why sound_limit mid sound mid_reading now → Stops why (Verify order sound) files sound before now
-sound_stops_then why order sound o files mid before mid_reading now same kept read reason =
-    sound_stops why order sound o files before now read
-    (subst (λ (b : ℕ). IsReadTrouble why sound_limit files sound b now) kept
-    (subst (λ (f : Option Files). IsReadTrouble why sound_limit f sound mid_reading now) same reason))
+pub sound_stops : (why : Failure) (order sound : List ℕ) (o : OrderData) (files mid : Option Files) (before mid_reading now : ℕ) → mid ≡ files → mid_reading ≡ before
+    → IsRead files order o → IsReadFailure why sound_limit mid sound mid_reading now
+    → Stops why (input order AnOrder ∷ (input sound ASound ∷ [])) files sound before now
+sound_stops why order sound o files mid before mid_reading now same kept read reason =
+    second_stops why order sound o files before now read
+    (subst (λ (b : ℕ). IsReason why ASound files sound b now) kept
+    (subst (λ (f : Option Files). IsReason why ASound f sound mid_reading now) same (sound_reason why mid sound mid_reading now reason)))
 
 -- ---- a sound file that was compared
 record IsThere (g : Option (List ℕ)) : Type 0 where
@@ -128,43 +104,27 @@ there None never = absurd (never refl)
 there (Some file) never = record { file = file; is = refl }
 
 module _ (order sound : List ℕ) (o : OrderData) where
-  good_both : (files : Option Files) → IsRead files order o → (Lacks files sound → ⊥)
-      → ((file : List ℕ) → file_of files sound ≡ Some file → length file ≤ sound_limit) → IsDecided (Verify order sound) files Good
+  pub good_both : (files : Option Files) → IsRead files order o → (Lacks files sound → ⊥)
+      → ((file : List ℕ) → file_of files sound ≡ Some file → length file ≤ sound_limit) → IfSome files (λ told. AreGood (input order AnOrder ∷ (input sound ASound ∷ [])) told)
   good_both None read has within = tt
   good_both (Some told) read has within =
       let t = there (get told sound) has in
-      inr (good_order (get told order) o read, sound_good (get told sound) t.file t.is (within t.file t.is))
+      (good_order (get told order) o read, (sound_good (get told sound) t.file t.is (within t.file t.is), tt))
 
-  same_both : (files : Option Files) → IsRead files order o → (Lacks files sound → ⊥)
-      → ((file : List ℕ) → file_of files sound ≡ Some file → file ≡ wav o.journal o.blocks) → IfSome files (λ told. IsSame (Verify order sound) told)
-  same_both None read has same = tt
-  same_both (Some told) read has same =
-      let t = there (get told sound) has in
-      (o, order_in (get told order) o read, ap (λ (g : Option (List ℕ)). unwrap_or g []) t.is ∙ same t.file t.is)
-
-  other_both : (files : Option Files) (place : ℕ) → IsRead files order o → (Lacks files sound → ⊥)
-      → ((file : List ℕ) → file_of files sound ≡ Some file → IsCompared file (wav o.journal o.blocks) (Some place)) → IfSome files (λ told. IsOther (Verify order sound) told place)
-  other_both None place read has other = tt
-  other_both (Some told) place read has other =
-      let t = there (get told sound) has in (
-        o,
-        order_in (get told order) o read,
-        subst (λ (g : Option (List ℕ)). IsCompared (unwrap_or g []) (wav o.journal o.blocks) (Some place)) (sym t.is) (other t.file t.is),
-      )
-
-  pub verify_ends : (place : Option ℕ) (before now : Moment) (status : ℕ) → IsRead before.files order o → (Lacks before.files sound → ⊥)
-      → ((file : List ℕ) → file_of before.files sound ≡ Some file → IsCompared file (wav o.journal o.blocks) place)
-      → ((file : List ℕ) → file_of before.files sound ≡ Some file → length file ≤ sound_limit)
-      → now.reading ≡ before.reading → now.writing ≡ before.writing → now.files ≡ before.files
-      → Compares place status before.written now.written before.faults now.faults
-      → Ends (Verify order sound) status before now
-  verify_ends None before now status read has compared within reading writing files put =
-      reported_ends (Verify order sound) same_line before now status (good_both before.files read has within) (same_both before.files read has compared) reading writing
-      (same_files before.files now.files files) (same_told before.files) put
+  pub verify_does : (files : Option Files) (place : Option ℕ) → IsRead files order o → (Lacks files sound → ⊥)
+      → ((file : List ℕ) → file_of files sound ≡ Some file → IsCompared file (wav o.journal o.blocks) place) → HasEffect (Verify order sound) files (comparison place)
+  verify_does files place read has compared = (o, place, refl, known files read has compared)
     where
-      same_told : (files : Option Files) → IfSome files (λ told. same_line ≡ same_line)
-      same_told None = tt
-      same_told (Some told) = refl
-  verify_ends (Some place) before now status read has compared within reading writing files put =
-      compared_ends (Verify order sound) place before now status tt (good_both before.files read has within) (other_both before.files place read has compared) reading writing files
-      (same_files before.files now.files files) put
+      known : (f : Option Files) → IsRead f order o → (Lacks f sound → ⊥) → ((file : List ℕ) → file_of f sound ≡ Some file → IsCompared file (wav o.journal o.blocks) place)
+          → IfSome f (λ told. IsOrder (content told order) o × IsCompared (content told sound) (wav o.journal o.blocks) place)
+      known None r h c = tt
+      known (Some told) r h c =
+          let t = there (get told sound) h in
+          (order_in (get told order) o r, subst (λ (g : Option (List ℕ)). IsCompared (unwrap_or g []) (wav o.journal o.blocks) place) (sym t.is) (c t.file t.is))
+
+-- the report of a comparison
+pub compared_ends : (place : Option ℕ) (status : ℕ) (before now : Snapshot) → now.reading ≡ before.reading → now.writing ≡ before.writing → now.files ≡ before.files
+    → Puts (comparison place).status (comparison place).prints status before.written now.written before.faults now.faults → Finishes (comparison place) status before now
+compared_ends None status before now reading writing files put = put_ends (comparison None) status before now reading writing (none_written before.files now.files files) put
+compared_ends (Some place) status before now reading writing files put =
+    put_ends (comparison (Some place)) status before now reading writing (none_written before.files now.files files) put

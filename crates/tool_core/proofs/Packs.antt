@@ -1,7 +1,6 @@
 -- Several files, one after the other.
-use Rattle.std.proofs.Common.{◌≡◌, inl, inr, ℕ, zero, suc, ◌+◌, ◌-◌, ◌<◌, ◌≤◌, List, [], ◌∷◌, ◌++◌, length, map, take, set, replicate, get_or, refl, sym, ◌∙◌, ap, subst, arith}
+use Rattle.std.proofs.Common.{◌≡◌, ℕ, zero, suc, ◌+◌, ◌-◌, ◌<◌, ◌≤◌, List, [], ◌∷◌, ◌++◌, length, map, take, set, replicate, get_or, refl, sym, ◌∙◌, ap, subst, arith}
 use Rattle.std.specs.Prelude.{Option, Some, None, IfSome, String, string_bytes}
-use Rattle.std.specs.FinMap.{get}
 use Rattle.std.specs.declared.alloc.Global.{Global}
 use Rattle.std.proofs.lemmas.Grind.{take_at_read}
 use Rattle.std.proofs.lemmas.List.{length-take-le, length-map}
@@ -9,51 +8,24 @@ use Rattle.std.proofs.Math.Seq.{take-length}
 use Rattle.cartridge.specs.Cartridge.{IsMessageOf}
 use Rattle.outside.specs.Files.{Files}
 use Rattle.voice_record.specs.Voice.{opening_voice}
-use Rattle.tool_core.specs.declared.trouble.Trouble.{Trouble}
-use Rattle.tool_core.specs.declared.trouble.Trouble.TheVariants as trouble
-use Rattle.tool_core.specs.declared.packing.Stop.{Stop}
-use Rattle.tool_core.specs.Refusals.{Wanted}
-use Rattle.tool_core.specs.Verdicts.{Verdict, Lacking, TooLarge, TooMany, Refused, Good, verdict, verdict_on, next_verdict, AreJudged}
-use Rattle.tool_core.specs.Decisions.{IsAmong}
-use Rattle.tool_core.specs.Outcomes.{voice_of, packed}
-use Rattle.tool_core.proofs.Judging.{lacking_judged}
-use Rattle.tool_core.specs.Troubles.{IsJudged, HasReason, HasReasonAmong}
+use Rattle.tool_core.specs.declared.failure.Failure.{Failure}
+use Rattle.tool_core.specs.declared.failure.Failure.TheVariants as failure
+use Rattle.tool_core.specs.declared.pack.PackFailure.{PackFailure}
+use Rattle.tool_core.specs.Refusals.{OneVoice}
+use Rattle.tool_core.specs.Verdicts.{Good}
+use Rattle.tool_core.specs.Inputs.{Input, Midi, input, AreGood, IsJudged}
+use Rattle.tool_core.specs.Words.{Pack}
+use Rattle.tool_core.specs.Effects.{HasEffect, voice_of, packed, writes}
+use Rattle.tool_core.specs.Failures.{IsReason, Stops, StopsAt}
+use Rattle.tool_core.specs.Packing.{voices, IsBadAt, IsPackFailure}
 
-record AreGood (a b : Verdict) : Type 0 where
-  first : a ≡ Good
-  second : b ≡ Good
+good_push : (told : Files) (inputs : List Input) (one : Input) → AreGood inputs told → IsJudged one told Good → AreGood (inputs ++ one ∷ []) told
+good_push told [] one good here = (here, tt)
+good_push told (first ∷ inputs) one good here = (good.0, good_push told inputs one (good.1) here)
 
-both_good : (a b : Verdict) → next_verdict a b ≡ Good → AreGood a b
-both_good Lacking b e = absurd (cc)
-both_good TooLarge b e = absurd (cc)
-both_good TooMany b e = absurd (cc)
-both_good (Refused why) b e = absurd (cc)
-both_good Good b e = record { first = refl; second = e }
-
-verdict_cons : (wanted : Wanted) (told : Files) (name : List ℕ) (names : List (List ℕ))
-    → verdict wanted told (name ∷ names) ≡ next_verdict (verdict_on wanted (get told name)) (verdict wanted told names)
-unfolding verdict
-verdict_cons wanted told name names = refl
-
-verdict_none : (wanted : Wanted) (told : Files) → verdict wanted told [] ≡ Good
-unfolding verdict
-verdict_none wanted told = refl
-
-good_push : (wanted : Wanted) (told : Files) (names : List (List ℕ)) (name : List ℕ)
-    → verdict wanted told names ≡ Good → verdict_on wanted (get told name) ≡ Good → verdict wanted told (names ++ name ∷ []) ≡ Good
-good_push wanted told [] name before here = verdict_cons wanted told name [] ∙ rw here (verdict_none wanted told)
-good_push wanted told (n ∷ names) name before here =
-    let parts = both_good (verdict_on wanted (get told n)) (verdict wanted told names) (sym (verdict_cons wanted told n names) ∙ before) in
-    verdict_cons wanted told n (names ++ name ∷ []) ∙ rw (parts.first) (good_push wanted told names name parts.second here)
-
-stops : (wanted : Wanted) (told : Files) (names : List (List ℕ)) (i : ℕ) (v : Verdict) → ((later : Verdict) → next_verdict v later ≡ v)
-    → i < length names → verdict wanted told (take i names) ≡ Good → verdict_on wanted (get told (get_or names i [])) ≡ v
-    → verdict wanted told names ≡ v
-stops wanted told [] i v stays below before here = absurd (omega arith)
-stops wanted told (n ∷ names) zero v stays below before here = verdict_cons wanted told n names ∙ rw here (stays (verdict wanted told names))
-stops wanted told (n ∷ names) (suc i) v stays below before here =
-    let parts = both_good (verdict_on wanted (get told n)) (verdict wanted told (take i names)) (sym (verdict_cons wanted told n (take i names)) ∙ before) in
-    verdict_cons wanted told n names ∙ rw (parts.first) (stops wanted told names i v stays (omega arith) parts.second here)
+voices_push : (names : List (List ℕ)) (name : List ℕ) → voices (names ++ name ∷ []) ≡ voices names ++ input name (Midi OneVoice) ∷ []
+voices_push [] name = refl
+voices_push (n ∷ names) name = ap (λ (l : List Input). input n (Midi OneVoice) ∷ l) (voices_push names name)
 
 -- ---- one more name
 pub name_at : (names : List (String Global)) (i : ℕ) (d : String Global) → i < length names → get_or (map string_bytes names) i [] ≡ string_bytes (get_or names i d)
@@ -64,47 +36,77 @@ name_at (n ∷ names) (suc i) d below = name_at names i d (omega arith)
 take_one : (names : List (List ℕ)) (i : ℕ) (q : List ℕ) → i < length names → q ≡ get_or names i [] → take (i + 1) names ≡ take i names ++ q ∷ []
 take_one names i q below is = (take_at_read names i [] below).1 ∙ ap (λ (n : List ℕ). take i names ++ n ∷ []) (sym is)
 
-pub good_more : (wanted : Wanted) (files now : Option Files) (names : List (List ℕ)) (i : ℕ) (q : List ℕ)
+pub good_more : (files now : Option Files) (names : List (List ℕ)) (i : ℕ) (q : List ℕ)
     → i < length names → q ≡ get_or names i [] → now ≡ files
-    → AreJudged wanted files (take i names) Good → IsJudged wanted now q Good
-    → AreJudged wanted files (take (i + 1) names) Good
-good_more wanted None now names i q below is same before here = tt
-good_more wanted (Some told) now names i q below is same before here =
-    let at : IsJudged wanted (Some told) q Good = subst (λ (o : Option Files). IsJudged wanted o q Good) same here in
-    ap (verdict wanted told) (take_one names i q below is) ∙ good_push wanted told (take i names) q before at
+    → IfSome files (λ told. AreGood (voices (take i names)) told) → IfSome now (λ told. IsJudged (input q (Midi OneVoice)) told Good)
+    → IfSome files (λ told. AreGood (voices (take (i + 1) names)) told)
+good_more None now names i q below is same before here = tt
+good_more (Some told) now names i q below is same before here =
+    let at : IsJudged (input q (Midi OneVoice)) told Good = subst (λ (o : Option Files). IfSome o (λ t. IsJudged (input q (Midi OneVoice)) t Good)) same here in
+    subst (λ (l : List Input). AreGood l told) (sym (voices_push (take i names) q) ∙ ap voices (sym (take_one names i q below is)))
+    (good_push told (voices (take i names)) (input q (Midi OneVoice)) before at)
 
-among : (names : List (List ℕ)) (i : ℕ) → i < length names → IsAmong (get_or names i []) names
-among [] i below = absurd (omega arith)
-among (n ∷ names) zero below = inl refl
-among (n ∷ names) (suc i) below = inr (among names i (omega arith))
+bad_at : (why : Failure) (files mid : Option Files) (names : List (List ℕ)) (i : ℕ) (q : List ℕ) (first before now : ℕ)
+    → q ≡ get_or names i [] → mid ≡ files → before ≡ first
+    → IfSome files (λ told. AreGood (voices (take i names)) told) → IsReason why (Midi OneVoice) mid q before now
+    → IsBadAt i why files names first now
+bad_at why files mid names i q first before now is same kept good reason = record {
+  good = good;
+  reason =
+      subst (λ (t : List ℕ). IsReason why (Midi OneVoice) files t first now) is
+      (subst (λ (b : ℕ). IsReason why (Midi OneVoice) files q b now) kept
+      (subst (λ (o : Option Files). IsReason why (Midi OneVoice) o q before now) same reason));
+}
 
-stop_judged : (wanted : Wanted) (files : Option Files) (names : List (List ℕ)) (i : ℕ) (v : Verdict) → ((later : Verdict) → next_verdict v later ≡ v)
-    → i < length names → AreJudged wanted files (take i names) Good → IsJudged wanted files (get_or names i []) v
-    → AreJudged wanted files names v
-stop_judged wanted None names i v stays below before here = tt
-stop_judged wanted (Some told) names i v stays below before here = stops wanted told names i v stays below before here
+pub stopped : (why : Failure) (files mid : Option Files) (names : List (List ℕ)) (i : ℕ) (q : List ℕ) (first before now : ℕ)
+    → q ≡ get_or names i [] → mid ≡ files → before ≡ first
+    → IfSome files (λ told. AreGood (voices (take i names)) told) → IsReason why (Midi OneVoice) mid q before now
+    → IsPackFailure i why files names first now
+stopped failure.Unread files mid names i q first before now is same kept good reason = bad_at failure.Unread files mid names i q first before now is same kept good reason
+stopped failure.TooLarge files mid names i q first before now is same kept good reason = bad_at failure.TooLarge files mid names i q first before now is same kept good reason
+stopped failure.TooMany files mid names i q first before now is same kept good reason = bad_at failure.TooMany files mid names i q first before now is same kept good reason
+stopped (failure.Refused why) files mid names i q first before now is same kept good reason = bad_at (failure.Refused why) files mid names i q first before now is same kept good reason
+stopped failure.Memory files mid names i q first before now is same kept good reason = reason ∙ kept
 
-stop_reason : (why : Trouble) (wanted : Wanted) (files : Option Files) (names : List (List ℕ)) (i before now : ℕ)
-    → i < length names → AreJudged wanted files (take i names) Good → HasReason why wanted files (get_or names i []) before now
-    → HasReasonAmong why wanted files names (get_or names i []) before now
-stop_reason trouble.Unread wanted files names i before now below good reason =
-    (among names i below, reason, λ lacks. stop_judged wanted files names i Lacking (λ later. refl) below good (lacking_judged wanted files (get_or names i []) lacks))
-stop_reason trouble.TooLarge wanted files names i before now below good reason =
-    (reason.0, stop_judged wanted files names i TooLarge (λ later. refl) below good (reason.1))
-stop_reason trouble.TooMany wanted files names i before now below good reason = absurd reason
-stop_reason (trouble.Refused why) wanted files names i before now below good reason =
-    (reason.0, stop_judged wanted files names i (Refused why) (λ later. refl) below good (reason.1))
-stop_reason trouble.Memory wanted files names i before now below good reason = reason
+-- the names parted at one of them
+record Parts (names : List (List ℕ)) (i : ℕ) : Type 0 where
+  rest : List (List ℕ)
+  whole : names ≡ take i names ++ get_or names i [] ∷ rest
 
-pub stopped : (why : Trouble) (wanted : Wanted) (files mid : Option Files) (names : List (List ℕ)) (i : ℕ) (q : List ℕ) (first before now : ℕ)
-    → i < length names → q ≡ get_or names i [] → mid ≡ files → before ≡ first
-    → AreJudged wanted files (take i names) Good → HasReason why wanted mid q before now
-    → HasReasonAmong why wanted files names (get_or names i []) first now
-stopped why wanted files mid names i q first before now below is same kept good reason =
-    stop_reason why wanted files names i first now below good
-    (subst (λ (t : List ℕ). HasReason why wanted files t first now) is
-    (subst (λ (b : ℕ). HasReason why wanted files q b now) kept
-    (subst (λ (o : Option Files). HasReason why wanted o q before now) same reason)))
+parts : (names : List (List ℕ)) (i : ℕ) → i < length names → Parts names i
+parts [] i below = absurd (omega arith)
+parts (n ∷ names) zero below = record { rest = names; whole = refl }
+parts (n ∷ names) (suc i) below =
+    let p = parts names i (omega arith) in
+    record { rest = p.rest; whole = ap (λ (l : List (List ℕ)). n ∷ l) p.whole }
+
+voices_append : (xs ys : List (List ℕ)) → voices (xs ++ ys) ≡ voices xs ++ voices ys
+voices_append [] ys = refl
+voices_append (x ∷ xs) ys = ap (λ (l : List Input). input x (Midi OneVoice) ∷ l) (voices_append xs ys)
+
+stops_here : (why : Failure) (place : ℕ) (files : Option Files) (names : List (List ℕ)) (name : List ℕ) (before now : ℕ) → place < length names → name ≡ get_or names place []
+    → IsBadAt place why files names before now → StopsAt why (voices names) files name before now
+stops_here why place files names name before now below is bad =
+    let p = parts names place below in
+    record {
+      one = input (get_or names place []) (Midi OneVoice);
+      named = is;
+      reached = record {
+        earlier = voices (take place names);
+        later = voices p.rest;
+        place = ap voices p.whole ∙ voices_append (take place names) (get_or names place [] ∷ p.rest);
+        good = bad.good;
+      };
+      reason = bad.reason;
+    }
+
+pub pack_stops : (why : Failure) (place : ℕ) (files : Option Files) (names : List (List ℕ)) (name : List ℕ) (before now : ℕ) → place < length names → name ≡ get_or names place []
+    → IsPackFailure place why files names before now → Stops why (voices names) files name before now
+pack_stops failure.Unread place files names name before now below is stop = stops_here failure.Unread place files names name before now below is stop
+pack_stops failure.TooLarge place files names name before now below is stop = stops_here failure.TooLarge place files names name before now below is stop
+pack_stops failure.TooMany place files names name before now below is stop = stops_here failure.TooMany place files names name before now below is stop
+pack_stops (failure.Refused why) place files names name before now below is stop = stops_here (failure.Refused why) place files names name before now below is stop
+pack_stops failure.Memory place files names name before now below is stop = stop
 
 -- ---- the voices so far
 set_seam : (xs ys : List (List ℕ)) (y v : List ℕ) → set (xs ++ y ∷ ys) (length xs) v ≡ (xs ++ v ∷ []) ++ ys
@@ -148,19 +150,19 @@ pub voice_set : (files : Option Files) (q voice : List ℕ) (before after : List
 voice_set None q voice before after i is known = tt
 voice_set (Some told) q voice before after i is known = is ∙ ap (set before i) (sym known)
 
-pub good_none : (wanted : Wanted) (files : Option Files) (names : List (List ℕ)) → AreJudged wanted files (take 0 names) Good
-good_none wanted None names = tt
-good_none wanted (Some told) names = verdict_none wanted told
+pub good_none : (files : Option Files) → IfSome files (λ told. AreGood [] told)
+good_none None = tt
+good_none (Some told) = tt
 
 pub filled_none : (files : Option Files) (names : List (List ℕ)) (cartridge : List (List ℕ)) → cartridge ≡ replicate 32 opening_voice
     → IfSome files (λ told. cartridge ≡ filled told (take 0 names) 0)
 filled_none None names cartridge is = tt
 filled_none (Some told) names cartridge is = is
 
-pub all_good : (wanted : Wanted) (files : Option Files) (names : List (List ℕ)) (i : ℕ) → i ≡ length names
-    → AreJudged wanted files (take i names) Good → AreJudged wanted files names Good
-all_good wanted files names i ended good =
-    subst (λ (l : List (List ℕ)). AreJudged wanted files l Good) (ap (λ (n : ℕ). take n names) ended ∙ take-length names) good
+pub all_good : (files : Option Files) (names : List (List ℕ)) (i : ℕ) → i ≡ length names
+    → IfSome files (λ told. AreGood (voices (take i names)) told) → IfSome files (λ told. AreGood (voices names) told)
+all_good files names i ended good =
+    subst (λ (l : List (List ℕ)). IfSome files (λ told. AreGood (voices l) told)) (ap (λ (n : ℕ). take n names) ended ∙ take-length names) good
 
 pub all_filled : (files : Option Files) (names : List (List ℕ)) (i : ℕ) (cartridge : List (List ℕ)) (text : List ℕ) → i ≡ length names
     → IfSome files (λ told. cartridge ≡ filled told (take i names) i) → IsMessageOf cartridge 0 text
@@ -172,9 +174,17 @@ all_filled (Some told) names i cartridge text ended voices message =
     ∙ ap (filled told names) ended in
     subst (λ (v : List (List ℕ)). IsMessageOf v 0 text) whole message
 
-pub memory_stop : (stop : Stop) (names : List (List ℕ)) (wanted : Wanted) (files : Option Files) (name : List ℕ) (before now : ℕ) → stop.why ≡ trouble.Memory → now ≡ before
-    → HasReasonAmong stop.why wanted files names name before now
-memory_stop stop names wanted files name before now is same = rw is same
+pub memory_stop : (stop : PackFailure) (names : List (List ℕ)) (files : Option Files) (before now : ℕ) → stop.why ≡ failure.Memory → now ≡ before
+    → IsPackFailure stop.place stop.why files names before now
+memory_stop stop names files before now is same = rw is same
 
 pub count_names : (names : List (String Global)) → length (map string_bytes names) ≡ length names
 count_names names = length-map names string_bytes
+
+pub pack_does : (files : Option Files) (out text items : List ℕ) (names : List (List ℕ)) → text ≡ items → IfSome files (λ told. IsMessageOf (packed told names) 0 items)
+    → HasEffect (Pack out names) files (writes out text)
+pack_does files out text items names same message = (text, refl, known files message)
+  where
+    known : (f : Option Files) → IfSome f (λ told. IsMessageOf (packed told names) 0 items) → IfSome f (λ told. IsMessageOf (packed told names) 0 text)
+    known None h = tt
+    known (Some told) h = subst (λ (t : List ℕ). IsMessageOf (packed told names) 0 t) (sym same) h

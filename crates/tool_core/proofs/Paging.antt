@@ -3,11 +3,11 @@ use Rattle.std.proofs.Common.{◌≡◌, ◌⊎◌, ℕ, List, [], ◌++◌, sym
 use Rattle.std.specs.Prelude.{Option, option_map}
 use Rattle.outside.specs.Files.{said, SaidSome}
 use Rattle.outside.proofs.Shelves.{then_said}
-use Rattle.tool_core.specs.Pages.{Puts, FailsIn}
+use Rattle.tool_core.specs.Pages.{Holds, FailsIn}
 use Rattle.fault_lines.proofs.Pieces.{some_behind, some_before}
 
 pub page_put : (o before now : Option (List ℕ)) (page put text : List ℕ) → put ≡ page → now ≡ option_map (said put) before
-    → Puts o before page text → Puts o now [] text
+    → Holds o before page text → Holds o now [] text
 page_put o before now page put text same is p = record {
   front = p.front ++ page;
   was_put = is ∙ ap (λ (l : List ℕ). option_map (said l) before) same ∙ ap (option_map (said page)) p.was_put ∙ then_said o p.front page;
@@ -15,12 +15,12 @@ page_put o before now page put text same is p = record {
 }
 
 pub page_failed : (o before now : Option (List ℕ)) (page put text : List ℕ) → put ≡ page → (now ≡ before) ⊎ SaidSome put before now
-    → Puts o before page text → FailsIn text o now
+    → Holds o before page text → FailsIn text o now
 page_failed o before now page put text same some p =
     let part : (now ≡ before) ⊎ SaidSome page before now = subst (λ (l : List ℕ). (now ≡ before) ⊎ SaidSome l before now) same some in
     subst (λ (t : List ℕ). FailsIn t o now) p.whole (some_behind o before now p.front page p.was_put part)
 
-pub line_added : (o now : Option (List ℕ)) (page more text line : List ℕ) → more ≡ page ++ line → Puts o now page text → Puts o now more (text ++ line)
+pub line_added : (o now : Option (List ℕ)) (page more text line : List ℕ) → more ≡ page ++ line → Holds o now page text → Holds o now more (text ++ line)
 line_added o now page more text line is p = record {
   front = p.front;
   was_put = p.was_put;

@@ -3,68 +3,68 @@ use Rattle.std.proofs.Common.{◌≡◌, ℕ, zero, suc, ◌+◌, ◌-◌, ◌�
 use Rattle.std.specs.Prelude.{Option, Some, None, option_map, option_to_list, Bool, false, Result, Ok, Err, OnOk, OnErr}
 use Rattle.std.specs.List.{flat_map}
 use Rattle.outside.specs.Files.{said}
-use Rattle.tool_core.specs.declared.ending.Ended.{Ended}
-use Rattle.tool_core.specs.Exclusives.{Exclusive, is_too_long, exclusive_at, exclusives_before, exclusives}
-use Rattle.tool_core.specs.Passes.{TellsOf}
+use Rattle.tool_core.specs.declared.scan.Ended.{Ended}
+use Rattle.tool_core.specs.SysEx.{SysExMessage, is_too_long, sysex_at, sysex_before, sysex_messages}
+use Rattle.tool_core.specs.Scans.{TellsOf}
 use Rattle.tool_core.specs.Lines.{content_line, message_line, lines_before, count_line, check_report, name_line, name_lines, list_report}
-use Rattle.tool_core.specs.Pages.{Puts, FailsIn}
+use Rattle.tool_core.specs.Pages.{Holds, FailsIn}
 use Rattle.outside.specs.Faults.{HasCause}
 use Rattle.cartridge.specs.Cartridge.{voice_at}
 use Rattle.sysex_frame.specs.Frame.{Content, IsFrame}
 use Rattle.sysex_frame.specs.FrameFault.{first_fault}
 use Rattle.sysex_frame.specs.declared.frame.FrameFault.{FrameFault}
 use Rattle.tool_core.specs.Refusals.{content, message_content}
-use Rattle.tool_core.proofs.Surveying.{content_of_frame, no_content}
-use Rattle.tool_core.proofs.Streams.{exclusives_next}
+use Rattle.tool_core.proofs.Scanning.{content_of_frame, no_content}
+use Rattle.tool_core.proofs.Streams.{sysex_next}
 use Rattle.tool_core.proofs.Paging.{fails_longer}
 
-flat-append : (f : Exclusive → List ℕ) (xs ys : List Exclusive) → flat_map f (xs ++ ys) ≡ flat_map f xs ++ flat_map f ys
+flat-append : (f : SysExMessage → List ℕ) (xs ys : List SysExMessage) → flat_map f (xs ++ ys) ≡ flat_map f xs ++ flat_map f ys
 flat-append f [] ys = refl
 flat-append f (x ∷ xs) ys = ap (λ (l : List ℕ). f x ++ l) (flat-append f xs ys) ∙ sym (append_assoc (f x) (flat_map f xs) (flat_map f ys))
 
-lines_next : (file : List ℕ) (place : ℕ) → lines_before file (place + 1) ≡ lines_before file place ++ flat_map message_line (option_to_list (exclusive_at file place))
+lines_next : (file : List ℕ) (place : ℕ) → lines_before file (place + 1) ≡ lines_before file place ++ flat_map message_line (option_to_list (sysex_at file place))
 unfolding lines_before
 lines_next file place =
-    ap (flat_map message_line) (exclusives_next file place) ∙ flat-append message_line (exclusives_before file place) (option_to_list (exclusive_at file place))
+    ap (flat_map message_line) (sysex_next file place) ∙ flat-append message_line (sysex_before file place) (option_to_list (sysex_at file place))
 
 -- the message that an answer tells of
-pub told_none : (o : Option Exclusive) → TellsOf None o → o ≡ None
+pub told_none : (o : Option SysExMessage) → TellsOf None o → o ≡ None
 told_none None t = refl
 told_none (Some e) t = absurd t
 
-pub record IsTold (ended : Ended) (o : Option Exclusive) : Type 0 where
-  pub exclusive : Exclusive
-  pub is : o ≡ Some exclusive
-  pub tells : TellsOf (Some ended) (Some exclusive)
+pub record IsTold (ended : Ended) (o : Option SysExMessage) : Type 0 where
+  pub sysex : SysExMessage
+  pub is : o ≡ Some sysex
+  pub tells : TellsOf (Some ended) (Some sysex)
 
-pub told_some : (ended : Ended) (o : Option Exclusive) → TellsOf (Some ended) o → IsTold ended o
+pub told_some : (ended : Ended) (o : Option SysExMessage) → TellsOf (Some ended) o → IsTold ended o
 told_some ended None t = absurd t
-told_some ended (Some e) t = record { exclusive = e; is = refl; tells = t }
+told_some ended (Some e) t = record { sysex = e; is = refl; tells = t }
 
-pub none_put : (o now : Option (List ℕ)) (page file : List ℕ) (place : ℕ) → exclusive_at file place ≡ None
-    → Puts o now page (lines_before file place) → Puts o now page (lines_before file (place + 1))
+pub none_put : (o now : Option (List ℕ)) (page file : List ℕ) (place : ℕ) → sysex_at file place ≡ None
+    → Holds o now page (lines_before file place) → Holds o now page (lines_before file (place + 1))
 none_put o now page file place is puts =
     let same : lines_before file (place + 1) ≡ lines_before file place =
     lines_next file place ∙ ap (λ e. lines_before file place ++ flat_map message_line (option_to_list e)) is ∙ append-nil (lines_before file place) in
-    subst (λ (t : List ℕ). Puts o now page t) (sym same) puts
+    subst (λ (t : List ℕ). Holds o now page t) (sym same) puts
 
-pub some_put : (o now : Option (List ℕ)) (page file : List ℕ) (place : ℕ) (e : Exclusive) (line : List ℕ) → exclusive_at file place ≡ Some e → line ≡ message_line e
-    → Puts o now page (lines_before file place ++ line) → Puts o now page (lines_before file (place + 1))
+pub some_put : (o now : Option (List ℕ)) (page file : List ℕ) (place : ℕ) (e : SysExMessage) (line : List ℕ) → sysex_at file place ≡ Some e → line ≡ message_line e
+    → Holds o now page (lines_before file place ++ line) → Holds o now page (lines_before file (place + 1))
 some_put o now page file place e line is same puts =
     let next : lines_before file (place + 1) ≡ lines_before file place ++ line =
     lines_next file place ∙ ap (λ x. lines_before file place ++ flat_map message_line (option_to_list x)) is
     ∙ ap (λ (l : List ℕ). lines_before file place ++ l) (append-nil (message_line e) ∙ sym same) in
-    subst (λ (t : List ℕ). Puts o now page t) (sym next) puts
+    subst (λ (t : List ℕ). Holds o now page t) (sym next) puts
 
-pub count_next : (file : List ℕ) (place count more : ℕ) → count ≡ length (exclusives_before file place) → more ≡ length (option_to_list (exclusive_at file place))
-    → count + more ≡ length (exclusives_before file (place + 1))
+pub count_next : (file : List ℕ) (place count more : ℕ) → count ≡ length (sysex_before file place) → more ≡ length (option_to_list (sysex_at file place))
+    → count + more ≡ length (sysex_before file (place + 1))
 count_next file place count more was is =
-    let next : length (exclusives_before file (place + 1)) ≡ length (exclusives_before file place) + length (option_to_list (exclusive_at file place)) =
-    ap length (exclusives_next file place) ∙ length-append (exclusives_before file place) (option_to_list (exclusive_at file place)) in
+    let next : length (sysex_before file (place + 1)) ≡ length (sysex_before file place) + length (option_to_list (sysex_at file place)) =
+    ap length (sysex_next file place) ∙ length-append (sysex_before file place) (option_to_list (sysex_at file place)) in
     omega arith
 
-pub nothing_put : (o : Option (List ℕ)) (file : List ℕ) → Puts o o [] (lines_before file 0)
-unfolding lines_before exclusives_before
+pub nothing_put : (o : Option (List ℕ)) (file : List ℕ) → Holds o o [] (lines_before file 0)
+unfolding lines_before sysex_before
 nothing_put None file = record { front = []; was_put = refl; whole = refl }
 nothing_put (Some w) file = record { front = []; was_put = ap (λ (l : List ℕ). Some l) (sym (append-nil w)); whole = refl }
 
@@ -79,13 +79,13 @@ longer file place (suc more) =
     let before = longer file place more in
     let e : place + suc more ≡ place + more + 1 = omega arith in
     record {
-      rest = before.rest ++ flat_map message_line (option_to_list (exclusive_at file (place + more)));
+      rest = before.rest ++ flat_map message_line (option_to_list (sysex_at file (place + more)));
       is = ap (lines_before file) e ∙ lines_next file (place + more)
-          ∙ ap (λ (l : List ℕ). l ++ flat_map message_line (option_to_list (exclusive_at file (place + more)))) before.is
-          ∙ append_assoc (lines_before file place) before.rest (flat_map message_line (option_to_list (exclusive_at file (place + more))));
+          ∙ ap (λ (l : List ℕ). l ++ flat_map message_line (option_to_list (sysex_at file (place + more)))) before.is
+          ∙ append_assoc (lines_before file place) before.rest (flat_map message_line (option_to_list (sysex_at file (place + more))));
     }
 
-report_is : (file : List ℕ) → check_report file ≡ lines_before file (length file) ++ count_line (length (exclusives file))
+report_is : (file : List ℕ) → check_report file ≡ lines_before file (length file) ++ count_line (length (sysex_messages file))
 unfolding check_report
 report_is file = refl
 
@@ -94,10 +94,10 @@ report_begins file place within =
     let part = longer file place (length file - place) in
     let e : place + (length file - place) ≡ length file = omega arith in
     record {
-      rest = part.rest ++ count_line (length (exclusives file));
+      rest = part.rest ++ count_line (length (sysex_messages file));
       is = report_is file
-          ∙ ap (λ (l : List ℕ). l ++ count_line (length (exclusives file))) (ap (lines_before file) (sym e) ∙ part.is)
-          ∙ append_assoc (lines_before file place) part.rest (count_line (length (exclusives file)));
+          ∙ ap (λ (l : List ℕ). l ++ count_line (length (sysex_messages file))) (ap (lines_before file) (sym e) ∙ part.is)
+          ∙ append_assoc (lines_before file place) part.rest (count_line (length (sysex_messages file)));
     }
 
 pub lines_fail : (o now : Option (List ℕ)) (file : List ℕ) (place : ℕ) → place ≤ length file → FailsIn (lines_before file place) o now → FailsIn (check_report file) o now
@@ -105,18 +105,18 @@ lines_fail o now file place within some =
     let b = report_begins file place within in
     subst (λ (t : List ℕ). FailsIn t o now) (sym b.is) (fails_longer (lines_before file place) b.rest o now some)
 
-pub whole_report : (file line : List ℕ) (place count : ℕ) → place ≡ length file → count ≡ length (exclusives_before file place) → line ≡ count_line count
+pub whole_report : (file line : List ℕ) (place count : ℕ) → place ≡ length file → count ≡ length (sysex_before file place) → line ≡ count_line count
     → lines_before file place ++ line ≡ check_report file
 whole_report file line place count ended is same =
-    ap (λ (l : List ℕ). lines_before file place ++ l) (same ∙ ap count_line (is ∙ ap (λ (p : ℕ). length (exclusives_before file p)) ended))
-    ∙ ap (λ (p : ℕ). lines_before file p ++ count_line (length (exclusives file))) ended
+    ap (λ (l : List ℕ). lines_before file place ++ l) (same ∙ ap count_line (is ∙ ap (λ (p : ℕ). length (sysex_before file p)) ended))
+    ∙ ap (λ (p : ℕ). lines_before file p ++ count_line (length (sysex_messages file))) ended
     ∙ sym (report_is file)
 
-pub all_put : (o now : Option (List ℕ)) (text : List ℕ) → Puts o now [] text → now ≡ option_map (said text) o
+pub all_put : (o now : Option (List ℕ)) (text : List ℕ) → Holds o now [] text → now ≡ option_map (said text) o
 all_put o now text puts = puts.was_put ∙ ap (λ (l : List ℕ). option_map (said l) o) (sym (append-nil puts.front) ∙ puts.whole)
 
 -- ---- the line of a message
-pub frame_shown : (e : Exclusive) (long : Bool) (text line : List ℕ) (held : Content) → long ≡ false → long ≡ is_too_long e → text ≡ e.text → IsFrame text held
+pub frame_shown : (e : SysExMessage) (long : Bool) (text line : List ℕ) (held : Content) → long ≡ false → long ≡ is_too_long e → text ≡ e.text → IsFrame text held
     → line ≡ content_line (Some held) → line ≡ message_line e
 frame_shown e long text line held short tells same is shown =
     let e_short : is_too_long e ≡ false = sym tells ∙ short in
@@ -124,7 +124,7 @@ frame_shown e long text line held short tells same is shown =
     let whole : message_content e ≡ Some held = rw (e_short, something) refl in
     shown ∙ ap content_line (sym whole)
 
-pub fault_shown : (e : Exclusive) (long : Bool) (text line : List ℕ) (fault : FrameFault) → long ≡ false → long ≡ is_too_long e → text ≡ e.text → first_fault text ≡ Some fault
+pub fault_shown : (e : SysExMessage) (long : Bool) (text line : List ℕ) (fault : FrameFault) → long ≡ false → long ≡ is_too_long e → text ≡ e.text → first_fault text ≡ Some fault
     → line ≡ content_line None → line ≡ message_line e
 fault_shown e long text line fault short tells same is shown =
     let e_short : is_too_long e ≡ false = sym tells ∙ short in
@@ -132,22 +132,22 @@ fault_shown e long text line fault short tells same is shown =
     let whole : message_content e ≡ None = rw (e_short, nothing) refl in
     shown ∙ ap content_line (sym whole)
 
-pub count_none : (file : List ℕ) → 0 ≡ length (exclusives_before file 0)
-unfolding exclusives_before
+pub count_none : (file : List ℕ) → 0 ≡ length (sysex_before file 0)
+unfolding sysex_before
 count_none file = refl
 
-pub nothing_yet : (o : Option (List ℕ)) (page file : List ℕ) → page ≡ [] → Puts o o page (lines_before file 0)
-nothing_yet o page file is = subst (λ (l : List ℕ). Puts o o l (lines_before file 0)) (sym is) (nothing_put o file)
+pub nothing_yet : (o : Option (List ℕ)) (page file : List ℕ) → page ≡ [] → Holds o o page (lines_before file 0)
+nothing_yet o page file is = subst (λ (l : List ℕ). Holds o o l (lines_before file 0)) (sym is) (nothing_put o file)
 
 -- ---- what an answer says, further on
-pub ok_put : {T E : Type 0} (r : Result T E) (o mid now : Option (List ℕ)) (page text : List ℕ) → Puts o mid page text
-    → OnOk r ((before : Option (List ℕ)) (lines : List ℕ) → Puts before mid page lines → Puts before now [] lines)
+pub ok_put : {T E : Type 0} (r : Result T E) (o mid now : Option (List ℕ)) (page text : List ℕ) → Holds o mid page text
+    → OnOk r ((before : Option (List ℕ)) (lines : List ℕ) → Holds before mid page lines → Holds before now [] lines)
     → OnOk r (now ≡ option_map (said text) o)
 ok_put (Ok x) o mid now page text puts along = all_put o now text (along o text puts)
 ok_put (Err e) o mid now page text puts along = tt
 
-pub err_put : {T E : Type 0} (r : Result T E) (o mid now : Option (List ℕ)) (page text : List ℕ) → Puts o mid page text
-    → OnErr r ((before : Option (List ℕ)) (lines : List ℕ) → Puts before mid page lines → FailsIn lines before now)
+pub err_put : {T E : Type 0} (r : Result T E) (o mid now : Option (List ℕ)) (page text : List ℕ) → Holds o mid page text
+    → OnErr r ((before : Option (List ℕ)) (lines : List ℕ) → Holds before mid page lines → FailsIn lines before now)
     → OnErr r (FailsIn text o now)
 err_put (Ok x) o mid now page text puts along = tt
 err_put (Err e) o mid now page text puts along = along o text puts
@@ -155,9 +155,9 @@ err_put (Err e) o mid now page text puts along = along o text puts
 pub cause_from : {T E : Type 0} (r : Result T E) (first before now : ℕ) → before ≡ first → HasCause before now 0 0 ⊥ r → HasCause first now 0 0 ⊥ r
 cause_from r first before now same cause = subst (λ (b : ℕ). HasCause b now 0 0 ⊥ r) same cause
 
-pub report_put : (o now : Option (List ℕ)) (page file line : List ℕ) (place count : ℕ) → place ≡ length file → count ≡ length (exclusives_before file place) → line ≡ count_line count
-    → Puts o now page (lines_before file place ++ line) → Puts o now page (check_report file)
-report_put o now page file line place count ended is same puts = subst (λ (t : List ℕ). Puts o now page t) (whole_report file line place count ended is same) puts
+pub report_put : (o now : Option (List ℕ)) (page file line : List ℕ) (place count : ℕ) → place ≡ length file → count ≡ length (sysex_before file place) → line ≡ count_line count
+    → Holds o now page (lines_before file place ++ line) → Holds o now page (check_report file)
+report_put o now page file line place count ended is same puts = subst (λ (t : List ℕ). Holds o now page t) (whole_report file line place count ended is same) puts
 
 -- ---- the names of a cartridge
 pub names_none : (voices : List (List ℕ)) → name_lines voices 0 ≡ []

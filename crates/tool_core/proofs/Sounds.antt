@@ -1,4 +1,5 @@
 -- The bytes of a sound file, piece by piece.
+use Rattle.take_files.specs.Playback.{PlaybackView}
 use Rattle.std.proofs.Common.{◌≡◌, ℕ, zero, suc, ◌+◌, ◌*◌, ◌≤◌, ◌-◌, List, [], ◌∷◌, ◌++◌, length, drop, refl, sym, ◌∙◌, ap, subst, arith, append_assoc, append-nil, length-append}
 use Rattle.std.specs.Prelude.{ℤ, Option, Some, None, option_map}
 use Rattle.outside.specs.Files.{Files}
@@ -138,3 +139,13 @@ piece_begun journal blocks from to piece is out o = ap (λ (l : List ℕ). optio
 pub sound_written : (journal : List LoggedData) (blocks b : ℕ) → b ≡ blocks → (out : List ℕ) (o : Option Files)
     → option_map (with_out out (begun journal blocks b)) o ≡ option_map (with_out out (wav journal blocks)) o
 sound_written journal blocks b is out o = ap (λ (l : List ℕ). option_map (with_out out l) o) (begun_all journal blocks b is)
+
+-- ---- what a playback renders next
+pub chunk_bytes : (p : PlaybackView) (journal : List LoggedData) (from count : ℕ) (piece items : List ℕ) → p.journal ≡ journal → p.block ≡ from
+    → wav_blocks p.journal (p.block + count) ≡ wav_blocks p.journal p.block ++ items → piece ≡ items
+    → wav_blocks journal (from + count) ≡ wav_blocks journal from ++ piece
+chunk_bytes p journal from count piece items same at is whole =
+    sym (ap (λ (j : List LoggedData). wav_blocks j (p.block + count)) same ∙ ap (λ (n : ℕ). wav_blocks journal (n + count)) at)
+    ∙ is
+    ∙ ap (λ (j : List LoggedData). wav_blocks j p.block ++ items) same ∙ ap (λ (n : ℕ). wav_blocks journal n ++ items) at
+    ∙ ap (λ (l : List ℕ). wav_blocks journal from ++ l) (sym whole)

@@ -8,7 +8,7 @@ use Rattle.std.proofs.Math.Seq.{get_or-append_seam}
 use Rattle.midi_stream.specs.declared.message.MidiMessage.{MidiMessage}
 use Rattle.midi_stream.specs.Messages.{messages, last_sysex}
 use Rattle.midi_stream.specs.Standing.{Answers}
-use Rattle.tool_core.specs.Exclusives.{Exclusive, message_at, start_before, placed, is_exclusive, is_too_long, exclusive_at, exclusives_before}
+use Rattle.tool_core.specs.SysEx.{SysExMessage, message_at, start_before, placed, is_sysex, is_too_long, sysex_at, sysex_before}
 
 pub take_next : (file : List ℕ) (place byte : ℕ) → place < length file → get_or file place 0 ≡ byte → take (place + 1) file ≡ take place file ++ byte ∷ []
 take_next file place byte below is = (take_at_read file place 0 below).1 ∙ ap (λ (b : ℕ). take place file ++ b ∷ []) is
@@ -27,25 +27,25 @@ pub start_next : (file : List ℕ) (place : ℕ) → start_before file (place + 
 unfolding start_before
 start_next file place = rw add-one refl
 
-pub exclusives_next : (file : List ℕ) (place : ℕ) → exclusives_before file (place + 1) ≡ exclusives_before file place ++ option_to_list (exclusive_at file place)
-unfolding exclusives_before
-exclusives_next file place = rw add-one refl
+pub sysex_next : (file : List ℕ) (place : ℕ) → sysex_before file (place + 1) ≡ sysex_before file place ++ option_to_list (sysex_at file place)
+unfolding sysex_before
+sysex_next file place = rw add-one refl
 
-chosen_text : (t : Bool) (place : ℕ) (text : Option (List ℕ)) (e : Exclusive)
+chosen_text : (t : Bool) (place : ℕ) (text : Option (List ℕ)) (e : SysExMessage)
     → (if t then Rattle.std.specs.Prelude.option_map (λ bytes. record { place = place; text = bytes }) text else None) ≡ Some e → text ≡ Some e.text
 chosen_text true place None e h = absurd (cc)
-chosen_text true place (Some bytes) e h = let is : record { place = place; text = bytes } ≡ e = cc in ap (λ (x : Exclusive). Some x.text) is
+chosen_text true place (Some bytes) e h = let is : record { place = place; text = bytes } ≡ e = cc in ap (λ (x : SysExMessage). Some x.text) is
 chosen_text false place text e h = absurd (cc)
 
-pub placed_text : (m : Option MidiMessage) (place : ℕ) (text : Option (List ℕ)) (e : Exclusive) → placed m place text ≡ Some e → text ≡ Some e.text
+pub placed_text : (m : Option MidiMessage) (place : ℕ) (text : Option (List ℕ)) (e : SysExMessage) → placed m place text ≡ Some e → text ≡ Some e.text
 placed_text None place text e h = absurd (cc)
-placed_text (Some m) place text e h = chosen_text (is_exclusive m) place text e h
+placed_text (Some m) place text e h = chosen_text (is_sysex m) place text e h
 
-pub exclusive_text : (file : List ℕ) (place : ℕ) (e : Exclusive) → exclusive_at file place ≡ Some e → last_sysex (take (place + 1) file) ≡ Some e.text
-unfolding exclusive_at
+pub exclusive_text : (file : List ℕ) (place : ℕ) (e : SysExMessage) → sysex_at file place ≡ Some e → last_sysex (take (place + 1) file) ≡ Some e.text
+unfolding sysex_at
 exclusive_text file place e h = placed_text (message_at file place) (start_before file place) (last_sysex (take (place + 1) file)) e h
 
-pub kept_text : (text : Option (List ℕ)) (e : Exclusive) (kept : List ℕ) → text ≡ Some e.text → is_too_long e ≡ false
+pub kept_text : (text : Option (List ℕ)) (e : SysExMessage) (kept : List ℕ) → text ≡ Some e.text → is_too_long e ≡ false
     → IfSome text (λ bytes. length bytes ≤ 5000 → kept ≡ bytes) → kept ≡ e.text
 kept_text text e kept is short h =
     let at : length e.text ≤ 5000 → kept ≡ e.text = rw is at h in

@@ -1,7 +1,7 @@
 -- Two files compared byte by byte.
 use Rattle.std.specs.Prelude.{ℕ, ◌≡◌, ◌≢◌, ◌<◌, ◌≤◌, List, ◌++◌, take, length, slice_get, Option, Some, None}
-use Rattle.tool_core.specs.declared.comparing.Step.{Step}
-use Rattle.tool_core.specs.declared.comparing.Step.TheVariants.{Same, Differs}
+use Rattle.tool_core.specs.declared.comparison.Step.{Step}
+use Rattle.tool_core.specs.declared.comparison.Step.TheVariants.{Same, Differs}
 
 -- the first place at which two files differ: they have the same bytes before it, and another byte at it, or one of them ends there
 pub record DiffersAt (file other : List ℕ) (place : ℕ) : Type 0 where
@@ -23,7 +23,7 @@ abbrev pub IsWithin : Step → ℕ → Type 0
 IsWithin (Same count) most = (0 < count) × (count ≤ most)
 IsWithin (Differs place) most = place < most
 
--- some bytes at the front are the same, or they differ
+-- the first bytes are the same, or they differ
 abbrev pub IsStep : Step → List ℕ → List ℕ → Type 0
 IsStep (Same count) file front = take count file ≡ take count front
 IsStep (Differs place) file front = DiffersAt file front place

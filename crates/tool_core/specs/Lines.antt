@@ -10,7 +10,7 @@ use Rattle.tool_core.specs.declared.refusal.Refusal.{Refusal}
 use Rattle.take_files.specs.declared.read.OrderKind.{OrderKind}
 use Rattle.take_files.specs.declared.read.OrderKind.TheVariants.{Line, Block, Script, Sequence, Many}
 use Rattle.tool_core.specs.declared.refusal.Refusal.TheVariants.{TooLong, Fault, Cut, NoVoice, NoCartridge, Order}
-use Rattle.tool_core.specs.Exclusives.{Exclusive, exclusives, exclusives_before}
+use Rattle.tool_core.specs.SysEx.{SysExMessage, sysex_messages, sysex_before}
 use Rattle.tool_core.specs.Refusals.{clamped_voice, message_content}
 
 unfoldable pub usage : List ℕ
@@ -26,7 +26,7 @@ same_line = codes "same" ++ 10 ∷ []
 unfoldable pub differs_line : ℕ → List ℕ
 differs_line place = codes "differs at " ++ (decimal place ++ 10 ∷ [])
 
--- the name of the file of a drawn script
+-- the name of the file of a generated script
 unfoldable pub script_name : ℕ → List ℕ
 script_name script = codes "gen-" ++ (decimal script ++ codes ".txt")
 
@@ -86,8 +86,8 @@ content_line (Some (ParamChange device number value)) = codes "param " ++ (decim
 content_line (Some (OtherChange device group number)) = codes "other" ++ 10 ∷ []
 content_line (Some (DumpRequest device)) = codes "request" ++ 10 ∷ []
 
-abbrev pub message_line : Exclusive → List ℕ
-message_line exclusive = content_line (message_content exclusive)
+abbrev pub message_line : SysExMessage → List ℕ
+message_line sysex = content_line (message_content sysex)
 
 -- the last line of a check
 unfoldable pub count_line : ℕ → List ℕ
@@ -95,11 +95,11 @@ count_line count = codes "messages " ++ (decimal count ++ 10 ∷ [])
 
 -- the lines of the messages that end before a place
 unfoldable pub lines_before : List ℕ → ℕ → List ℕ
-lines_before file place = flat_map message_line (exclusives_before file place)
+lines_before file place = flat_map message_line (sysex_before file place)
 
 -- a line for each message of a file, and their number
 unfoldable pub check_report : List ℕ → List ℕ
-check_report file = lines_before file (length file) ++ count_line (length (exclusives file))
+check_report file = lines_before file (length file) ++ count_line (length (sysex_messages file))
 
 -- SLOT NAME
 unfoldable pub name_line : ℕ → List ℕ → List ℕ

@@ -1,14 +1,9 @@
 -- How an order is judged, and the sound file that is compared with its sound.
-use Rattle.std.specs.Prelude.{ℕ, ◌≡◌, ◌≢◌, ◌⊎◌, ◌<◌, ◌≤◌, List, length, Option, Some, None, IfSome, nat_lt, if◌then◌else◌}
-use Rattle.std.specs.FinMap.{get}
-use Rattle.outside.specs.Files.{Files, Lacks}
-use Rattle.outside.specs.Faults.{Rose}
+use Rattle.std.specs.Prelude.{ℕ, ◌≡◌, ◌≢◌, ◌<◌, ◌≤◌, List, length, Option, Some, None, nat_lt, if◌then◌else◌}
 use Rattle.take_files.specs.declared.read.OrderKind.TheVariants.{Many}
 use Rattle.take_files.specs.Orders.{IsOrder, IsRefused, OrderData}
 use Rattle.tool_core.specs.declared.refusal.Refusal.{Refusal}
 use Rattle.tool_core.specs.declared.refusal.Refusal.TheVariants.{TooLong, Fault, Cut, NoVoice, NoCartridge, Order}
-use Rattle.tool_core.specs.declared.trouble.Trouble.{Trouble}
-use Rattle.tool_core.specs.declared.trouble.Trouble.TheVariants as trouble
 use Rattle.tool_core.specs.Verdicts.{Verdict, Lacking, TooLarge, TooMany, Refused, Good}
 
 -- the most bytes of an order, and of a sound file
@@ -48,23 +43,3 @@ IsOrderVerdict (Some file) it = JudgesOrder file it
 unfoldable pub sound_verdict : Option (List ℕ) → Verdict
 sound_verdict None = Lacking
 sound_verdict (Some file) = if nat_lt sound_limit (length file) then TooLarge else Good
-
--- why bytes are no order
-abbrev pub IsOrderTrouble : Trouble → List ℕ → Type 0
-IsOrderTrouble trouble.Unread file = ⊥
-IsOrderTrouble trouble.TooLarge file = ⊥
-IsOrderTrouble trouble.TooMany file = IsNoOrder file × ((line : ℕ) × IsRefused file line Many)
-IsOrderTrouble (trouble.Refused why) file = IsNoOrder file × IsRefusedFor why file
-IsOrderTrouble trouble.Memory file = Unit {0}
-
--- where the files are told, this is the verdict on the named order
-abbrev pub IsOrderJudged : Option Files → List ℕ → Verdict → Type 0
-IsOrderJudged files name it = IfSome files (λ told. IsOrderVerdict (get told name) it)
-
--- why an order doesn't serve, with the count of reading faults before and after
-abbrev pub HasOrderReason : Trouble → Option Files → List ℕ → ℕ → ℕ → Type 0
-HasOrderReason trouble.Unread files name before now = Rose before now ⊎ Lacks files name
-HasOrderReason trouble.TooLarge files name before now = (now ≡ before) × IsOrderJudged files name TooLarge
-HasOrderReason trouble.TooMany files name before now = (now ≡ before) × IsOrderJudged files name TooMany
-HasOrderReason (trouble.Refused why) files name before now = (now ≡ before) × IsOrderJudged files name (Refused why)
-HasOrderReason trouble.Memory files name before now = now ≡ before

@@ -3,11 +3,11 @@ use Rattle.std.specs.Prelude.{◌≡◌, ◌⊎◌, ℕ, List, ◌++◌, Option,
 use Rattle.outside.specs.Files.{said, SaidSome}
 
 -- of the text so far some was put, and the rest waits on the page
-pub record Puts (before now : Option (List ℕ)) (page text : List ℕ) : Type 0 where
+pub record Holds (before now : Option (List ℕ)) (page text : List ℕ) : Type 0 where
   pub front : List ℕ
   pub was_put : now ≡ option_map (said front) before
   pub whole : front ++ page ≡ text
 
--- the output failed: of the text some was put, from the front
+-- the output failed: a prefix of the text was put
 abbrev pub FailsIn : List ℕ → Option (List ℕ) → Option (List ℕ) → Type 0
 FailsIn text before now = (now ≡ before) ⊎ SaidSome text before now

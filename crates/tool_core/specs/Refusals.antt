@@ -12,18 +12,18 @@ use Rattle.sysex_frame.specs.declared.frame.FrameFault.{FrameFault}
 use Rattle.sysex_frame.specs.declared.frame.FrameFault.TheVariants.{NotFramed, NotYamaha, DataByte, Short, UnknownSubstatus, UnknownFormat, CountBytes, Length, Checksum, ParamValue}
 use Rattle.tool_core.specs.declared.refusal.Refusal.{Refusal}
 use Rattle.tool_core.specs.declared.refusal.Refusal.TheVariants.{TooLong, Fault, Cut, NoVoice, NoCartridge}
-use Rattle.tool_core.specs.Exclusives.{Exclusive, exclusives, is_too_long}
+use Rattle.tool_core.specs.SysEx.{SysExMessage, sysex_messages, is_too_long}
 
 -- what a message holds, where it has no fault
 unfoldable pub content : List ℕ → Option Content
 content text = if is_none (first_fault text) then Some (reading text) else None
 
 -- the first answer that some messages give
-abbrev pub first_some : {X : Type 0} → (Exclusive → Option X) → List Exclusive → Option X
+abbrev pub first_some : {X : Type 0} → (SysExMessage → Option X) → List SysExMessage → Option X
 first_some f [] = None
-first_some f (exclusive ∷ later) = option_or (f exclusive) (first_some f later)
+first_some f (sysex ∷ later) = option_or (f sysex) (first_some f later)
 
--- a message of another maker, or of a kind that the DX7 doesn't know: it is passed over
+-- a message with another manufacturer ID, or of a kind that the DX7 doesn't know: it is passed over
 abbrev pub is_foreign : FrameFault → Bool
 is_foreign NotFramed = false
 is_foreign NotYamaha = true
@@ -41,13 +41,13 @@ fault_at place None = None
 fault_at place (Some fault) = if is_foreign fault then None else Some (Fault place fault)
 
 -- a message that is too long is refused everywhere
-abbrev pub long_refusal : Exclusive → Option Refusal
-long_refusal exclusive = if is_too_long exclusive then Some (TooLong exclusive.place) else None
+abbrev pub long_refusal : SysExMessage → Option Refusal
+long_refusal sysex = if is_too_long sysex then Some (TooLong sysex.place) else None
 
 -- one with another fault where all messages are looked at
-abbrev pub message_refusal : Exclusive → Option Refusal
-message_refusal exclusive =
-    if is_too_long exclusive then Some (TooLong exclusive.place) else fault_at exclusive.place (first_fault exclusive.text)
+abbrev pub message_refusal : SysExMessage → Option Refusal
+message_refusal sysex =
+    if is_too_long sysex then Some (TooLong sysex.place) else fault_at sysex.place (first_fault sysex.text)
 
 -- the bytes of a voice that a message holds
 abbrev pub voice_bytes : Content → Option (List ℕ)
@@ -69,21 +69,21 @@ cartridge_bytes (DumpRequest device) = None
 unfoldable pub clamped_voice : List ℕ → List ℕ
 clamped_voice bytes = map (λ number. min (slice_index bytes number % 128) (greatest_value number)) (range_with_len 0 155)
 
-abbrev pub message_content : Exclusive → Option Content
-message_content exclusive = if is_too_long exclusive then None else content exclusive.text
+abbrev pub message_content : SysExMessage → Option Content
+message_content sysex = if is_too_long sysex then None else content sysex.text
 
-abbrev pub message_voice : Exclusive → Option (List ℕ)
-message_voice exclusive = option_map clamped_voice (option_and_then voice_bytes (message_content exclusive))
+abbrev pub message_voice : SysExMessage → Option (List ℕ)
+message_voice sysex = option_map clamped_voice (option_and_then voice_bytes (message_content sysex))
 
-abbrev pub message_cartridge : Exclusive → Option (List (List ℕ))
-message_cartridge exclusive = option_map voices_of (option_and_then cartridge_bytes (message_content exclusive))
+abbrev pub message_cartridge : SysExMessage → Option (List (List ℕ))
+message_cartridge sysex = option_map voices_of (option_and_then cartridge_bytes (message_content sysex))
 
 -- the first voice of a file, and its first cartridge
 unfoldable pub voice_in : List ℕ → Option (List ℕ)
-voice_in file = first_some message_voice (exclusives file)
+voice_in file = first_some message_voice (sysex_messages file)
 
 unfoldable pub cartridge_in : List ℕ → Option (List (List ℕ))
-cartridge_in file = first_some message_cartridge (exclusives file)
+cartridge_in file = first_some message_cartridge (sysex_messages file)
 
 -- what a command wants of a file: all its messages, a voice or a cartridge
 pub data Wanted : Type 0 where
@@ -91,7 +91,7 @@ pub data Wanted : Type 0 where
   OneVoice : Wanted
   OneCartridge : Wanted
 
-abbrev pub refusal_in : Wanted → List Exclusive → Option Refusal
+abbrev pub refusal_in : Wanted → List SysExMessage → Option Refusal
 refusal_in AllMessages messages = first_some message_refusal messages
 refusal_in OneVoice messages = first_some long_refusal messages
 refusal_in OneCartridge messages = first_some long_refusal messages
@@ -106,4 +106,4 @@ missing_refusal OneCartridge file = if is_none (cartridge_in file) then Some NoC
 
 -- why a file is refused: its first bad message; or it ends within a message; or it lacks what is wanted
 unfoldable pub refusal : Wanted → List ℕ → Option Refusal
-refusal wanted file = option_or (refusal_in wanted (exclusives file)) (option_or (cut_refusal file) (missing_refusal wanted file))
+refusal wanted file = option_or (refusal_in wanted (sysex_messages file)) (option_or (cut_refusal file) (missing_refusal wanted file))

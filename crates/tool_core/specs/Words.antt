@@ -7,26 +7,26 @@ use Rattle.plain_text.specs.Number.{number}
 
 -- what is asked for: `check FILE`, `list FILE`, `pick FILE SLOT OUT`, `pack OUT FILE...`, `replay ORDER OUT`, `verify ORDER WAV`,
 -- `gen SEED SCRIPTS COMMANDS` or `bench SEED BLOCKS`
-pub data Asked : Type 0 where
-  Check : List ℕ → Asked
-  Names : List ℕ → Asked
-  Pick : List ℕ → ℕ → List ℕ → Asked
-  Pack : List ℕ → List (List ℕ) → Asked
-  Replay : List ℕ → List ℕ → Asked
-  Verify : List ℕ → List ℕ → Asked
-  Gen : ℕ → ℕ → ℕ → Asked
-  Bench : ℕ → ℕ → Asked
+pub data RequestData : Type 0 where
+  Check : List ℕ → RequestData
+  Names : List ℕ → RequestData
+  Pick : List ℕ → ℕ → List ℕ → RequestData
+  Pack : List ℕ → List (List ℕ) → RequestData
+  Replay : List ℕ → List ℕ → RequestData
+  Verify : List ℕ → List ℕ → RequestData
+  Gen : ℕ → ℕ → ℕ → RequestData
+  Bench : ℕ → ℕ → RequestData
 
 -- the same of a value of the program
-abbrev pub asked : Request → Asked
-asked (request.Check file) = Check file.now
-asked (request.Names file) = Names file.now
-asked (request.Pick file slot out) = Pick file.now slot out.now
-asked (request.Pack out files) = Pack out.now (map string_bytes files.now)
-asked (request.Replay order out) = Replay order.now out.now
-asked (request.Verify order sound) = Verify order.now sound.now
-asked (request.Gen seed scripts commands) = Gen seed scripts commands
-asked (request.Bench seed blocks) = Bench seed blocks
+abbrev pub request_data : Request → RequestData
+request_data (request.Check file) = Check file.now
+request_data (request.Names file) = Names file.now
+request_data (request.Pick file slot out) = Pick file.now slot out.now
+request_data (request.Pack out files) = Pack out.now (map string_bytes files.now)
+request_data (request.Replay order out) = Replay order.now out.now
+request_data (request.Verify order sound) = Verify order.now sound.now
+request_data (request.Gen seed scripts commands) = Gen seed scripts commands
+request_data (request.Bench seed blocks) = Bench seed blocks
 
 -- the commands
 unfoldable pub is_check : List ℕ → Bool
@@ -71,27 +71,27 @@ file_of_words (file ∷ []) = if is_name file then Some file else None
 file_of_words (file ∷ next ∷ later) = None
 
 -- FILE SLOT OUT
-abbrev pub pick_of : List ℕ → List ℕ → List ℕ → Option Asked
+abbrev pub pick_of : List ℕ → List ℕ → List ℕ → Option RequestData
 pick_of file slot out =
     if is_name out && is_read out file then option_map (λ n. Pick file n out) (number 0 31 slot) else None
 
-abbrev pub pick_of_words : List (List ℕ) → Option Asked
+abbrev pub pick_of_words : List (List ℕ) → Option RequestData
 pick_of_words (file ∷ slot ∷ out ∷ []) = pick_of file slot out
 pick_of_words words = None
 
 -- OUT FILE...
-abbrev pub pack_of_words : List (List ℕ) → Option Asked
+abbrev pub pack_of_words : List (List ℕ) → Option RequestData
 pack_of_words [] = None
 pack_of_words (out ∷ files) =
     if is_name out && (nat_lt 0 (length files) && (nat_le (length files) 32 && are_read out files)) then Some (Pack out files) else None
 
 -- ORDER OUT
-abbrev pub replay_of_words : List (List ℕ) → Option Asked
+abbrev pub replay_of_words : List (List ℕ) → Option RequestData
 replay_of_words (order ∷ out ∷ []) = if is_name out && is_read out order then Some (Replay order out) else None
 replay_of_words words = None
 
 -- ORDER WAV; the two may be one file
-abbrev pub verify_of_words : List (List ℕ) → Option Asked
+abbrev pub verify_of_words : List (List ℕ) → Option RequestData
 verify_of_words (order ∷ sound ∷ []) = if is_name order && is_name sound then Some (Verify order sound) else None
 verify_of_words words = None
 
@@ -100,49 +100,49 @@ abbrev pub seed_of : List ℕ → Option ℕ
 seed_of text = number 0 (2 ^ 64 - 1) text
 
 -- SEED SCRIPTS COMMANDS; the commands of all scripts are at most 1,000,000
-abbrev pub gen_of : Option ℕ → Option ℕ → Option ℕ → Option Asked
+abbrev pub gen_of : Option ℕ → Option ℕ → Option ℕ → Option RequestData
 gen_of None scripts commands = None
 gen_of (Some seed) None commands = None
 gen_of (Some seed) (Some scripts) None = None
 gen_of (Some seed) (Some scripts) (Some commands) = if nat_le (scripts * commands) 1000000 then Some (Gen seed scripts commands) else None
 
-abbrev pub gen_of_words : List (List ℕ) → Option Asked
+abbrev pub gen_of_words : List (List ℕ) → Option RequestData
 gen_of_words (seed ∷ scripts ∷ commands ∷ []) = gen_of (seed_of seed) (number 1 256 scripts) (number 0 100000 commands)
 gen_of_words words = None
 
 -- SEED BLOCKS
-abbrev pub bench_of : Option ℕ → Option ℕ → Option Asked
+abbrev pub bench_of : Option ℕ → Option ℕ → Option RequestData
 bench_of None blocks = None
 bench_of (Some seed) None = None
 bench_of (Some seed) (Some blocks) = Some (Bench seed blocks)
 
-abbrev pub bench_of_words : List (List ℕ) → Option Asked
+abbrev pub bench_of_words : List (List ℕ) → Option RequestData
 bench_of_words (seed ∷ blocks ∷ []) = bench_of (seed_of seed) (number 1 100000 blocks)
 bench_of_words words = None
 
--- a command that draws scripts, and its words
-abbrev pub asked_of_drawn : List ℕ → List (List ℕ) → Option Asked
-asked_of_drawn command words =
+-- a command that generates scripts, and its words
+abbrev pub request_of_generated : List ℕ → List (List ℕ) → Option RequestData
+request_of_generated command words =
     if is_gen command then gen_of_words words else (if is_bench command then bench_of_words words else None)
 
--- a command that reads an order, or draws scripts, and its words
-abbrev pub asked_of_order : List ℕ → List (List ℕ) → Option Asked
-asked_of_order command words =
-    if is_replay command then replay_of_words words else (if is_verify command then verify_of_words words else asked_of_drawn command words)
+-- a command that reads an order, or generates scripts, and its words
+abbrev pub request_of_order : List ℕ → List (List ℕ) → Option RequestData
+request_of_order command words =
+    if is_replay command then replay_of_words words else (if is_verify command then verify_of_words words else request_of_generated command words)
 
 -- a command and its words
-abbrev pub asked_of : List ℕ → List (List ℕ) → Option Asked
-asked_of command words =
+abbrev pub request_of : List ℕ → List (List ℕ) → Option RequestData
+request_of command words =
     if is_check command then option_map (λ file. Check file) (file_of_words words)
     else (if is_list command then option_map (λ file. Names file) (file_of_words words)
     else (if is_pick command then pick_of_words words
-    else (if is_pack command then pack_of_words words else asked_of_order command words)))
+    else (if is_pack command then pack_of_words words else request_of_order command words)))
 
-abbrev pub asked_by : List (List ℕ) → Option Asked
-asked_by [] = None
-asked_by (command ∷ words) = asked_of command words
+abbrev pub requested_by : List (List ℕ) → Option RequestData
+requested_by [] = None
+requested_by (command ∷ words) = request_of command words
 
--- a slot is at most 31, 1 to 32 files are packed, 1 to 256 scripts of at most 100,000 commands are drawn, and at most 100,000 blocks are played
+-- a slot is at most 31, 1 to 32 files are packed, 1 to 256 scripts of at most 100,000 commands are generated, and at most 100,000 blocks are played
 abbrev pub IsInRange : Request → Type 0
 IsInRange (request.Check file) = Unit {0}
 IsInRange (request.Names file) = Unit {0}

@@ -1,37 +1,35 @@
-//! What the program `tool` does: it looks at files of MIDI bytes with DX7 voices, and writes such files; it plays the order of a run
-//! again, and compares a sound file with an order; it writes scripts that are drawn from a number, and plays them.
+//! What the program `tool` does: it checks files of MIDI bytes with DX7 voices, and writes such files; it plays the order of a run
+//! again, and compares a sound file with an order; it writes scripts that are generated from a number, and plays them.
 #![tactic(auto)]
 
-mod benching;
-mod commands;
-mod comparing;
-mod ending;
-mod generating;
+mod bench;
+mod check_report;
+mod comparison;
+mod failure;
+mod generate;
+mod librarian;
 mod line;
-mod listing;
-mod looking;
+mod list_report;
+mod midi_bytes;
+mod never_failing;
 mod order;
-mod packing;
+mod output_file;
+mod pack;
 mod page;
-mod pass;
-mod printing;
-mod reading;
 mod refusal;
-mod replaying;
-mod saying;
+mod replay;
+mod scan;
 mod seed;
-mod surely;
-mod survey;
 mod top;
-mod trouble;
-mod verifying;
+mod verify;
 mod words;
-mod writing;
 
+pub use never_failing::tool_never_failing;
 pub use refusal::Refusal;
-pub use surely::tool_surely;
 pub use top::tool_main;
 pub use words::Request;
 
+#[cfg(test)]
+mod one_byte;
 #[cfg(test)]
 mod tests;

@@ -16,7 +16,7 @@ use voice_record::Voice;
 /// A line of text. The longest is that of a fault.
 pub type Line = ArrayVec<u8, 128>;
 
-/// Puts a text behind a line.
+/// Adds a text to a line.
 pub fn push_text(line: &mut Line, text: &[u8])
     requires { length line.old.items + length text.now ≤ 128 }
     ensures { line.new.items ≡ line.old.items ++ text.now }
@@ -24,7 +24,7 @@ pub fn push_text(line: &mut Line, text: &[u8])
     let _ = line.try_extend_from_slice(text);
 }
 
-/// Puts the decimal digits of a number behind a line.
+/// Adds the decimal digits of a number to a line.
 pub fn push_number(line: &mut Line, number: u32)
     requires { length line.old.items ≤ 88 }
     ensures text { line.new.items ≡ line.old.items ++ decimal number }
@@ -34,7 +34,7 @@ pub fn push_number(line: &mut Line, number: u32)
     push_text(line, buffer.format(number).as_bytes());
 }
 
-/// Puts the decimal digits of a number that may be negative behind a line.
+/// Adds the decimal digits of a number that may be negative to a line.
 fn push_signed(line: &mut Line, number: i64)
     requires { length line.old.items ≤ 88 }
     ensures text { line.new.items ≡ line.old.items ++ signed_decimal number }
@@ -54,7 +54,7 @@ pub fn line_of(text: &[u8]) -> Line
     line
 }
 
-/// Puts one number with a word before it behind a line.
+/// Adds one number with a word before it to a line.
 fn push_one(line: &mut Line, before: &[u8], number: u32)
     requires { length line.old.items + length before.now ≤ 88 }
     ensures text { line.new.items ≡ line.old.items ++ (before.now ++ decimal number) }
@@ -64,7 +64,7 @@ fn push_one(line: &mut Line, before: &[u8], number: u32)
     push_number(line, number);
 }
 
-/// Puts two numbers with words before and between them behind a line.
+/// Adds two numbers with words before and between them to a line.
 fn push_two(line: &mut Line, before: &[u8], first: u32, between: &[u8], second: u32)
     requires { length line.old.items + length before.now + length between.now ≤ 78 }
     ensures text { line.new.items ≡ line.old.items ++ (before.now ++ (decimal first ++ (between.now ++ decimal second))) }
@@ -224,7 +224,7 @@ fn shown_byte(byte: u8) -> u8
     }
 }
 
-/// Puts the name of a voice behind a line.
+/// Adds the name of a voice to a line.
 pub fn push_name(line: &mut Line, voice: &Voice)
     requires { length line.old.items ≤ 100 }
     ensures text { line.new.items ≡ line.old.items ++ shown_name voice.now }

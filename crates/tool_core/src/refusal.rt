@@ -6,9 +6,9 @@ use take_files::OrderKind;
 /// Why a file is refused. A place is that of the `F0` of a message, counted over all bytes from 0.
 #[derive(Clone, Copy, Debug, PartialEq, Eq)]
 pub enum Refusal {
-    /// A system exclusive message has more than 5000 bytes.
+    /// A SysEx message has more than 5000 bytes.
     TooLong { place: u32 },
-    /// A system exclusive message of the DX7 has a fault.
+    /// A SysEx message of the DX7 has a fault.
     Fault { place: u32, fault: FrameFault },
     /// The file ends within a message.
     Cut,

@@ -1,4 +1,5 @@
-use crate::tool_main;
+use crate::one_byte::OneByteShelf;
+use crate::{tool_main, tool_never_failing};
 use cartridge::Cartridge;
 use generator::script_text;
 use outside::{MemOut, MemShelf, SureShelf};
@@ -449,46 +450,171 @@ fn every_command_is_replayed(rt: HostRuntime) -> Result<(), Fail> {
     Ok(())
 }
 
+/// The status of a command on a shelf with these files, whose call number `fail` fails, and what it wrote to `w`.
+fn failing(
+    alloc: Global,
+    words: &[&str],
+    files: &[(&str, &[u8])],
+    fail: u64,
+    out: &mut MemOut,
+) -> Result<(u8, Option<Vec<u8>>), AllocError> {
+    let words = words_of(alloc, words)?;
+    let mut shelf = MemShelf::new(alloc, &[fail])?;
+    for (name, bytes) in files {
+        shelf.put_file(alloc, name, bytes)?;
+    }
+    let status = tool_main(alloc, &words, &mut shelf, out);
+    let written = match shelf.file("w") {
+        Some(bytes) => Some(bytes.to_vec(alloc)?),
+        None => None,
+    };
+    Ok((status, written))
+}
+
 #[test]
-fn failures_of_replay_and_verify_are_told(rt: HostRuntime) -> Result<(), Fail> {
+fn a_failing_call_of_replay_is_told(rt: HostRuntime) -> Result<(), Fail> {
     let alloc = rt.alloc();
-    let replay = words_of(alloc, &["replay", "f", "w"])?;
-    let verify = words_of(alloc, &["verify", "f", "w"])?;
-    let cases: [(&[u64], u8, &[u8], usize); 5] = [
-        (&[], 0, b"ok\n", 12844),
-        (&[1], 2, b"cannot read f\n", 0),
-        (&[2], 3, b"cannot write w\n", 0),
-        (&[3], 3, b"cannot write w\n", 0),
-        (&[4], 3, b"cannot write w\n", 44),
-    ];
-    for (fails, status, printed, size) in cases {
-        let mut shelf = MemShelf::new(alloc, fails)?;
-        shelf.put_file(alloc, "f", NOTE)?;
+    let whole = replayed(alloc, NOTE)?;
+    assert_eq!(rt; whole.len(), 12844);
+    // Two reads of the order, the create, the header and two chunks of 64 and 36 blocks.
+    for fail in 0..7u64 {
         let mut out = MemOut::new(alloc, &[])?;
-        assert_eq!(rt; tool_main(alloc, &replay, &mut shelf, &mut out), status);
-        assert_eq!(rt; out.bytes(), printed);
-        assert_eq!(rt; shelf.file("w").map_or(0, |file| file.len()), size);
+        let (status, written) = failing(alloc, &["replay", "f", "w"], &[("f", NOTE)], fail, &mut out)?;
+        let (wanted, line, size): (u8, &[u8], Option<usize>) = match fail {
+            0 | 1 => (2, b"cannot read f\n", None),
+            2 => (3, b"cannot write w\n", None),
+            3 => (3, b"cannot write w\n", Some(0)),
+            4 => (3, b"cannot write w\n", Some(44)),
+            5 => (3, b"cannot write w\n", Some(8236)),
+            _ => (0, b"ok\n", Some(12844)),
+        };
+        assert_eq!(rt; status, wanted);
+        assert_eq!(rt; out.bytes(), line);
+        assert_eq!(rt; written.as_ref().map(|bytes| bytes.len()), size);
+        if let Some(bytes) = written {
+            assert!(rt; whole.as_slice().starts_with(bytes.as_slice()));
+        }
     }
-    let sound = replayed(alloc, NOTE)?;
-    for (fail, status, printed) in [
-        (2u64, 2u8, b"cannot read w\n".as_slice()),
-        (9, 0, b"same\n"),
-    ] {
-        let mut shelf = MemShelf::new(alloc, &[fail])?;
-        shelf.put_file(alloc, "f", NOTE)?;
-        shelf.put_file(alloc, "w", sound.as_slice())?;
-        let mut out = MemOut::new(alloc, &[])?;
-        assert_eq!(rt; tool_main(alloc, &verify, &mut shelf, &mut out), status);
-        assert_eq!(rt; out.bytes(), printed);
-    }
-    let mut out = MemOut::new(alloc, &[0])?;
-    assert_eq!(rt; verified(alloc, NOTE, sound.as_slice(), &mut out)?, 3);
-    assert_eq!(rt; out.bytes(), b"".as_slice());
+    let mut silent = MemOut::new(alloc, &[0])?;
+    let (status, written) = failing(alloc, &["replay", "f", "w"], &[("f", NOTE)], 9, &mut silent)?;
+    assert_eq!(rt; status, 3);
+    assert!(rt; silent.bytes().is_empty());
+    assert_eq!(rt; written.map_or(0, |bytes| bytes.len()), 12844);
     Ok(())
 }
 
 #[test]
-fn scripts_are_drawn_and_played(rt: HostRuntime) -> Result<(), Fail> {
+fn a_failing_call_of_verify_is_told(rt: HostRuntime) -> Result<(), Fail> {
+    let alloc = rt.alloc();
+    let sound = replayed(alloc, NOTE)?;
+    let files: [(&str, &[u8]); 2] = [("f", NOTE), ("w", sound.as_slice())];
+    // Two reads of the order; of the sound file one for the header, one for its blocks, one at its end.
+    for fail in 0..6u64 {
+        let mut out = MemOut::new(alloc, &[])?;
+        let (status, _) = failing(alloc, &["verify", "f", "w"], &files, fail, &mut out)?;
+        let (wanted, line): (u8, &[u8]) = match fail {
+            0 | 1 => (2, b"cannot read f\n"),
+            2 | 3 | 4 => (2, b"cannot read w\n"),
+            _ => (0, b"same\n"),
+        };
+        assert_eq!(rt; status, wanted);
+        assert_eq!(rt; out.bytes(), line);
+    }
+    // A file that differs is read to its end first.
+    let other = changed(alloc, sound.as_slice(), 50)?;
+    let differing: [(&str, &[u8]); 2] = [("f", NOTE), ("w", other.as_slice())];
+    for (fail, wanted) in [(4u64, 2u8), (9, 7)] {
+        let mut out = MemOut::new(alloc, &[])?;
+        let (status, _) = failing(alloc, &["verify", "f", "w"], &differing, fail, &mut out)?;
+        assert_eq!(rt; status, wanted);
+    }
+    // Of two that are not there the first is named.
+    let mut out = MemOut::new(alloc, &[])?;
+    let (status, _) = failing(alloc, &["verify", "f", "w"], &[], 9, &mut out)?;
+    assert_eq!(rt; status, 2);
+    assert_eq!(rt; out.bytes(), b"cannot read f\n".as_slice());
+    let mut silent = MemOut::new(alloc, &[0])?;
+    assert_eq!(rt; verified(alloc, NOTE, sound.as_slice(), &mut silent)?, 3);
+    assert!(rt; silent.bytes().is_empty());
+    Ok(())
+}
+
+#[test]
+fn a_refused_order_is_read_to_its_end(rt: HostRuntime) -> Result<(), Fail> {
+    let alloc = rt.alloc();
+    let mut order = Vec::from_slice(alloc, b"order engine 1 blocks 100 scripts 1\n0 0 0 0 on 0 69 0\n")?;
+    for _ in 0..7000 {
+        order.extend_from_slice(b"0 0 0 0 on\n")?;
+    }
+    let files: [(&str, &[u8]); 1] = [("f", order.as_slice())];
+    // Two pieces of the order, and its end. The sound file is not looked at: that it is not there is not told.
+    for (words, fail, wanted, line) in [
+        (["replay", "f", "w"], 1u64, 2u8, b"cannot read f\n".as_slice()),
+        (["replay", "f", "w"], 2, 2, b"cannot read f\n"),
+        (["replay", "f", "w"], 3, 4, b"order line 2: line\n"),
+        (["verify", "f", "w"], 2, 2, b"cannot read f\n"),
+        (["verify", "f", "w"], 3, 4, b"order line 2: line\n"),
+    ] {
+        let mut out = MemOut::new(alloc, &[])?;
+        let (status, written) = failing(alloc, &words, &files, fail, &mut out)?;
+        assert_eq!(rt; status, wanted);
+        assert_eq!(rt; out.bytes(), line);
+        assert!(rt; written.is_none());
+    }
+    Ok(())
+}
+
+#[test]
+fn a_shelf_may_take_one_byte_at_a_time(rt: HostRuntime) -> Result<(), Fail> {
+    let alloc = rt.alloc();
+    let whole = replayed(alloc, NOTE)?;
+    let mut inner = MemShelf::new(alloc, &[])?;
+    inner.put_file(alloc, "f", NOTE)?;
+    let mut slow = OneByteShelf { inner };
+    for (words, printed) in [
+        ("replay f w", b"ok\n".as_slice()),
+        ("verify f w", b"same\n"),
+        ("gen 0 1 1", b"scripts 1 commands 1\n"),
+    ] {
+        let mut all = Vec::new(alloc);
+        for word in words.split(' ') {
+            all.push(String::from_str(alloc, word)?)?;
+        }
+        let mut out = MemOut::new(alloc, &[])?;
+        assert_eq!(rt; tool_main(alloc, &all, &mut slow, &mut out), 0);
+        assert_eq!(rt; out.bytes(), printed);
+    }
+    assert_eq!(rt; slow.inner.file("w"), Some(whole.as_slice()));
+    Ok(())
+}
+
+#[test]
+fn a_shelf_may_tell_nothing(rt: HostRuntime) -> Result<(), Fail> {
+    let alloc = rt.alloc();
+    let mut shelf = SureShelf::new(alloc);
+    shelf.put_file(alloc, "f", NOTE)?;
+    let rows: [(&[&str], u8, &[u8]); 6] = [
+        (&["replay", "f", "w"], 0, b"ok\n"),
+        (&["check", "g"], 0, b"messages 0\n"),
+        (&["verify", "f", "w"], 7, b"differs at 0\n"),
+        (&["replay", "g", "w"], 4, b"order line 1: line\n"),
+        (&["gen", "0", "1", "1"], 0, b"scripts 1 commands 1\n"),
+        (&["gen", "0", "1"], 1, b"usage: tool COMMAND WORDS...\n"),
+    ];
+    for (words, status, printed) in rows {
+        let words = words_of(alloc, words)?;
+        let mut out = MemOut::new(alloc, &[])?;
+        assert_eq!(rt; tool_never_failing(alloc, &words, &mut shelf, &mut out), status);
+        assert_eq!(rt; out.bytes(), printed);
+    }
+    let gen_words = words_of(alloc, &["gen", "0", "1", "1"])?;
+    let mut silent = MemOut::new(alloc, &[0])?;
+    assert_eq!(rt; tool_never_failing(alloc, &gen_words, &mut shelf, &mut silent), 3);
+    Ok(())
+}
+
+#[test]
+fn scripts_are_generated_and_played(rt: HostRuntime) -> Result<(), Fail> {
     let alloc = rt.alloc();
     let usage = b"usage: tool COMMAND WORDS...\n";
     let rows: [(&[&str], u8, &[u8]); 14] = [
@@ -524,7 +650,7 @@ fn scripts_are_drawn_and_played(rt: HostRuntime) -> Result<(), Fail> {
 }
 
 #[test]
-fn drawn_scripts_are_written(rt: HostRuntime) -> Result<(), Fail> {
+fn generated_scripts_are_written(rt: HostRuntime) -> Result<(), Fail> {
     let alloc = rt.alloc();
     let rows: [(&[&str], &[u8]); 2] = [
         (&["gen", "0", "1", "1"], b"midi 1\n7 on 0 73 26\n"),

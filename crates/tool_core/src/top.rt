@@ -1,27 +1,28 @@
-ghost use Rattle.std.specs.Prelude.{ℕ, ◌≡◌, ◌↔◌, [], ◌∷◌, IfSome, None, Some, length, map, option_map, string_bytes};
-ghost use Rattle.generator.specs.Generated.{generated_journal, sum_of_samples};
-ghost use Rattle.outside.specs.Files.{said};
-ghost use Rattle.tool_core.specs.Lines.{bench_line, usage};
-ghost use Rattle.tool_core.specs.Outcomes.{done_by, moment, Ends, IsDifferent, IsDone, IsOutOfMemory, IsPastLimit, IsRefused, IsUnread, IsUnwritten, OnSuccess};
+//! The top call of the program `tool`.
+ghost use Rattle.std.specs.Prelude.{ℕ, List, ◌≡◌, ◌≢◌, ◌⊎◌, ◌↔◌, [], ◌∷◌, IfSome, None, Some, map, string_bytes};
+ghost use Rattle.outside.specs.Snapshot.{snapshot};
 ghost use Rattle.fault_lines.specs.Lines.{Says};
 ghost use Rattle.fault_lines.specs.Statuses.{IsOneOf};
-ghost use Rattle.tool_core.specs.Statuses.{AnswersBy};
-ghost use Rattle.tool_core.specs.Words.{Bench, asked, asked_by, IsInRange};
+ghost use Rattle.tool_core.specs.Endings.{Ends};
+ghost use Rattle.tool_core.specs.Lines.{usage};
+ghost use Rattle.tool_core.specs.Outcomes.{AnswersBy, IsComplete, IsDone, IsOutOfMemory, IsPastLimit, IsRefused, IsUnread, IsUnwritten, WasDone};
+ghost use Rattle.tool_core.specs.Words.{Verify, request_data, requested_by, IsInRange};
 
-use crate::benching::bench;
-use crate::commands::{check, list, pack, pick};
-use crate::generating::generate;
-use crate::replaying::replay;
-use crate::saying::say_usage;
-use crate::verifying::verify;
+use crate::bench::bench;
+use crate::librarian::{check, list, pack, pick};
+use crate::generate::generate;
+use crate::replay::replay;
+use crate::failure::say_usage;
+use crate::verify::verify;
 use crate::words::{Request, read_words};
 use outside::{Out, Shelf};
 use std::alloc::Global;
 
-/// Does what the words ask for, and answers the status.
+/// HasEffect what the words ask for, and answers the status: 0 done, 1 other words, 2 not read, 3 not written, 4 a file is refused, 6 past a limit, 7 `verify` found a
+/// difference, 8 out of memory.
 ///
 /// The words are `check FILE`, `list FILE`, `pick FILE SLOT OUT`, `pack OUT FILE...`, `replay ORDER OUT`, `verify ORDER WAV`,
-/// `gen SEED SCRIPTS COMMANDS` or `bench SEED BLOCKS`.
+/// `gen SEED SCRIPTS COMMANDS` or `bench SEED BLOCKS`. The files are read and judged one after the other, in the order of the words.
 pub fn tool_main<S: Shelf, O: Out>(
     alloc: Global,
     words: &[String],
@@ -30,47 +31,49 @@ pub fn tool_main<S: Shelf, O: Out>(
 ) -> u8
     ensures status { IsOneOf result (0 ∷ 1 ∷ 2 ∷ 3 ∷ 4 ∷ 6 ∷ 7 ∷ 8 ∷ []) }
 
-    // 1 exactly where the words are not of the grammar; then no file has changed, and the line was put.
-    ensures words { result ≡ 1 ↔ asked_by (map string_bytes words.now) ≡ None }
-    ensures usage_files { result ≡ 1 → S.files shelf.new ≡ S.files shelf.old }
+    // 0 and 7: Every file that was read is good. The files that the command writes are whole, all others are as before, and just its text was added to the output.
+    ensures done { WasDone result → IfSome (requested_by (map string_bytes words.now)) (λ request. IsDone request result
+        (snapshot (S.files shelf.old) (S.reading shelf.old) (S.writing shelf.old) (O.written out.old) (O.faults out.old))
+        (snapshot (S.files shelf.new) (S.reading shelf.new) (S.writing shelf.new) (O.written out.new) (O.faults out.new))) }
+    // 7 for `verify` alone.
+    ensures different { result ≡ 7 → (order : List ℕ) × (sound : List ℕ) × (requested_by (map string_bytes words.now) ≡ Some (Verify order sound)) }
+
+    // 1 exactly where the words are not of the grammar.
+    ensures words { result ≡ 1 ↔ requested_by (map string_bytes words.now) ≡ None }
+    // 2 only where a read of a file failed and was counted, or the told files lack it, and all files before it are good; the line names it.
+    ensures unread { result ≡ 2 → IfSome (requested_by (map string_bytes words.now)) (λ request. IsUnread request
+        (snapshot (S.files shelf.old) (S.reading shelf.old) (S.writing shelf.old) (O.written out.old) (O.faults out.old))
+        (snapshot (S.files shelf.new) (S.reading shelf.new) (S.writing shelf.new) (O.written out.new) (O.faults out.new))) }
+    // 3 only where every file that was read is good, and a write or the put of the text failed and was counted. What is written stands as far as it came.
+    ensures unwritten { result ≡ 3 → IfSome (requested_by (map string_bytes words.now)) (λ request. IsUnwritten request
+        (snapshot (S.files shelf.old) (S.reading shelf.old) (S.writing shelf.old) (O.written out.old) (O.faults out.old))
+        (snapshot (S.files shelf.new) (S.reading shelf.new) (S.writing shelf.new) (O.written out.new) (O.faults out.new))) }
+    // 4 and 6 only where a file is refused, or past a limit, and all files before it are good.
+    ensures refused { result ≡ 4 → IfSome (requested_by (map string_bytes words.now)) (λ request. IsRefused request
+        (snapshot (S.files shelf.old) (S.reading shelf.old) (S.writing shelf.old) (O.written out.old) (O.faults out.old))
+        (snapshot (S.files shelf.new) (S.reading shelf.new) (S.writing shelf.new) (O.written out.new) (O.faults out.new))) }
+    ensures past_limit { result ≡ 6 → IfSome (requested_by (map string_bytes words.now)) (λ request. IsPastLimit request
+        (snapshot (S.files shelf.old) (S.reading shelf.old) (S.writing shelf.old) (O.written out.old) (O.faults out.old))
+        (snapshot (S.files shelf.new) (S.reading shelf.new) (S.writing shelf.new) (O.written out.new) (O.faults out.new))) }
+    // The first file that isn't good decides, where no read fails.
+    ensures judged { IfSome (requested_by (map string_bytes words.now)) (λ request. AnswersBy request result
+        (snapshot (S.files shelf.old) (S.reading shelf.old) (S.writing shelf.old) (O.written out.old) (O.faults out.old))
+        (snapshot (S.files shelf.new) (S.reading shelf.new) (S.writing shelf.new) (O.written out.new) (O.faults out.new))) }
+
+    // No counted fault is passed over, and after all other statuses no file has changed.
+    ensures reads { result ≢ 2 → S.reading shelf.new ≡ S.reading shelf.old }
+    ensures writes { result ≢ 3 → S.writing shelf.new ≡ S.writing shelf.old }
+    ensures puts { WasDone result → O.faults out.new ≡ O.faults out.old }
+    ensures untouched { ¬ (WasDone result) → result ≢ 3 → S.files shelf.new ≡ S.files shelf.old }
     ensures usage { result ≡ 1 → Says usage (O.written out.old) (O.written out.new) (O.faults out.old) (O.faults out.new) }
+    ensures memory { result ≡ 8 → IsOutOfMemory
+        (snapshot (S.files shelf.old) (S.reading shelf.old) (S.writing shelf.old) (O.written out.old) (O.faults out.old))
+        (snapshot (S.files shelf.new) (S.reading shelf.new) (S.writing shelf.new) (O.written out.new) (O.faults out.new)) }
 
-    // What each other status says, and what it leaves.
-    ensures done { result ≡ 0 → IfSome (asked_by (map string_bytes words.now)) (λ asked. IsDone asked
-        (moment (S.files shelf.old) (S.reading shelf.old) (S.writing shelf.old) (O.written out.old) (O.faults out.old))
-        (moment (S.files shelf.new) (S.reading shelf.new) (S.writing shelf.new) (O.written out.new) (O.faults out.new))) }
-    // What `bench` prints rests on no file: it holds over every shelf.
-    ensures summed { (seed blocks : ℕ) → asked_by (map string_bytes words.now) ≡ Some (Bench seed blocks) → result ≡ 0 → O.written out.new ≡ option_map
-        (said (bench_line (length (generated_journal seed blocks)) blocks (sum_of_samples (generated_journal seed blocks) blocks))) (O.written out.old) }
-    ensures unread { result ≡ 2 → IfSome (asked_by (map string_bytes words.now)) (λ asked. IsUnread asked
-        (moment (S.files shelf.old) (S.reading shelf.old) (S.writing shelf.old) (O.written out.old) (O.faults out.old))
-        (moment (S.files shelf.new) (S.reading shelf.new) (S.writing shelf.new) (O.written out.new) (O.faults out.new))) }
-    ensures unwritten { result ≡ 3 → IfSome (asked_by (map string_bytes words.now)) (λ asked. IsUnwritten asked
-        (moment (S.files shelf.old) (S.reading shelf.old) (S.writing shelf.old) (O.written out.old) (O.faults out.old))
-        (moment (S.files shelf.new) (S.reading shelf.new) (S.writing shelf.new) (O.written out.new) (O.faults out.new))) }
-    ensures refused { result ≡ 4 → IfSome (asked_by (map string_bytes words.now)) (λ asked. IsRefused asked
-        (moment (S.files shelf.old) (S.reading shelf.old) (S.writing shelf.old) (O.written out.old) (O.faults out.old))
-        (moment (S.files shelf.new) (S.reading shelf.new) (S.writing shelf.new) (O.written out.new) (O.faults out.new))) }
-    ensures past_limit { result ≡ 6 → IfSome (asked_by (map string_bytes words.now)) (λ asked. IsPastLimit asked
-        (moment (S.files shelf.old) (S.reading shelf.old) (S.writing shelf.old) (O.written out.old) (O.faults out.old))
-        (moment (S.files shelf.new) (S.reading shelf.new) (S.writing shelf.new) (O.written out.new) (O.faults out.new))) }
-    ensures different { result ≡ 7 → IfSome (asked_by (map string_bytes words.now)) (λ asked. IsDifferent asked
-        (moment (S.files shelf.old) (S.reading shelf.old) (S.writing shelf.old) (O.written out.old) (O.faults out.old))
-        (moment (S.files shelf.new) (S.reading shelf.new) (S.writing shelf.new) (O.written out.new) (O.faults out.new))) }
-    ensures memory { result ≡ 8 → IfSome (asked_by (map string_bytes words.now)) (λ asked. IsOutOfMemory asked
-        (moment (S.files shelf.old) (S.reading shelf.old) (S.writing shelf.old) (O.written out.old) (O.faults out.old))
-        (moment (S.files shelf.new) (S.reading shelf.new) (S.writing shelf.new) (O.written out.new) (O.faults out.new))) }
-
-    // Where no read failed, the status is one of the verdict that decides: a file that lacks, is too long or is refused is told, and nothing is done.
-    ensures judged { IfSome (asked_by (map string_bytes words.now)) (λ asked. AnswersBy asked result
-        (moment (S.files shelf.old) (S.reading shelf.old) (S.writing shelf.old) (O.written out.old) (O.faults out.old))
-        (moment (S.files shelf.new) (S.reading shelf.new) (S.writing shelf.new) (O.written out.new) (O.faults out.new))) }
-
-    // Where all is right and nothing fails, it is done, unless memory runs out; a comparison is done with 0 or 7.
-    ensures complete { IfSome (asked_by (map string_bytes words.now)) (λ asked. OnSuccess asked
-        (moment (S.files shelf.old) (S.reading shelf.old) (S.writing shelf.old) (O.written out.old) (O.faults out.old))
-        (moment (S.files shelf.new) (S.reading shelf.new) (S.writing shelf.new) (O.written out.new) (O.faults out.new))
-        (IsOneOf result (done_by asked))) }
+    // Where all is right and nothing fails, it is done, unless memory runs out.
+    ensures complete { IfSome (requested_by (map string_bytes words.now)) (λ request. IsComplete request result
+        (snapshot (S.files shelf.old) (S.reading shelf.old) (S.writing shelf.old) (O.written out.old) (O.faults out.old))
+        (snapshot (S.files shelf.new) (S.reading shelf.new) (S.writing shelf.new) (O.written out.new) (O.faults out.new))) }
 {
     match read_words(words) {
         Some(request) => run(alloc, request, shelf, out),
@@ -84,11 +87,9 @@ pub fn tool_main<S: Shelf, O: Out>(
 /// Runs a command.
 fn run<S: Shelf, O: Out>(alloc: Global, request: Request<'_>, shelf: &mut S, out: &mut O) -> u8
     requires { IsInRange request }
-    ensures summed { (seed blocks : ℕ) → asked request.entry ≡ Bench seed blocks → result ≡ 0 → O.written out.new ≡ option_map
-        (said (bench_line (length (generated_journal seed blocks)) blocks (sum_of_samples (generated_journal seed blocks) blocks))) (O.written out.old) }
-    ensures ends { Ends (asked request.entry) result
-        (moment (S.files shelf.old) (S.reading shelf.old) (S.writing shelf.old) (O.written out.old) (O.faults out.old))
-        (moment (S.files shelf.new) (S.reading shelf.new) (S.writing shelf.new) (O.written out.new) (O.faults out.new)) }
+    ensures { Ends (request_data request.entry) result
+        (snapshot (S.files shelf.old) (S.reading shelf.old) (S.writing shelf.old) (O.written out.old) (O.faults out.old))
+        (snapshot (S.files shelf.new) (S.reading shelf.new) (S.writing shelf.new) (O.written out.new) (O.faults out.new)) }
 {
     match request {
         Request::Check { file } => check(alloc, file, shelf, out),

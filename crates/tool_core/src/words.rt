@@ -2,7 +2,7 @@
 
 ghost use Rattle.std.specs.Prelude.{◌≡◌, ◌≤◌, ◌∷◌, IfSome, Option, map, option_map, string_bytes};
 ghost use Rattle.tool_core.specs.Words as spec;
-ghost use Rattle.tool_core.specs.Words.{asked, asked_by, asked_of, asked_of_drawn, asked_of_order, bench_of, bench_of_words, file_of_words, gen_of, gen_of_words, pack_of_words, pick_of, pick_of_words, replay_of_words, verify_of_words, IsInRange};
+ghost use Rattle.tool_core.specs.Words.{request_data, requested_by, request_of, request_of_generated, request_of_order, bench_of, bench_of_words, file_of_words, gen_of, gen_of_words, pack_of_words, pick_of, pick_of_words, replay_of_words, verify_of_words, IsInRange};
 
 use crate::seed::seed_of;
 use plain_text::parse_number;
@@ -10,7 +10,7 @@ use plain_text::parse_number;
 /// What the words ask for.
 #[derive(Clone, Copy)]
 pub enum Request<'a> {
-    /// One line for each system exclusive message of a file.
+    /// One line for each SysEx message of a file.
     Check {
         file: &'a str,
     },
@@ -39,13 +39,13 @@ pub enum Request<'a> {
         order: &'a str,
         sound: &'a str,
     },
-    /// So many scripts of so many commands each, drawn from a seed.
+    /// So many scripts of so many commands each, generated from a seed.
     Gen {
         seed: u64,
         scripts: u32,
         commands: u32,
     },
-    /// How four drawn scripts sound for so many blocks.
+    /// How four generated scripts sound for so many blocks.
     Bench {
         seed: u64,
         blocks: u32,
@@ -54,7 +54,7 @@ pub enum Request<'a> {
 
 /// What the words ask for, and `None` where they are not of the grammar.
 pub fn read_words(words: &[String]) -> Option<Request<'_>>
-    ensures asked { option_map asked result ≡ asked_by (map string_bytes words.entry.now) }
+    ensures request { option_map request_data result ≡ requested_by (map string_bytes words.entry.now) }
     ensures range { IfSome result IsInRange }
 {
     if words.is_empty() {
@@ -64,7 +64,7 @@ pub fn read_words(words: &[String]) -> Option<Request<'_>>
 }
 
 fn read_command<'a>(command: &str, words: &'a [String]) -> Option<Request<'a>>
-    ensures asked { option_map asked result ≡ asked_of command.now (map string_bytes words.entry.now) }
+    ensures request { option_map request_data result ≡ request_of command.now (map string_bytes words.entry.now) }
     ensures range { IfSome result IsInRange }
 {
     if is_check(command) {
@@ -83,7 +83,7 @@ fn read_command<'a>(command: &str, words: &'a [String]) -> Option<Request<'a>>
 }
 
 fn read_order_command<'a>(command: &str, words: &'a [String]) -> Option<Request<'a>>
-    ensures asked { option_map asked result ≡ asked_of_order command.now (map string_bytes words.entry.now) }
+    ensures request { option_map request_data result ≡ request_of_order command.now (map string_bytes words.entry.now) }
     ensures range { IfSome result IsInRange }
 {
     if is_replay(command) {
@@ -92,11 +92,11 @@ fn read_order_command<'a>(command: &str, words: &'a [String]) -> Option<Request<
     if is_verify(command) {
         return read_verify(words);
     }
-    read_drawn_command(command, words)
+    read_generator_command(command, words)
 }
 
-fn read_drawn_command<'a>(command: &str, words: &'a [String]) -> Option<Request<'a>>
-    ensures asked { option_map asked result ≡ asked_of_drawn command.now (map string_bytes words.entry.now) }
+fn read_generator_command<'a>(command: &str, words: &'a [String]) -> Option<Request<'a>>
+    ensures request { option_map request_data result ≡ request_of_generated command.now (map string_bytes words.entry.now) }
     ensures range { IfSome result IsInRange }
 {
     if is_gen(command) {
@@ -165,7 +165,7 @@ fn is_bench(word: &str) -> bool
 }
 
 fn read_check(words: &[String]) -> Option<Request<'_>>
-    ensures asked { option_map asked result ≡ option_map (λ file. spec.Check file) (file_of_words (map string_bytes words.entry.now)) }
+    ensures request { option_map request_data result ≡ option_map (λ file. spec.Check file) (file_of_words (map string_bytes words.entry.now)) }
     ensures range { IfSome result IsInRange }
 {
     match read_file_name(words) {
@@ -175,7 +175,7 @@ fn read_check(words: &[String]) -> Option<Request<'_>>
 }
 
 fn read_list(words: &[String]) -> Option<Request<'_>>
-    ensures asked { option_map asked result ≡ option_map (λ file. spec.Names file) (file_of_words (map string_bytes words.entry.now)) }
+    ensures request { option_map request_data result ≡ option_map (λ file. spec.Names file) (file_of_words (map string_bytes words.entry.now)) }
     ensures range { IfSome result IsInRange }
 {
     match read_file_name(words) {
@@ -195,7 +195,7 @@ fn read_file_name(words: &[String]) -> Option<&str>
 }
 
 fn read_pick(words: &[String]) -> Option<Request<'_>>
-    ensures asked { option_map asked result ≡ pick_of_words (map string_bytes words.entry.now) }
+    ensures request { option_map request_data result ≡ pick_of_words (map string_bytes words.entry.now) }
     ensures range { IfSome result IsInRange }
 {
     if words.len() != 3 {
@@ -205,7 +205,7 @@ fn read_pick(words: &[String]) -> Option<Request<'_>>
 }
 
 fn read_three<'a>(file: &'a str, slot: &str, out: &'a str) -> Option<Request<'a>>
-    ensures asked { option_map asked result ≡ pick_of file.entry.now slot.now out.entry.now }
+    ensures request { option_map request_data result ≡ pick_of file.entry.now slot.now out.entry.now }
     ensures range { IfSome result IsInRange }
 {
     if out.is_empty() || !is_read(out, file) {
@@ -222,7 +222,7 @@ fn read_three<'a>(file: &'a str, slot: &str, out: &'a str) -> Option<Request<'a>
 }
 
 fn read_pack(words: &[String]) -> Option<Request<'_>>
-    ensures asked { option_map asked result ≡ pack_of_words (map string_bytes words.entry.now) }
+    ensures request { option_map request_data result ≡ pack_of_words (map string_bytes words.entry.now) }
     ensures range { IfSome result IsInRange }
 {
     if words.is_empty() {
@@ -232,7 +232,7 @@ fn read_pack(words: &[String]) -> Option<Request<'_>>
 }
 
 fn read_out<'a>(out: &'a str, files: &'a [String]) -> Option<Request<'a>>
-    ensures asked { option_map asked result ≡ pack_of_words (out.entry.now ∷ map string_bytes files.entry.now) }
+    ensures request { option_map request_data result ≡ pack_of_words (out.entry.now ∷ map string_bytes files.entry.now) }
     ensures range { IfSome result IsInRange }
 {
     if out.is_empty() || files.is_empty() || files.len() > 32 || !are_read(out, files) {
@@ -259,7 +259,7 @@ fn is_read(out: &str, file: &str) -> bool
 }
 
 fn read_replay(words: &[String]) -> Option<Request<'_>>
-    ensures asked { option_map asked result ≡ replay_of_words (map string_bytes words.entry.now) }
+    ensures request { option_map request_data result ≡ replay_of_words (map string_bytes words.entry.now) }
     ensures range { IfSome result IsInRange }
 {
     if words.len() != 2 {
@@ -274,7 +274,7 @@ fn read_replay(words: &[String]) -> Option<Request<'_>>
 }
 
 fn read_verify(words: &[String]) -> Option<Request<'_>>
-    ensures asked { option_map asked result ≡ verify_of_words (map string_bytes words.entry.now) }
+    ensures request { option_map request_data result ≡ verify_of_words (map string_bytes words.entry.now) }
     ensures range { IfSome result IsInRange }
 {
     if words.len() != 2 {
@@ -289,7 +289,7 @@ fn read_verify(words: &[String]) -> Option<Request<'_>>
 }
 
 fn read_gen(words: &[String]) -> Option<Request<'_>>
-    ensures asked { option_map asked result ≡ gen_of_words (map string_bytes words.entry.now) }
+    ensures request { option_map request_data result ≡ gen_of_words (map string_bytes words.entry.now) }
     ensures range { IfSome result IsInRange }
 {
     if words.len() != 3 {
@@ -308,7 +308,7 @@ fn gen_request<'a>(
 ) -> Option<Request<'a>>
     requires scripts { IfSome scripts (λ n. n ≤ 256) }
     requires commands { IfSome commands (λ n. n ≤ 100000) }
-    ensures asked { option_map asked result ≡ gen_of seed scripts commands }
+    ensures request { option_map request_data result ≡ gen_of seed scripts commands }
     ensures range { IfSome result IsInRange }
 {
     let seed = seed?;
@@ -325,7 +325,7 @@ fn gen_request<'a>(
 }
 
 fn read_bench(words: &[String]) -> Option<Request<'_>>
-    ensures asked { option_map asked result ≡ bench_of_words (map string_bytes words.entry.now) }
+    ensures request { option_map request_data result ≡ bench_of_words (map string_bytes words.entry.now) }
     ensures range { IfSome result IsInRange }
 {
     if words.len() != 2 {
@@ -338,7 +338,7 @@ fn read_bench(words: &[String]) -> Option<Request<'_>>
 
 fn bench_request<'a>(seed: Option<u64>, blocks: Option<u32>) -> Option<Request<'a>>
     requires { IfSome blocks (λ n. n ≤ 100000) }
-    ensures asked { option_map asked result ≡ bench_of seed blocks }
+    ensures request { option_map request_data result ≡ bench_of seed blocks }
     ensures range { IfSome result IsInRange }
 {
     let seed = seed?;

@@ -1,11 +1,11 @@
-use Rattle.std.proofs.Common.{◌≡◌, ◌+◌, ◌<◌, length, refl, ap, arith, subst, set}
+use Rattle.std.proofs.Common.{◌≡◌, ◌<◌, length, refl, ap, arith, subst, set}
 use Rattle.std.specs.Prelude.{Ok, Err}
 use Rattle.std.proofs.lemmas.List.Elements.{All-push}
 use Rattle.command_set.specs.declared.entry.Entry.{Entry}
 use Rattle.command_set.specs.Command.{IsInRange, content}
 use Rattle.schedule_core.specs.declared.refusal.WorldRefusal.TheVariants.{Full}
 use Rattle.schedule_core.specs.Core.{Core, Send, step}
-use Rattle.schedule_core.specs.Fields.{core_of, Stands}
+use Rattle.schedule_core.specs.Fields.{core_of}
 use Rattle.schedule_core.specs.World.{HasSent}
 use Rattle.schedule_core.proofs.Worlds.{accepted, turned_away, how_many, stands_for, determined}
 use Rattle.schedule_core.proofs.world.World.send.Goals as goal

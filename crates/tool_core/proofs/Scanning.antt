@@ -1,0 +1,199 @@
+-- One more message of a scan.
+use Rattle.std.proofs.Common.{◌≡◌, ℕ, ◌+◌, ◌<◌, ◌%◌, append-nil, List, [], ◌∷◌, ◌++◌, length, get_or, min, refl, sym, ◌∙◌, ap, subst, arith}
+use Rattle.std.specs.Prelude.{Option, Some, None, true, false, option_map, option_to_list, Result, Ok, Err, OnOk}
+use Rattle.std.specs.Option.{option_or}
+use Rattle.std.proofs.lemmas.List.{ext_get_or}
+use Rattle.std.proofs.lemmas.List.FromFn.{length-map-range_with_len, get_or-map-range_with_len}
+use Rattle.voice_record.specs.Voice.{greatest_value, IsClamped}
+use Rattle.cartridge.specs.Cartridge.{voice_at, voices_of, unpacked, slot_bytes, UnpacksAll}
+use Rattle.voice_record.proofs.Packed.{unpacks_unique}
+use Rattle.voice_record.specs.Packing.{Unpacks, bits_of}
+use Rattle.sysex_frame.specs.Frame.{Content, VoiceDump, CartridgeDump, ParamChange, OtherChange, DumpRequest, IsFrame}
+use Rattle.sysex_frame.specs.FrameFault.{first_fault}
+use Rattle.sysex_frame.specs.declared.frame.FrameFault.{FrameFault}
+use Rattle.sysex_frame.proofs.Laws.{complete}
+use Rattle.tool_core.specs.declared.scan.Scan.{Scan}
+use Rattle.tool_core.specs.declared.refusal.Refusal.{Refusal}
+use Rattle.tool_core.specs.declared.refusal.Refusal.TheVariants.{TooLong}
+use Rattle.tool_core.specs.declared.scan.Ended.{Ended}
+use Rattle.tool_core.specs.Scans.{TellsOf}
+use Rattle.tool_core.specs.SysEx.{SysExMessage, is_too_long, sysex_at, sysex_before}
+use Rattle.tool_core.specs.Refusals.{first_some, message_refusal, long_refusal, message_voice, message_cartridge, clamped_voice, content, fault_at, voice_bytes, cartridge_bytes}
+use Rattle.tool_core.specs.Scans.{HasSizes, IsScan}
+use Rattle.tool_core.proofs.Streams.{sysex_next}
+
+pub or_none : {X : Type 0} (o : Option X) → option_or o None ≡ o
+or_none None = refl
+or_none (Some x) = refl
+
+pub or_assoc : {X : Type 0} (a b c : Option X) → option_or a (option_or b c) ≡ option_or (option_or a b) c
+or_assoc None b c = refl
+or_assoc (Some x) b c = refl
+
+first_more : {X : Type 0} (f : SysExMessage → Option X) (messages : List SysExMessage) (e : SysExMessage)
+    → first_some f (messages ++ e ∷ []) ≡ option_or (first_some f messages) (f e)
+first_more f [] e = or_none (f e)
+first_more f (m ∷ messages) e = ap (option_or (f m)) (first_more f messages e) ∙ or_assoc (f m) (first_some f messages) (f e)
+
+pub surveys_more : (old now : Scan) (messages : List SysExMessage) (e : SysExMessage) → IsScan old messages
+    → now.bad ≡ option_or old.bad (message_refusal e) → now.long ≡ option_or old.long (long_refusal e)
+    → now.voice ≡ option_or old.voice (message_voice e) → now.cartridge ≡ option_or old.cartridge (message_cartridge e)
+    → IsScan now (messages ++ e ∷ [])
+surveys_more old now messages e was bad long voice cartridge = record {
+  bad = bad ∙ ap (λ o. option_or o (message_refusal e)) was.bad ∙ sym (first_more message_refusal messages e);
+  long = long ∙ ap (λ o. option_or o (long_refusal e)) was.long ∙ sym (first_more long_refusal messages e);
+  voice = voice ∙ ap (λ o. option_or o (message_voice e)) was.voice ∙ sym (first_more message_voice messages e);
+  cartridge = cartridge ∙ ap (λ o. option_or o (message_cartridge e)) was.cartridge ∙ sym (first_more message_cartridge messages e);
+}
+
+-- what a voice message holds, as a list
+clamped_at : (bytes : List ℕ) (k : ℕ) → k < 155 → get_or (clamped_voice bytes) k 0 ≡ min (get_or bytes k 0 % 128) (greatest_value k)
+unfolding clamped_voice
+clamped_at bytes k l = get_or-map-range_with_len (λ number. min (get_or bytes number 0 % 128) (greatest_value number)) 0 155 k k 0 l (omega arith)
+
+clamped_count : (bytes : List ℕ) → length (clamped_voice bytes) ≡ 155
+unfolding clamped_voice
+clamped_count bytes = length-map-range_with_len (λ number. min (get_or bytes number 0 % 128) (greatest_value number)) 0 155
+
+pub clamped_is : (bytes fields : List ℕ) → IsClamped bytes fields → fields ≡ clamped_voice bytes
+clamped_is bytes fields c =
+    ext_get_or 0 fields (clamped_voice bytes) (c.count ∙ sym (clamped_count bytes))
+    (λ k l. let below : k < 155 = rw c.count at l in c.clamped k below ∙ sym (clamped_at bytes k below))
+
+pub content_of_frame : (text : List ℕ) (held : Content) → IsFrame text held → content text ≡ Some held
+unfolding content
+content_of_frame text held is = let whole = complete text held is in rw (whole.0, whole.1) refl
+
+pub faultless_frame : (text : List ℕ) (held : Content) → IsFrame text held → first_fault text ≡ None
+faultless_frame text held is = (complete text held is).0
+
+pub no_content : (text : List ℕ) (fault : FrameFault) → first_fault text ≡ Some fault → content text ≡ None
+unfolding content
+no_content text fault is = rw is refl
+
+pub sizes : (text : List ℕ) (held : Content) → IsFrame text held → HasSizes held
+sizes text (VoiceDump device payload) is = is.size
+sizes text (CartridgeDump device payload) is = is.size
+sizes text (ParamChange device number value) is = tt
+sizes text (OtherChange device group number) is = tt
+sizes text (DumpRequest device) is = tt
+
+-- the 32 voices of a payload
+voices_count : (payload : List ℕ) → length (voices_of payload) ≡ 32
+unfolding voices_of
+voices_count payload = length-map-range_with_len (λ slot. unpacked (slot_bytes payload slot)) 0 32
+
+voices_at : (payload : List ℕ) (slot : ℕ) → slot < 32 → voice_at (voices_of payload) slot ≡ unpacked (slot_bytes payload slot)
+unfolding voices_of
+voices_at payload slot l = get_or-map-range_with_len (λ k. unpacked (slot_bytes payload k)) 0 32 slot slot [] l (omega arith)
+
+unpacked_unpacks : (bytes : List ℕ) → Unpacks bytes (unpacked bytes)
+unfolding unpacked
+unpacked_unpacks bytes = record {
+  count = length-map-range_with_len (λ field. min (greatest_value field) (bits_of bytes field)) 0 155;
+  rows = λ field l. get_or-map-range_with_len (λ k. min (greatest_value k) (bits_of bytes k)) 0 155 field field 0 l (omega arith);
+}
+
+pub voices_known : (payload : List ℕ) (voices : List (List ℕ)) → UnpacksAll payload voices → voices ≡ voices_of payload
+voices_known payload voices u =
+    ext_get_or [] voices (voices_of payload) (u.count ∙ sym (voices_count payload))
+    (λ k l. let below : k < 32 = rw u.count at l in
+    unpacks_unique (slot_bytes payload k) (voice_at voices k) (unpacked (slot_bytes payload k)) (u.slots k below) (unpacked_unpacks (slot_bytes payload k))
+    ∙ sym (voices_at payload k below))
+
+-- what a message gives a scan
+pub record Gives (e : SysExMessage) (bad long : Option Refusal) (voice : Option (List ℕ)) (cartridge : Option (List (List ℕ))) : Type 0 where
+  pub bad_is : message_refusal e ≡ bad
+  pub long_is : long_refusal e ≡ long
+  pub voice_is : message_voice e ≡ voice
+  pub cartridge_is : message_cartridge e ≡ cartridge
+
+pub long_gives : (e : SysExMessage) → is_too_long e ≡ true → Gives e (Some (TooLong e.place)) (Some (TooLong e.place)) None None
+long_gives e h = record { bad_is = rw h refl; long_is = rw h refl; voice_is = rw h refl; cartridge_is = rw h refl }
+
+pub fault_gives : (e : SysExMessage) (fault : FrameFault) → is_too_long e ≡ false → first_fault e.text ≡ Some fault → Gives e (fault_at e.place (Some fault)) None None None
+fault_gives e fault h is =
+    let nothing : content e.text ≡ None = no_content e.text fault is in
+    record { bad_is = rw (h, is) refl; long_is = rw h refl; voice_is = rw (h, nothing) refl; cartridge_is = rw (h, nothing) refl }
+
+pub frame_gives : (e : SysExMessage) (held : Content) → is_too_long e ≡ false → IsFrame e.text held
+    → Gives e None None (option_map clamped_voice (voice_bytes held)) (option_map voices_of (cartridge_bytes held))
+frame_gives e held h is =
+    let something : content e.text ≡ Some held = content_of_frame e.text held is in
+    let faultless : first_fault e.text ≡ None = faultless_frame e.text held is in
+    record { bad_is = rw (h, faultless) refl; long_is = rw h refl; voice_is = rw (h, something) refl; cartridge_is = rw (h, something) refl }
+
+pub given_more : (old now : Scan) (messages : List SysExMessage) (e : SysExMessage) (bad long : Option Refusal) (voice : Option (List ℕ)) (cartridge : Option (List (List ℕ)))
+    → IsScan old messages → Gives e bad long voice cartridge
+    → now.bad ≡ option_or old.bad bad → now.long ≡ option_or old.long long
+    → now.voice ≡ option_or old.voice voice → now.cartridge ≡ option_or old.cartridge cartridge
+    → IsScan now (messages ++ e ∷ [])
+given_more old now messages e bad long voice cartridge was g a b c d =
+    surveys_more old now messages e was
+    (a ∙ ap (option_or old.bad) (sym g.bad_is)) (b ∙ ap (option_or old.long) (sym g.long_is))
+    (c ∙ ap (option_or old.voice) (sym g.voice_is)) (d ∙ ap (option_or old.cartridge) (sym g.cartridge_is))
+
+-- whatever messages there were, the one that ended is behind them
+abbrev pub Takes : Scan → Scan → Ended → List ℕ → Type 0
+Takes old now ended text =
+    (messages : List SysExMessage) (sysex : SysExMessage) → (ended.place ≡ sysex.place) × (ended.is_too_long ≡ is_too_long sysex)
+    → (is_too_long sysex ≡ false → text ≡ sysex.text) → IsScan old messages → IsScan now (messages ++ sysex ∷ [])
+
+-- one more byte
+pub none_taken : (scan : Scan) (file : List ℕ) (place : ℕ) → TellsOf None (sysex_at file place)
+    → IsScan scan (sysex_before file place) → IsScan scan (sysex_before file (place + 1))
+none_taken scan file place tells was = rw (sysex_next file place) (by_end (sysex_at file place) tells)
+  where
+    by_end : (e : Option SysExMessage) → TellsOf None e → IsScan scan (sysex_before file place ++ option_to_list e)
+    by_end None t = rw append-nil was
+    by_end (Some e) t = absurd t
+
+pub some_taken : (scan : Scan) (file : List ℕ) (place : ℕ) (ended : Ended) → TellsOf (Some ended) (sysex_at file place)
+    → ((e : SysExMessage) → sysex_at file place ≡ Some e → TellsOf (Some ended) (Some e) → IsScan scan (sysex_before file place ++ e ∷ []))
+    → IsScan scan (sysex_before file (place + 1))
+some_taken scan file place ended tells more = rw (sysex_next file place) (by_end (sysex_at file place) refl tells)
+  where
+    by_end : (e : Option SysExMessage) → sysex_at file place ≡ e → TellsOf (Some ended) e → IsScan scan (sysex_before file place ++ option_to_list e)
+    by_end None is t = absurd t
+    by_end (Some e) is t = more e is t
+
+pub on_ok_more : {T E : Type 0} {P Q : Type 0} (r : Result T E) → OnOk r P → (P → Q) → OnOk r Q
+on_ok_more (Ok x) p along = along p
+on_ok_more (Err e) p along = tt
+
+-- one more message
+pub long_taken : (old now : Scan) (ended : Ended) (text : List ℕ) → ended.is_too_long ≡ true
+    → now.bad ≡ option_or old.bad (Some (TooLong ended.place)) → now.long ≡ option_or old.long (Some (TooLong ended.place))
+    → now.voice ≡ old.voice → now.cartridge ≡ old.cartridge
+    → Takes old now ended text
+long_taken old now ended text long a b c d = λ messages e tells same was.
+    given_more old now messages e (Some (TooLong e.place)) (Some (TooLong e.place)) None None was (long_gives e (sym (tells.1) ∙ long))
+    (a ∙ ap (λ (p : ℕ). option_or old.bad (Some (TooLong p))) (tells.0)) (b ∙ ap (λ (p : ℕ). option_or old.long (Some (TooLong p))) (tells.0))
+    (c ∙ sym (or_none old.voice)) (d ∙ sym (or_none old.cartridge))
+
+pub fault_taken : (old now : Scan) (ended : Ended) (text : List ℕ) (fault : FrameFault) → ended.is_too_long ≡ false → first_fault text ≡ Some fault
+    → now.bad ≡ option_or old.bad (fault_at ended.place (Some fault)) → now.long ≡ old.long
+    → now.voice ≡ old.voice → now.cartridge ≡ old.cartridge
+    → Takes old now ended text
+fault_taken old now ended text fault short is a b c d = λ messages e tells same was.
+    let e_short : is_too_long e ≡ false = sym (tells.1) ∙ short in
+    given_more old now messages e (fault_at e.place (Some fault)) None None None was (fault_gives e fault e_short (ap first_fault (sym (same e_short)) ∙ is))
+    (a ∙ ap (λ (p : ℕ). option_or old.bad (fault_at p (Some fault))) (tells.0)) (b ∙ sym (or_none old.long))
+    (c ∙ sym (or_none old.voice)) (d ∙ sym (or_none old.cartridge))
+
+pub frame_taken : {T E : Type 0} (r : Result T E) (old now : Scan) (ended : Ended) (text : List ℕ) (held : Content) → ended.is_too_long ≡ false → IsFrame text held
+    → now.bad ≡ old.bad → now.long ≡ old.long
+    → OnOk r (now.voice ≡ option_or old.voice (option_map clamped_voice (voice_bytes held)))
+    → OnOk r (now.cartridge ≡ option_or old.cartridge (option_map voices_of (cartridge_bytes held)))
+    → OnOk r (Takes old now ended text)
+frame_taken (Err x) old now ended text held short is a b c d = tt
+frame_taken (Ok x) old now ended text held short is a b c d = λ messages e tells same was.
+    let e_short : is_too_long e ≡ false = sym (tells.1) ∙ short in
+    given_more old now messages e None None (option_map clamped_voice (voice_bytes held)) (option_map voices_of (cartridge_bytes held)) was
+    (frame_gives e held e_short (subst (λ (t : List ℕ). IsFrame t held) (same e_short) is))
+    (a ∙ sym (or_none old.bad)) (b ∙ sym (or_none old.long)) c d
+
+pub surveys_none : (file : List ℕ) (scan : Scan) → scan.bad ≡ None → scan.long ≡ None → scan.voice ≡ None → scan.cartridge ≡ None
+    → IsScan scan (sysex_before file 0)
+unfolding sysex_before
+surveys_none file scan a b c d = record { bad = a; long = b; voice = c; cartridge = d }

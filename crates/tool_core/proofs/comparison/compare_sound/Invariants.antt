@@ -1,0 +1,20 @@
+use Rattle.std.proofs.Common.{◌≡◌, ◌≤◌, ◌-◌, ℕ, List}
+use Rattle.std.specs.Prelude.{Some, None}
+use Rattle.outside.specs.Files.{file_of}
+use Rattle.tool_core.specs.Comparisons.{IsFront}
+use Rattle.tool_core.proofs.Sounds.{begun}
+use Rattle.tool_core.proofs.comparison.compare_sound.Given as goal
+
+abbrev pub invariant-pieces : goal.invariant-pieces
+invariant-pieces g l = record {
+  files : g.S.Shelf.files l.shelf ≡ g.S.Shelf.files l.fn.shelf;
+  reading : g.S.Shelf.reading l.shelf ≡ g.S.Shelf.reading l.fn.shelf;
+  writing : g.S.Shelf.writing l.shelf ≡ g.S.Shelf.writing l.fn.shelf;
+  within : l.from ≤ l.blocks;
+  journal : l.playback.journal ≡ l.fn.playback.journal;
+  block : l.playback.block ≡ l.from;
+  front : (file : List ℕ) → file_of (g.S.Shelf.files l.fn.shelf) l.name ≡ Some file → IsFront file (begun l.fn.playback.journal l.blocks l.from) None;
+}
+
+abbrev pub decreases-pieces : goal.decreases-pieces
+decreases-pieces g l = l.blocks - l.from

@@ -1,0 +1,21 @@
+use Rattle.std.proofs.Common.{[]}
+use Rattle.tool_core.specs.Refusals.{OneCartridge}
+use Rattle.tool_core.specs.Inputs.{Midi, input}
+use Rattle.tool_core.specs.Words.{Pick}
+use Rattle.tool_core.specs.Effects.{writes}
+use Rattle.tool_core.proofs.Endings.{performs, refuses, read_first, one_good, first_stops, pick_does}
+use Rattle.tool_core.proofs.librarian.pick.Goals as goal
+
+pub returns-in-Ok : goal.returns-in-Ok
+returns-in-Ok g c =
+    performs (Pick c.args.file.now c.args.slot c.args.name.now) _ _ _ (writes c.args.name.now c.write_voice-message.result)
+    (one_good (input c.args.file.now (Midi OneCartridge)) (g.S.Shelf.files c.args.shelf.now) c.in-Ok.ensures.good)
+    (pick_does (g.S.Shelf.files c.args.shelf.now) c.args.file.now c.args.slot c.args.name.now c.write_voice-message.result _ c.voice.result
+    c.in-Ok.ensures.value c.voice.ensures.value c.write_voice-message.ensures.frame)
+    (read_first (writes c.args.name.now c.write_voice-message.result) _ _ _ _ _ _ _ _ _ _ c.read_cartridge.ensures.files c.in-Ok.ensures.kept c.read_cartridge.ensures.writing c.finish.ensures)
+
+pub returns-in-Err : goal.returns-in-Err
+returns-in-Err g c =
+    refuses (Pick c.args.file.now c.args.slot c.args.name.now) c.in-Err.why c.args.file.now _ _ _
+    (first_stops c.in-Err.why (Midi OneCartridge) [] (g.S.Shelf.files c.args.shelf.now) c.args.file.now _ _ c.in-Err.ensures.refused)
+    c.refuse.ensures.status c.refuse.ensures.line c.read_cartridge.ensures.files c.read_cartridge.ensures.writing

@@ -1,7 +1,0 @@
-use Rattle.std.proofs.Common.{◌∙◌, ap}
-use Rattle.tool_core.specs.Refusals.{clamped_voice}
-use Rattle.tool_core.proofs.Surveying.{clamped_is}
-use Rattle.tool_core.proofs.looking.clamp.Goals as goal
-
-pub returns : goal.returns
-returns c = clamped_is _ _ c.from_bytes.ensures.clamped ∙ ap clamped_voice c.copy_from_slice.ensures.after

@@ -1,0 +1,10 @@
+use Rattle.std.proofs.Common.{refl}
+use Rattle.tool_core.proofs.Endings.{write_ends, unwritten_ends}
+use Rattle.tool_core.proofs.output_file.finish.Goals as goal
+
+pub returns-in-Ok : goal.returns-in-Ok
+returns-in-Ok g c = write_ends c.args.name.now c.args.text.now _ _ _ c.in-Ok.ensures.cause.other c.in-Ok.ensures.cause.kept c.in-Ok.ensures.whole c.put_ok.ensures
+
+pub returns-in-Err : goal.returns-in-Err
+returns-in-Err g c =
+    unwritten_ends c.args.name.now c.args.text.now _ _ _ c.in-Err.ensures.cause.other refl c.in-Err.ensures.cause.failed c.in-Err.ensures.begun c.say_cannot_write.ensures

@@ -1,0 +1,18 @@
+use Rattle.std.proofs.Common.{◌∙◌, refl, ap}
+use Rattle.std.specs.Option.{option_or}
+use Rattle.sysex_frame.specs.Frame.{content_of}
+use Rattle.tool_core.proofs.Scanning.{long_taken, fault_taken, frame_taken}
+use Rattle.tool_core.proofs.scan.take_message.Goals as goal
+
+pub returns-then-ended : goal.returns-then-ended
+returns-then-ended c = long_taken c.args.scan.now _ c.args.ended c.args.text.now c.if-ended.true c.or-scan.ensures c.or-scan-then-ended.ensures refl refl
+
+pub returns-in-Ok : goal.returns-in-Ok
+returns-in-Ok c =
+    frame_taken c.take_frame.result c.args.scan.now c.take_frame.new.scan c.args.ended c.args.text.now (content_of c.in-Ok.frame) c.if-ended.false c.in-Ok.ensures.frame
+    c.take_frame.ensures.bad c.take_frame.ensures.long c.take_frame.ensures.voice c.take_frame.ensures.cartridge
+
+pub returns-in-Err : goal.returns-in-Err
+returns-in-Err c =
+    fault_taken c.args.scan.now _ c.args.ended c.args.text.now c.in-Err.fault c.if-ended.false c.in-Err.ensures.fault
+    (c.or-scan-in-Err.ensures ∙ ap (option_or c.args.scan.now.bad) c.refusal_of.ensures) refl refl refl

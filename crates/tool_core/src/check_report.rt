@@ -1,0 +1,159 @@
+//! The report of a check: a line for each message, and their number.
+
+ghost use Rattle.std.specs.Prelude.{ℕ, ◌≡◌, ◌≤◌, ◌<◌, ◌+◌, List, Option, Some, None, false, length, slice_index, OnOk, OnErr, IfOk, option_map, option_to_list};
+ghost use Rattle.outside.specs.Faults.{HasCause};
+ghost use Rattle.outside.specs.Files.{said};
+ghost use Rattle.sysex_frame.specs.Frame.{content_of, ParamChange, VoiceDump};
+ghost use Rattle.tool_core.specs.SysEx.{SysExMessage, sysex_at, is_too_long};
+ghost use Rattle.tool_core.specs.Lines as lines;
+ghost use Rattle.tool_core.specs.Lines.{check_report, content_line, lines_before};
+ghost use Rattle.tool_core.specs.Endings.{Puts};
+ghost use Rattle.tool_core.specs.Pages.{FailsIn, Holds};
+ghost use Rattle.tool_core.specs.Scans.{Follows, TellsOf};
+ghost use Rattle.tool_core.specs.Scans.{HasSizes};
+
+use crate::scan::Ended;
+use crate::line::{Line, line_of, push_name, push_number, push_text};
+use crate::scan::clamp;
+use crate::page::{Page, put_line, put_page};
+use crate::scan::Scanner;
+use outside::{Failed, Out};
+use sysex_frame::{Frame, read_frame};
+
+/// Puts a line for each SysEx message of a file, and then their number.
+fn put_messages<O: Out>(out: &mut O, mut scanner: Scanner, file: &[u8]) -> Result<(), Failed>
+    requires short { length file.now ≤ 16777216 }
+    requires begins { Follows scanner file.now 0 }
+    ensures all { OnOk result (O.written out.new ≡ option_map (said (check_report file.now)) (O.written out.old)) }
+    ensures some { OnErr result (FailsIn (check_report file.now) (O.written out.old) (O.written out.new)) }
+    ensures cause { HasCause (O.faults out.old) (O.faults out.new) 0 0 ⊥ result }
+{
+    let mut page = Page::new();
+    let mut count = 0u32;
+    for (place, byte) in file.iter().enumerate() {
+        match put_byte(out, &mut page, &mut scanner, place as u32, *byte) {
+            Ok(more) => count += more,
+            Err(failed) => return Err(failed),
+        }
+    }
+    let line = count_line(count);
+    match put_line(out, &mut page, line.as_slice()) {
+        Ok(()) => put_page(out, &mut page),
+        Err(failed) => Err(failed),
+    }
+}
+
+/// Puts the report of a check, and answers 0, or 3 where the output fails.
+pub fn put_check<O: Out>(out: &mut O, scanner: Scanner, file: &[u8]) -> u8
+    requires short { length file.now ≤ 16777216 }
+    requires begins { Follows scanner file.now 0 }
+    ensures { Puts 0 (check_report file.now) result (O.written out.old) (O.written out.new) (O.faults out.old) (O.faults out.new) }
+{
+    match put_messages(out, scanner, file) {
+        Ok(()) => 0,
+        Err(_) => 3,
+    }
+}
+
+/// Takes the byte at a place, and puts the line of the message that ends with it; answers how many ended.
+fn put_byte<O: Out>(
+    out: &mut O,
+    page: &mut Page,
+    scanner: &mut Scanner,
+    place: u32,
+    byte: u8,
+) -> Result<u32, Failed>
+    ensures follows { (file : List ℕ) → place < length file → slice_index file place ≡ byte → Follows scanner.old file place → Follows scanner.new file (place + 1) }
+    ensures count { IfOk result (λ count. (file : List ℕ) → place < length file → slice_index file place ≡ byte → Follows scanner.old file place
+        → count ≡ length (option_to_list (sysex_at file place))) }
+    ensures one { IfOk result (λ count. count ≤ 1) }
+    ensures line { OnOk result ((file : List ℕ) (before : Option (List ℕ)) → place < length file → slice_index file place ≡ byte → Follows scanner.old file place
+        → Holds before (O.written out.old) page.old.items (lines_before file place) → Holds before (O.written out.new) page.new.items (lines_before file (place + 1))) }
+    ensures err { OnErr result ((before : Option (List ℕ)) (text : List ℕ) → Holds before (O.written out.old) page.old.items text → FailsIn text before (O.written out.new)) }
+    ensures cause { HasCause (O.faults out.old) (O.faults out.new) 0 0 ⊥ result }
+{
+    match scanner.feed(place, byte) {
+        Some(ended) => {
+            let line = message_line(ended, scanner.text());
+            match put_line(out, page, line.as_slice()) {
+                Ok(()) => Ok(1),
+                Err(failed) => Err(failed),
+            }
+        }
+        None => Ok(0),
+    }
+}
+
+/// The line of a message that has ended.
+fn message_line(ended: Ended, text: &[u8]) -> Line
+    requires { length text.now ≤ 5000 }
+    ensures { (sysex : SysExMessage) → TellsOf (Some ended) (Some sysex) → (is_too_long sysex ≡ false → text.now ≡ sysex.text)
+        → result.items ≡ lines.message_line sysex }
+{
+    if ended.is_too_long {
+        return other_line();
+    }
+    match read_frame(text) {
+        Ok(frame) => frame_line(frame),
+        Err(_) => other_line(),
+    }
+}
+
+#[tactic(auto, unfolding(crate::specs::Lines::content_line))]
+fn other_line() -> Line
+    ensures { result.items ≡ content_line None }
+{
+    line_of(b"other\n")
+}
+
+#[tactic(auto, unfolding(crate::specs::Lines::content_line))]
+fn frame_line(frame: Frame<'_>) -> Line
+    requires { HasSizes (content_of frame) }
+    ensures { result.items ≡ content_line (Some (content_of frame.entry)) }
+{
+    match frame {
+        Frame::Voice { device, payload } => voice_line(device, payload),
+        Frame::Cartridge { .. } => line_of(b"cartridge\n"),
+        Frame::Param {
+            device,
+            number,
+            value,
+        } => param_line(device, number, value),
+        Frame::OtherParam { .. } => line_of(b"other\n"),
+        Frame::Request { .. } => line_of(b"request\n"),
+    }
+}
+
+#[tactic(auto, unfolding(crate::specs::Lines::content_line))]
+fn voice_line(_device: u8, payload: &[u8]) -> Line
+    requires { length payload.now ≡ 155 }
+    ensures { result.items ≡ content_line (Some (VoiceDump _device payload.now)) }
+{
+    let voice = clamp(payload);
+    let mut line = line_of(b"voice ");
+    push_name(&mut line, &voice);
+    push_text(&mut line, b"\n");
+    line
+}
+
+#[tactic(auto, unfolding(crate::specs::Lines::content_line))]
+fn param_line(_device: u8, number: u8, value: u8) -> Line
+    ensures { result.items ≡ content_line (Some (ParamChange _device number value)) }
+{
+    let mut line = line_of(b"param ");
+    push_number(&mut line, u32::from(number));
+    push_text(&mut line, b" ");
+    push_number(&mut line, u32::from(value));
+    push_text(&mut line, b"\n");
+    line
+}
+
+#[tactic(auto, unfolding(crate::specs::Lines::count_line))]
+fn count_line(count: u32) -> Line
+    ensures { result.items ≡ lines.count_line count }
+{
+    let mut line = line_of(b"messages ");
+    push_number(&mut line, count);
+    push_text(&mut line, b"\n");
+    line
+}

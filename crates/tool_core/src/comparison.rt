@@ -1,0 +1,238 @@
+//! A file that is compared with the sound of a journal, piece by piece.
+
+ghost use Rattle.std.specs.Prelude.{ℕ, List, ◌≡◌, ◌+◌, ◌-◌, ◌*◌, ◌<◌, ◌≤◌, ◌++◌, Option, IfErr, IfOk, IfSome, IsErr, OnOk, drop, length, take};
+ghost use Rattle.take_files.specs.Files.{wav, wav_blocks};
+ghost use Rattle.outside.specs.Faults.{HasCause};
+ghost use Rattle.outside.specs.Files.{file_of, Lacks};
+ghost use Rattle.tool_core.specs.Comparisons.{IsCompared, IsFront, IsStep, IsWithin};
+ghost use Rattle.tool_core.specs.Orders.{sound_limit};
+ghost use Rattle.tool_core.specs.Endings.{IsReadFailure};
+
+use crate::failure::Failure;
+use arrayvec::ArrayVec;
+use outside::{Failed, Shelf};
+use take_files::{Chunk, Playback, wav_header};
+
+/// A piece of the sound: the bytes of up to 512 blocks.
+type SoundPiece = ArrayVec<u8, 65536>;
+
+/// The most bytes of a sound file.
+const SOUND_LIMIT: u32 = 140_000_000;
+
+/// The first place at which a file differs from the sound of a journal that is to be played. The file is read to its end first.
+pub fn compare_file<S: Shelf>(
+    shelf: &mut S,
+    name: &str,
+    playback: Playback<'_>,
+    blocks: u32,
+) -> Result<Option<u32>, Failure>
+    requires few { blocks ≤ 1048576 }
+    requires at { playback.block ≡ 0 }
+    ensures compared { IfOk result (λ place. (file : List ℕ) → file_of (S.files shelf.old) name.now ≡ Some file
+        → IsCompared file (wav playback.entry.journal blocks) place) }
+    ensures within { OnOk result ((file : List ℕ) → file_of (S.files shelf.old) name.now ≡ Some file → length file ≤ sound_limit) }
+    ensures lacks { Lacks (S.files shelf.old) name.now → IsErr result }
+    ensures kept { OnOk result (S.reading shelf.new ≡ S.reading shelf.old) }
+    ensures refused { IfErr result (λ why. IsReadFailure why sound_limit (S.files shelf.old) name.now (S.reading shelf.old) (S.reading shelf.new)) }
+    ensures files { S.files shelf.new ≡ S.files shelf.old }
+    ensures writing { S.writing shelf.new ≡ S.writing shelf.old }
+{
+    let size = 44 + 128 * blocks;
+    let place = match compare_sound(shelf, name, playback, blocks) {
+        Ok(place) => place,
+        Err(_) => return Err(Failure::Unread),
+    };
+    match measure(shelf, name, place.unwrap_or(size)) {
+        Ok(count) => Ok(place_of(place, size, count)),
+        Err(why) => Err(why),
+    }
+}
+
+/// The first place at which a file of this length differs from a sound of this size, where the first that was found within the sound is known.
+fn place_of(place: Option<u32>, size: u32, count: u32) -> Option<u32>
+    ensures { (file whole : List ℕ) → size ≡ length whole → count ≡ length file → IsFront file whole place → IsCompared file whole result }
+{
+    match place {
+        Some(place) => Some(place),
+        None if count > size => Some(size),
+        None => None,
+    }
+}
+
+/// The first place at which a file differs from the sound of a journal that is to be played, or none where it begins with it.
+fn compare_sound<S: Shelf>(
+    shelf: &mut S,
+    name: &str,
+    mut playback: Playback<'_>,
+    blocks: u32,
+) -> Result<Option<u32>, Failed>
+    requires few { blocks ≤ 1048576 }
+    requires at { playback.block ≡ 0 }
+    ensures compared { IfOk result (λ place. (file : List ℕ) → file_of (S.files shelf.old) name.now ≡ Some file
+        → IsFront file (wav playback.entry.journal blocks) place) }
+    ensures within { IfOk result (λ place. IfSome place (λ p. p < 44 + 128 * blocks)) }
+    ensures cause { HasCause (S.reading shelf.old) (S.reading shelf.new) (S.writing shelf.old) (S.writing shelf.new)
+        (Lacks (S.files shelf.old) name.now) result }
+    ensures files { S.files shelf.new ≡ S.files shelf.old }
+{
+    match compare_piece(shelf, name, 0, &wav_header(blocks)) {
+        Ok(None) => {}
+        Ok(Some(place)) => return Ok(Some(place)),
+        Err(failed) => return Err(failed),
+    }
+    let mut piece = SoundPiece::new();
+    let mut from = 0;
+    'pieces: while from < blocks {
+        let count = (blocks - from).min(512);
+        render_piece(&mut playback, count, &mut piece);
+        let at = 44 + 128 * from;
+        match compare_piece(shelf, name, at, piece.as_slice()) {
+            Ok(None) => {}
+            Ok(Some(place)) => return Ok(Some(at + place)),
+            Err(failed) => return Err(failed),
+        }
+        from += count;
+    }
+    Ok(None)
+}
+
+/// The bytes of the next blocks, up to 512, in the place of the piece.
+fn render_piece(playback: &mut Playback<'_>, count: u32, into: &mut SoundPiece)
+    requires few { count ≤ 512 }
+    requires blocks { playback.old.block + count ≤ 1048576 }
+    ensures bytes { wav_blocks playback.old.journal (playback.old.block + count)
+        ≡ wav_blocks playback.old.journal playback.old.block ++ into.new.items }
+    ensures journal { playback.new.journal ≡ playback.old.journal }
+    ensures block { playback.new.block ≡ playback.old.block + count }
+    ensures size { length into.new.items ≡ 128 * count }
+{
+    into.clear();
+    let mut chunk = Chunk::new();
+    let mut done = 0;
+    'chunks: while done < count {
+        let some = (count - done).min(64);
+        playback.render_chunk(some, &mut chunk);
+        add_chunk(into, chunk.as_slice());
+        done += some;
+    }
+}
+
+/// Adds a chunk to a piece that has room for it.
+fn add_chunk(into: &mut SoundPiece, chunk: &[u8])
+    requires { length into.old.items + length chunk.now ≤ 65536 }
+    ensures { into.new.items ≡ into.old.items ++ chunk.now }
+{
+    let _ = into.try_extend_from_slice(chunk);
+}
+
+/// The first place, counted from `at` on, at which a file differs from a piece that should stand there, or none where the piece does.
+fn compare_piece<S: Shelf>(
+    shelf: &mut S,
+    name: &str,
+    at: u32,
+    piece: &[u8],
+) -> Result<Option<u32>, Failed>
+    requires low { at ≤ 140000000 }
+    requires short { length piece.now ≤ 65536 }
+    ensures compared { IfOk result (λ place. (file : List ℕ) → file_of (S.files shelf.old) name.now ≡ Some file
+        → IsFront (drop at file) piece.now place) }
+    ensures within { IfOk result (λ place. IfSome place (λ p. p < length piece.now)) }
+    ensures cause { HasCause (S.reading shelf.old) (S.reading shelf.new) (S.writing shelf.old) (S.writing shelf.new)
+        (Lacks (S.files shelf.old) name.now) result }
+    ensures files { S.files shelf.new ≡ S.files shelf.old }
+{
+    let mut done = 0usize;
+    'comparing: while done < piece.len() {
+        match compare_some(shelf, name, at + done as u32, &piece[done..]) {
+            Ok(Step::Same(count)) => done += count,
+            Ok(Step::Differs(place)) => return Ok(Some((done + place) as u32)),
+            Err(failed) => return Err(failed),
+        }
+    }
+    Ok(None)
+}
+
+/// Bytes that were compared: so many are the same, or the first that differs is here.
+#[derive(Clone, Copy, Debug, PartialEq, Eq)]
+pub enum Step {
+    Same(usize),
+    Differs(usize),
+}
+
+/// Compares the bytes that one read of a file gives at a place with those that should stand there.
+fn compare_some<S: Shelf>(shelf: &mut S, name: &str, at: u32, wanted: &[u8]) -> Result<Step, Failed>
+    requires { 0 < length wanted.now }
+    ensures step { IfOk result (λ step. (file : List ℕ) → file_of (S.files shelf.old) name.now ≡ Some file → IsStep step (drop at file) wanted.now) }
+    ensures within { IfOk result (λ step. IsWithin step (length wanted.now)) }
+    ensures cause { HasCause (S.reading shelf.old) (S.reading shelf.new) (S.writing shelf.old) (S.writing shelf.new)
+        (Lacks (S.files shelf.old) name.now) result }
+    ensures files { S.files shelf.new ≡ S.files shelf.old }
+{
+    let mut chunk = [0u8; 65536];
+    match shelf.read_at(name, u64::from(at), &mut chunk) {
+        Ok(count) => Ok(compare_chunk(&chunk[..count], wanted)),
+        Err(failed) => Err(failed),
+    }
+}
+
+/// Compares the next bytes of a file, none where it has ended, with those that should stand there.
+fn compare_chunk(chunk: &[u8], wanted: &[u8]) -> Step
+    requires { 0 < length wanted.now }
+    ensures step { (rest : List ℕ) → take (length chunk.now) rest ≡ chunk.now → (length chunk.now ≡ 0 → length rest ≡ 0) → IsStep result rest wanted.now }
+    ensures within { IsWithin result (length wanted.now) }
+{
+    let size = chunk.len().min(wanted.len());
+    for i in 0..size {
+        if chunk[i] != wanted[i] {
+            return Step::Differs(i);
+        }
+    }
+    if size == 0 {
+        Step::Differs(0)
+    } else {
+        Step::Same(size)
+    }
+}
+
+/// The length of a file of at most 140,000,000 bytes that is read from a place on, at which it has not ended.
+fn measure<S: Shelf>(shelf: &mut S, name: &str, from: u32) -> Result<u32, Failure>
+    requires { from ≤ 140000000 }
+    ensures length { IfOk result (λ size. (file : List ℕ) → file_of (S.files shelf.old) name.now ≡ Some file → from ≤ length file → size ≡ length file) }
+    ensures within { IfOk result (λ size. size ≤ sound_limit) }
+    ensures lacks { Lacks (S.files shelf.old) name.now → IsErr result }
+    ensures kept { OnOk result (S.reading shelf.new ≡ S.reading shelf.old) }
+    ensures refused { IfErr result (λ why. IsReadFailure why sound_limit (S.files shelf.old) name.now (S.reading shelf.old) (S.reading shelf.new)) }
+    ensures files { S.files shelf.new ≡ S.files shelf.old }
+    ensures writing { S.writing shelf.new ≡ S.writing shelf.old }
+{
+    let mut at = from;
+    'measuring: loop {
+        let count = match count_some(shelf, name, at) {
+            Ok(count) => count,
+            Err(_) => return Err(Failure::Unread),
+        };
+        if count == 0 {
+            return Ok(at);
+        }
+        if count > SOUND_LIMIT - at {
+            return Err(Failure::TooLarge);
+        }
+        at += count;
+    }
+}
+
+/// How many bytes one read of a file gives at a place, none where it has ended.
+fn count_some<S: Shelf>(shelf: &mut S, name: &str, at: u32) -> Result<u32, Failed>
+    ensures more { IfOk result (λ count. (file : List ℕ) → file_of (S.files shelf.old) name.now ≡ Some file → count ≤ length file - at) }
+    ensures ended { IfOk result (λ count. (file : List ℕ) → file_of (S.files shelf.old) name.now ≡ Some file → count ≡ 0 → length file ≤ at) }
+    ensures lacks { Lacks (S.files shelf.old) name.now → IsErr result }
+    ensures cause { HasCause (S.reading shelf.old) (S.reading shelf.new) (S.writing shelf.old) (S.writing shelf.new)
+        (Lacks (S.files shelf.old) name.now) result }
+    ensures files { S.files shelf.new ≡ S.files shelf.old }
+{
+    let mut chunk = [0u8; 65536];
+    match shelf.read_at(name, u64::from(at), &mut chunk) {
+        Ok(count) => Ok(count as u32),
+        Err(failed) => Err(failed),
+    }
+}

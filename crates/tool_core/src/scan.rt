@@ -1,0 +1,238 @@
+//! The scan of a file: where its SysEx messages end, and what they hold.
+
+ghost use Rattle.std.specs.Prelude.{ℕ, ◌≡◌, ◌≤◌, ◌<◌, ◌+◌, ◌==◌, [], ◌∷◌, ◌++◌, List, Option, Some, false, length, slice_index, OnOk, IfOk, IfSome, option_map, if◌then◌else◌};
+ghost use Rattle.std.specs.Option.{option_or};
+ghost use Rattle.midi_stream.specs.Messages.{is_unfinished};
+ghost use Rattle.midi_stream.specs.Ranges.{InRange};
+ghost use Rattle.midi_stream.specs.Standing.{HasBytes};
+ghost use Rattle.cartridge.specs.Cartridge.{voices_of};
+ghost use Rattle.sysex_frame.specs.Frame.{content_of};
+ghost use Rattle.tool_core.specs.SysEx.{SysExMessage, sysex_messages, sysex_before, is_too_long, placed};
+ghost use Rattle.tool_core.specs.Scans.{Follows, HasSizes, IsScan, TellsOf};
+ghost use Rattle.tool_core.specs.Refusals.{cartridge_bytes, clamped_voice, fault_at, voice_bytes};
+
+use crate::refusal::Refusal;
+use cartridge::Cartridge;
+use midi_stream::{MidiMessage, MidiReader};
+use std::alloc::{AllocError, Global};
+use sysex_frame::{Frame, FrameFault, read_frame};
+use voice_record::Voice;
+
+/// A SysEx message that has ended: the place of its `F0`, and whether it has more than 5000 bytes.
+#[derive(Clone, Copy, Debug, PartialEq, Eq)]
+pub struct Ended {
+    pub place: u32,
+    pub is_too_long: bool,
+}
+
+/// What a message of a stream says of a SysEx message that began at a place.
+pub fn ending_of(message: Option<MidiMessage>, place: u32) -> Option<Ended>
+    requires { IfSome message InRange }
+    ensures { (text : Option (List ℕ)) → IfSome message (λ m. HasBytes m text) → TellsOf result (placed message place text) }
+{
+    match message {
+        Some(MidiMessage::SysEx { .. }) => Some(Ended {
+            place,
+            is_too_long: false,
+        }),
+        Some(MidiMessage::SysExTooLong { .. }) => Some(Ended {
+            place,
+            is_too_long: true,
+        }),
+        _ => None,
+    }
+}
+
+/// Where the last `F0` stands, after a byte at an offset.
+fn start_after(start: u32, place: u32, byte: u8) -> u32
+    ensures { result ≡ (if byte == 240 then place else start) }
+{
+    if byte == 0xF0 { place } else { start }
+}
+
+/// A scanner over a file, byte by byte, that tells where a SysEx message ends.
+#[derive(Drop)]
+pub struct Scanner {
+    reader: MidiReader,
+    start: u32,
+}
+
+impl Scanner {
+    ghost use Rattle.std.specs.Prelude.{ℕ, ◌≤◌, ◌<◌, ◌+◌, List, length, slice_index, Some, false, IfOk};
+    ghost use Rattle.midi_stream.specs.Messages.{is_unfinished};
+    ghost use Rattle.tool_core.specs.SysEx.{SysExMessage, sysex_at, is_too_long};
+    ghost use Rattle.tool_core.specs.Scans.{Follows, TellsOf};
+
+    /// A scanner that is to begin. It takes all the memory that it needs.
+    pub fn new(alloc: Global) -> Result<Scanner, AllocError>
+        ensures { IfOk result (λ scanner. (file : List ℕ) → Follows scanner file 0) }
+    {
+        Ok(Scanner {
+            reader: MidiReader::new(alloc)?,
+            start: 0,
+        })
+    }
+
+    /// Takes the byte at a place, and tells of the SysEx message that ends with it.
+    pub fn feed(&mut self, place: u32, byte: u8) -> Option<Ended>
+        ensures follows { (file : List ℕ) → place < length file → slice_index file place ≡ byte → Follows self.old file place → Follows self.new file (place + 1) }
+        ensures ended { (file : List ℕ) → place < length file → slice_index file place ≡ byte → Follows self.old file place → TellsOf result (sysex_at file place) }
+    {
+        let start = self.start;
+        let message = self.reader.feed(byte);
+        self.start = start_after(start, place, byte);
+        ending_of(message, start)
+    }
+
+    /// The bytes of the message that ended with the last byte, where it isn't too long.
+    pub fn text(&self) -> &[u8]
+        ensures text { (file : List ℕ) (place : ℕ) (sysex : SysExMessage) → Follows self.now file (place + 1)
+            → sysex_at file place ≡ Some sysex → is_too_long sysex ≡ false → result.now ≡ sysex.text }
+        ensures bound { length result.now ≤ 5000 }
+    {
+        self.reader.sysex()
+    }
+
+    /// Whether the file ends within a message.
+    pub fn is_cut(&self) -> bool
+        ensures { (file : List ℕ) → Follows self.now file (length file) → result ≡ is_unfinished file }
+    {
+        !self.reader.at_rest()
+    }
+}
+
+/// The first bad message of a file, the first that is too long, the first voice and the first cartridge, and
+/// whether the file ends within a message.
+#[derive(Drop)]
+pub struct Scan {
+    pub bad: Option<Refusal>,
+    pub long: Option<Refusal>,
+    pub voice: Option<Voice>,
+    pub cartridge: Option<Cartridge>,
+    pub is_cut: bool,
+}
+
+/// Passes once over a file.
+pub fn scan_file(alloc: Global, file: &[u8]) -> Result<Scan, AllocError>
+    requires { length file.now ≤ 16777216 }
+    ensures scanned { IfOk result (λ scan. IsScan scan (sysex_messages file.now)) }
+    ensures cut { IfOk result (λ scan. scan.is_cut ≡ is_unfinished file.now) }
+{
+    let mut scanner = Scanner::new(alloc)?;
+    let mut scan = Scan {
+        bad: None,
+        long: None,
+        voice: None,
+        cartridge: None,
+        is_cut: false,
+    };
+    for (place, byte) in file.iter().enumerate() {
+        take_byte(alloc, &mut scan, &mut scanner, place as u32, *byte)?;
+    }
+    scan.is_cut = scanner.is_cut();
+    Ok(scan)
+}
+
+/// Takes the byte at a place.
+fn take_byte(
+    alloc: Global,
+    scan: &mut Scan,
+    scanner: &mut Scanner,
+    place: u32,
+    byte: u8,
+) -> Result<(), AllocError>
+    ensures follows { (file : List ℕ) → place < length file → slice_index file place ≡ byte → Follows scanner.old file place → Follows scanner.new file (place + 1) }
+    ensures scanned { OnOk result ((file : List ℕ) → place < length file → slice_index file place ≡ byte → Follows scanner.old file place
+        → IsScan scan.old (sysex_before file place) → IsScan scan.new (sysex_before file (place + 1))) }
+{
+    match scanner.feed(place, byte) {
+        Some(ended) => take_message(alloc, scan, ended, scanner.text()),
+        None => Ok(()),
+    }
+}
+
+/// Takes a message that has ended.
+fn take_message(
+    alloc: Global,
+    scan: &mut Scan,
+    ended: Ended,
+    text: &[u8],
+) -> Result<(), AllocError>
+    requires { length text.now ≤ 5000 }
+    ensures { OnOk result ((messages : List SysExMessage) (sysex : SysExMessage) → TellsOf (Some ended) (Some sysex)
+        → (is_too_long sysex ≡ false → text.now ≡ sysex.text)
+        → IsScan scan.old messages → IsScan scan.new (messages ++ sysex ∷ [])) }
+{
+    if ended.is_too_long {
+        let refusal = Refusal::TooLong { place: ended.place };
+        scan.bad = scan.bad.or(Some(refusal));
+        scan.long = scan.long.or(Some(refusal));
+        return Ok(());
+    }
+    match read_frame(text) {
+        Ok(frame) => take_frame(alloc, scan, frame),
+        Err(fault) => {
+            scan.bad = scan.bad.or(refusal_of(ended.place, fault));
+            Ok(())
+        }
+    }
+}
+
+/// Why a message with this fault is refused, where it is.
+pub fn refusal_of(place: u32, fault: FrameFault) -> Option<Refusal>
+    ensures { result ≡ fault_at place (Some fault) }
+{
+    match fault {
+        FrameFault::NotYamaha
+        | FrameFault::UnknownSubstatus { .. }
+        | FrameFault::UnknownFormat { .. } => None,
+        FrameFault::NotFramed
+        | FrameFault::DataByte { .. }
+        | FrameFault::Short { .. }
+        | FrameFault::CountBytes { .. }
+        | FrameFault::Length { .. }
+        | FrameFault::Checksum { .. }
+        | FrameFault::ParamValue { .. } => Some(Refusal::Fault { place, fault }),
+    }
+}
+
+/// Takes a good message.
+fn take_frame(alloc: Global, scan: &mut Scan, frame: Frame<'_>) -> Result<(), AllocError>
+    requires { HasSizes (content_of frame) }
+    ensures bad { scan.new.bad ≡ scan.old.bad }
+    ensures long { scan.new.long ≡ scan.old.long }
+    ensures voice { OnOk result (scan.new.voice ≡ option_or scan.old.voice (option_map clamped_voice (voice_bytes (content_of frame.entry)))) }
+    ensures cartridge { OnOk result (scan.new.cartridge ≡ option_or scan.old.cartridge (option_map voices_of (cartridge_bytes (content_of frame.entry)))) }
+{
+    match frame {
+        Frame::Voice { payload, .. } => {
+            scan.voice = scan.voice.or(Some(clamp(payload)));
+            Ok(())
+        }
+        Frame::Cartridge { payload, .. } => {
+            if scan.cartridge.is_none() {
+                scan.cartridge = Some(unpack(alloc, payload)?);
+            }
+            Ok(())
+        }
+        Frame::Param { .. } | Frame::OtherParam { .. } | Frame::Request { .. } => Ok(()),
+    }
+}
+
+/// The voice that 155 bytes hold.
+pub fn clamp(payload: &[u8]) -> Voice
+    requires { length payload.now ≡ 155 }
+    ensures { result ≡ clamped_voice payload.now }
+{
+    let mut bytes = [0; 155];
+    bytes.copy_from_slice(payload);
+    Voice::from_bytes(&bytes)
+}
+
+/// The 32 voices that 4096 bytes hold.
+fn unpack(alloc: Global, payload: &[u8]) -> Result<Cartridge, AllocError>
+    requires { length payload.now ≡ 4096 }
+    ensures { IfOk result (λ cartridge. cartridge ≡ voices_of payload.now) }
+{
+    Cartridge::from_payload(alloc, payload)
+}
