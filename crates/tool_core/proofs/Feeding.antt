@@ -1,5 +1,5 @@
 -- A file that is fed to a reader, piece by piece.
-use Rattle.std.proofs.Common.{◌≡◌, inl, inr, ℕ, ◌+◌, ◌<◌, ◌≤◌, List, [], ◌++◌, length, take, drop, refl, sym, ◌∙◌, ap, subst, arith}
+use Rattle.std.proofs.Common.{◌≡◌, inl, inr, ℕ, ◌+◌, ◌<◌, ◌≤◌, List, [], ◌++◌, length, take, sym, ◌∙◌, ap, subst, arith}
 use Rattle.std.specs.Prelude.{Option, Some, None, IfSome, IsSomeAnd, Result, Ok, Err, IfOk, IfErr}
 use Rattle.std.specs.FinMap.{get}
 use Rattle.std.proofs.Math.Seq.{take-add}
@@ -12,7 +12,7 @@ use Rattle.take_files.specs.declared.read.OrderFault.TheVariants as fault
 use Rattle.take_files.specs.Pieces.{HasFed, Standing}
 use Rattle.tool_core.specs.declared.failure.Failure.{Failure}
 use Rattle.tool_core.specs.declared.failure.Failure.TheVariants as failure
-use Rattle.tool_core.specs.Verdicts.{TooLarge, TooMany, Refused}
+use Rattle.tool_core.specs.Verdicts.{TooLarge}
 use Rattle.tool_core.specs.Inputs.{AnOrder}
 use Rattle.tool_core.specs.Orders.{IsOrderVerdict, order_limit}
 use Rattle.tool_core.specs.Failures.{IsFault, IsReason}

@@ -1,6 +1,6 @@
 -- Verdicts on files that were read.
 use Rattle.std.proofs.Common.{◌≡◌, ℕ, ◌<◌, ◌≤◌, List, [], length, refl, sym, ◌∙◌, ap, subst, lt-ltb, if◌then◌else◌}
-use Rattle.std.specs.Prelude.{Option, Some, None, IfSome, IsSomeAnd, unwrap_or, is_none, false, Result, Ok, Err, OnOk, IfOk, IfErr, ok_or}
+use Rattle.std.specs.Prelude.{Option, Some, None, IfSome, IsSomeAnd, unwrap_or, is_none, Result, Ok, Err, OnOk, IfOk, IfErr, ok_or}
 use Rattle.std.specs.FinMap.{get}
 use Rattle.std.specs.Option.{option_or}
 use Rattle.std.proofs.lemmas.Bool.{le-ltb}
@@ -14,7 +14,7 @@ use Rattle.tool_core.specs.SysEx.{sysex_messages}
 use Rattle.tool_core.specs.Refusals.{Wanted, AllMessages, OneVoice, OneCartridge, refusal, refusal_in, cut_refusal, missing_refusal, cartridge_in, voice_in, first_some, message_refusal, long_refusal}
 use Rattle.tool_core.specs.Scans.{IsScan}
 use Rattle.tool_core.proofs.Scanning.{or_none, or_assoc}
-use Rattle.tool_core.specs.Verdicts.{Verdict, TooLarge, Refused, Good, verdict_on, judged, file_limit}
+use Rattle.tool_core.specs.Verdicts.{Verdict, TooLarge, Good, verdict_on, judged, file_limit}
 use Rattle.tool_core.specs.Inputs.{Midi}
 use Rattle.tool_core.specs.Failures.{IsReason}
 use Rattle.tool_core.specs.Effects.{cartridge_of, voice_of}

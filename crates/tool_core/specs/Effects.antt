@@ -1,5 +1,5 @@
 -- What each command does: the files that it reads, and, where all of them are good, the files that it writes and the text that it prints.
-use Rattle.std.specs.Prelude.{◌≡◌, ◌⊎◌, ℕ, zero, suc, ◌-◌, ◌*◌, List, [], ◌∷◌, ◌++◌, length, map, replicate, Option, Some, None, IfSome, unwrap_or}
+use Rattle.std.specs.Prelude.{◌≡◌, ℕ, zero, suc, ◌-◌, ◌*◌, List, [], ◌∷◌, ◌++◌, length, map, replicate, Option, Some, None, IfSome, unwrap_or}
 use Rattle.std.specs.FinMap.{insert}
 use Rattle.outside.specs.Files.{Files, content}
 use Rattle.voice_record.specs.Voice.{opening_voice}

@@ -1,5 +1,5 @@
 -- Files of scripts that are written, as the program holds them.
-use Rattle.std.specs.Prelude.{◌≡◌, ℕ, ◌<◌, List, ◌∷◌, ◌++◌, length, string_bytes, Option, IfSome}
+use Rattle.std.specs.Prelude.{◌≡◌, ℕ, List, ◌∷◌, ◌++◌, length, string_bytes, Option, IfSome}
 use Rattle.outside.specs.Files.{Files}
 use Rattle.tool_core.specs.declared.generate.ScriptFile.{ScriptFile}
 use Rattle.tool_core.specs.Effects.{Output, output, written}

@@ -6,8 +6,8 @@ ghost use Rattle.outside.specs.Snapshot.{snapshot};
 ghost use Rattle.tool_core.specs.Endings.{Ends};
 ghost use Rattle.tool_core.specs.Words as words;
 
-use crate::line::{Line, bench_line};
 use crate::failure::{Failure, refuse};
+use crate::line::{Line, bench_line};
 use crate::output_file::put_report;
 use generator::{Played, play_generated};
 use outside::{Out, Shelf};

@@ -12,11 +12,9 @@ ghost use Rattle.tool_core.specs.Pages.{FailsIn, Holds};
 ghost use Rattle.tool_core.specs.Scans.{Follows, TellsOf};
 ghost use Rattle.tool_core.specs.Scans.{HasSizes};
 
-use crate::scan::Ended;
 use crate::line::{Line, line_of, push_name, push_number, push_text};
-use crate::scan::clamp;
 use crate::page::{Page, put_line, put_page};
-use crate::scan::Scanner;
+use crate::scan::{Ended, Scanner, clamp};
 use outside::{Failed, Out};
 use sysex_frame::{Frame, read_frame};
 

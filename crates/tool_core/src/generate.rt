@@ -13,8 +13,8 @@ ghost use Rattle.tool_core.specs.Outcomes.{BeginsOut};
 ghost use Rattle.tool_core.specs.Scripts.{StopsIn, shown};
 ghost use Rattle.tool_core.specs.Words as words;
 
-use crate::line::scripts_line;
 use crate::failure::{Failure, refuse};
+use crate::line::scripts_line;
 use crate::output_file::{put_report, write_whole};
 use fault_lines::say_cannot_write;
 use generator::script_text;

@@ -12,9 +12,9 @@ ghost use Rattle.tool_core.specs.Refusals as refusals;
 ghost use Rattle.tool_core.specs.Refusals.{cartridge_in, cut_refusal, refusal, voice_in};
 ghost use Rattle.tool_core.specs.Verdicts as verdicts;
 
+use crate::failure::Failure;
 use crate::refusal::Refusal;
 use crate::scan::{Scan, Scanner, scan_file};
-use crate::failure::Failure;
 use cartridge::Cartridge;
 use outside::{ReadFault, Shelf, read_all};
 use std::alloc::Global;
@@ -86,9 +86,7 @@ fn find_cartridge(alloc: Global, file: &[u8]) -> Result<Cartridge, Failure>
     let scan = scan_file(alloc, file)?;
     match scan.long.or(refusal_of_cut(scan.is_cut)) {
         Some(why) => Err(Failure::Refused(why)),
-        None => scan
-            .cartridge
-            .ok_or(Failure::Refused(Refusal::NoCartridge)),
+        None => scan.cartridge.ok_or(Failure::Refused(Refusal::NoCartridge)),
     }
 }
 

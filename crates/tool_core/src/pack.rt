@@ -9,8 +9,8 @@ ghost use Rattle.tool_core.specs.Packing.{IsPackFailure, voices};
 ghost use Rattle.tool_core.specs.Refusals as refusals;
 ghost use Rattle.tool_core.specs.Verdicts as verdicts;
 
-use crate::midi_bytes::read_voice;
 use crate::failure::Failure;
+use crate::midi_bytes::read_voice;
 use cartridge::Cartridge;
 use outside::Shelf;
 use std::alloc::Global;
@@ -23,7 +23,11 @@ pub struct PackFailure {
 }
 
 /// The message of a cartridge with the first voice of each file, and opening voices after them.
-pub fn read_pack<S: Shelf>(alloc: Global, shelf: &mut S, files: &[String]) -> Result<Vec<u8>, PackFailure>
+pub fn read_pack<S: Shelf>(
+    alloc: Global,
+    shelf: &mut S,
+    files: &[String],
+) -> Result<Vec<u8>, PackFailure>
     requires some { 0 < length files.now }
     requires fits { length files.now ≤ 32 }
     ensures good { OnOk result (IfSome (S.files shelf.old) (λ told. AreGood (voices (map string_bytes files.now)) told)) }

@@ -11,8 +11,8 @@ ghost use Rattle.tool_core.specs.Endings.{Ends, Finishes};
 ghost use Rattle.tool_core.specs.Outcomes.{BeginsOut};
 ghost use Rattle.tool_core.specs.Words as words;
 
-use crate::order::read_order_file;
 use crate::failure::{Failure, refuse};
+use crate::order::read_order_file;
 use crate::output_file::put_ok;
 use fault_lines::say_cannot_write;
 use outside::{Failed, Out, Shelf, append_all};

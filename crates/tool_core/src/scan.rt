@@ -152,12 +152,7 @@ fn take_byte(
 }
 
 /// Takes a message that has ended.
-fn take_message(
-    alloc: Global,
-    scan: &mut Scan,
-    ended: Ended,
-    text: &[u8],
-) -> Result<(), AllocError>
+fn take_message(alloc: Global, scan: &mut Scan, ended: Ended, text: &[u8]) -> Result<(), AllocError>
     requires { length text.now ≤ 5000 }
     ensures { OnOk result ((messages : List SysExMessage) (sysex : SysExMessage) → TellsOf (Some ended) (Some sysex)
         → (is_too_long sysex ≡ false → text.now ≡ sysex.text)

@@ -479,7 +479,13 @@ fn a_failing_call_of_replay_is_told(rt: HostRuntime) -> Result<(), Fail> {
     // Two reads of the order, the create, the header and two chunks of 64 and 36 blocks.
     for fail in 0..7u64 {
         let mut out = MemOut::new(alloc, &[])?;
-        let (status, written) = failing(alloc, &["replay", "f", "w"], &[("f", NOTE)], fail, &mut out)?;
+        let (status, written) = failing(
+            alloc,
+            &["replay", "f", "w"],
+            &[("f", NOTE)],
+            fail,
+            &mut out,
+        )?;
         let (wanted, line, size): (u8, &[u8], Option<usize>) = match fail {
             0 | 1 => (2, b"cannot read f\n", None),
             2 => (3, b"cannot write w\n", None),
@@ -542,14 +548,22 @@ fn a_failing_call_of_verify_is_told(rt: HostRuntime) -> Result<(), Fail> {
 #[test]
 fn a_refused_order_is_read_to_its_end(rt: HostRuntime) -> Result<(), Fail> {
     let alloc = rt.alloc();
-    let mut order = Vec::from_slice(alloc, b"order engine 1 blocks 100 scripts 1\n0 0 0 0 on 0 69 0\n")?;
+    let mut order = Vec::from_slice(
+        alloc,
+        b"order engine 1 blocks 100 scripts 1\n0 0 0 0 on 0 69 0\n",
+    )?;
     for _ in 0..7000 {
         order.extend_from_slice(b"0 0 0 0 on\n")?;
     }
     let files: [(&str, &[u8]); 1] = [("f", order.as_slice())];
     // Two pieces of the order, and its end. The sound file is not looked at: that it is not there is not told.
     for (words, fail, wanted, line) in [
-        (["replay", "f", "w"], 1u64, 2u8, b"cannot read f\n".as_slice()),
+        (
+            ["replay", "f", "w"],
+            1u64,
+            2u8,
+            b"cannot read f\n".as_slice(),
+        ),
         (["replay", "f", "w"], 2, 2, b"cannot read f\n"),
         (["replay", "f", "w"], 3, 4, b"order line 2: line\n"),
         (["verify", "f", "w"], 2, 2, b"cannot read f\n"),
@@ -604,12 +618,18 @@ fn a_shelf_may_tell_nothing(rt: HostRuntime) -> Result<(), Fail> {
     for (words, status, printed) in rows {
         let words = words_of(alloc, words)?;
         let mut out = MemOut::new(alloc, &[])?;
-        assert_eq!(rt; tool_never_failing(alloc, &words, &mut shelf, &mut out), status);
+        assert_eq!(rt;
+            tool_never_failing(alloc, &words, &mut shelf, &mut out),
+            status
+        );
         assert_eq!(rt; out.bytes(), printed);
     }
     let gen_words = words_of(alloc, &["gen", "0", "1", "1"])?;
     let mut silent = MemOut::new(alloc, &[0])?;
-    assert_eq!(rt; tool_never_failing(alloc, &gen_words, &mut shelf, &mut silent), 3);
+    assert_eq!(rt;
+        tool_never_failing(alloc, &gen_words, &mut shelf, &mut silent),
+        3
+    );
     Ok(())
 }
 

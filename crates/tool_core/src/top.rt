@@ -9,10 +9,10 @@ ghost use Rattle.tool_core.specs.Outcomes.{AnswersBy, IsComplete, IsDone, IsOutO
 ghost use Rattle.tool_core.specs.Words.{Verify, request_data, requested_by, IsInRange};
 
 use crate::bench::bench;
-use crate::librarian::{check, list, pack, pick};
-use crate::generate::generate;
-use crate::replay::replay;
 use crate::failure::say_usage;
+use crate::generate::generate;
+use crate::librarian::{check, list, pack, pick};
+use crate::replay::replay;
 use crate::verify::verify;
 use crate::words::{Request, read_words};
 use outside::{Out, Shelf};

@@ -13,9 +13,9 @@ ghost use Rattle.tool_core.specs.Endings.{IsReadFailure};
 ghost use Rattle.tool_core.specs.Words as words;
 
 use crate::comparison::compare_file;
+use crate::failure::{Failure, refuse};
 use crate::line::differs_line;
 use crate::order::read_order_file;
-use crate::failure::{Failure, refuse};
 use crate::output_file::put_report;
 use outside::{Out, Shelf};
 use std::alloc::Global;

@@ -1,4 +1,4 @@
-use Rattle.std.proofs.Common.{◌≡◌, ◌≤◌, ◌+◌, ◌*◌, ◌++◌, List, ℕ, length, refl, sym, ◌∙◌, ap, arith, append-nil, append_assoc, length-append}
+use Rattle.std.proofs.Common.{◌≡◌, ◌+◌, ◌*◌, ◌++◌, List, ℕ, length, sym, ◌∙◌, ap, arith, append_assoc, length-append}
 use Rattle.take_files.specs.Files.{wav_blocks}
 use Rattle.take_files.specs.Playback.{PlaybackView}
 use Rattle.tool_core.proofs.Sounds.{chunk_bytes}

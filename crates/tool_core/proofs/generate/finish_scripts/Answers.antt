@@ -1,4 +1,4 @@
-use Rattle.std.proofs.Common.{map, refl, ◌∙◌}
+use Rattle.std.proofs.Common.{refl, ◌∙◌}
 use Rattle.tool_core.proofs.Endings.{put_ends, several_unwritten}
 use Rattle.tool_core.proofs.Several.{named_stop}
 use Rattle.tool_core.proofs.generate.finish_scripts.Goals as goal

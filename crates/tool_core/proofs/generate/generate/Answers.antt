@@ -1,6 +1,5 @@
 use Rattle.std.proofs.Common.{[], arith, length, map, refl, ◌∙◌, ap}
 use Rattle.tool_core.specs.Words.{Gen}
-use Rattle.tool_core.specs.Lines.{scripts_line}
 use Rattle.tool_core.specs.Scripts.{shown}
 use Rattle.tool_core.specs.declared.failure.Failure.TheVariants.{Memory}
 use Rattle.tool_core.proofs.Endings.{performs, refuses, none_before, gen_does}
