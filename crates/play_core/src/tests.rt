@@ -1,10 +1,13 @@
 //! Runs of the top call over files in memory.
 
+ghost use Rattle.std.specs.Prelude.{◌≤◌};
+
 use super::*;
 use crate::one_byte::OneByteShelf;
-use outside::{Gate, MemOut, MemShelf, NoGate, SureShelf};
+use outside::{DiskShelf, Gate, MemOut, MemShelf, NoGate, Shelf, SureShelf, append_all, read_all};
 use std::alloc::{AllocError, Global};
 use std::process::Abort;
+use std::rt::Files;
 use std::sync::Wait;
 use std::sync::atomic::{AtomicU64, Ordering};
 use std::test::Fail;
@@ -320,58 +323,120 @@ fn limits_are_told<R: Threads + Wait + Sync + Abort>(
     Ok(())
 }
 
+/// What stands in both files of a run of `NOTE` over 100 blocks before its append of this number is made, those of the headers left out: how
+/// many blocks, and how many lines. The first line comes in turn 0, the second one after the block of turn 50.
+fn made_before(append: usize) -> (usize, usize)
+    ensures { (result.0 ≤ 100) × (result.1 ≤ 2) }
+{
+    if append == 0 {
+        (0, 0)
+    } else if append <= 51 {
+        (append - 1, 1)
+    } else {
+        ((append - 2).min(100), 2)
+    }
+}
+
+/// Each call of a run fails in turn: two reads, two creates, two headers, 100 blocks and two lines, and both files written out.
 fn failing_calls_are_told<R: Threads + Wait + Sync + Abort>(
     rt: &R,
     alloc: Global,
     maps: &MapSet,
 ) -> Result<(), Fail> {
-    let words = words_of(alloc, "o.wav o.txt 3 - a.txt")?;
-    let script = b"midi 1\n1 on 0 69 100\n";
+    let words = words_of(alloc, "o.wav o.txt 100 - a.txt")?;
     let mut whole = MemShelf::new(alloc, &[])?;
-    whole.put_file(alloc, "a.txt", script)?;
+    whole.put_file(alloc, "a.txt", NOTE)?;
     let mut out = MemOut::new(alloc, &[])?;
     assert_eq!(rt;
         play_main(rt, alloc, &words, &mut whole, &mut out, &NoGate, maps),
         0
     );
-    // Two reads, two creates, two headers; then the first block, the line of the second turn, and two more blocks; and both files
-    // are written out.
-    let lines: [&[u8]; 12] = [
-        b"cannot read a.txt\n",
-        b"cannot read a.txt\n",
-        b"cannot write o.wav\n",
-        b"cannot write o.txt\n",
-        b"cannot write o.wav\n",
-        b"cannot write o.txt\n",
-        b"cannot write o.wav\n",
-        b"cannot write o.txt\n",
-        b"cannot write o.wav\n",
-        b"cannot write o.wav\n",
-        b"cannot write o.wav\n",
-        b"cannot write o.txt\n",
-    ];
-    for (call, line) in lines.iter().enumerate() {
+    let sound = whole.file("o.wav").unwrap_or(b"");
+    let order = whole.file("o.txt").unwrap_or(b"");
+    let header = b"order engine 1 blocks 100 scripts 1\n".len();
+    let first = header + b"0 0 0 0 on 0 69 100\n".len();
+    for call in 0..110usize {
         let mut shelf = MemShelf::new(alloc, &[call as u64])?;
-        shelf.put_file(alloc, "a.txt", script)?;
+        shelf.put_file(alloc, "a.txt", NOTE)?;
         let mut out = MemOut::new(alloc, &[])?;
         let status = play_main(rt, alloc, &words, &mut shelf, &mut out, &NoGate, maps);
         assert_eq!(rt; status, if call < 2 { 2 } else { 3 });
-        assert_eq!(rt; out.bytes(), *line);
-        let sound = shelf.file("o.wav").unwrap_or(b"");
-        assert!(rt; whole.file("o.wav").unwrap_or(b"").starts_with(sound));
-        let order = shelf.file("o.txt").unwrap_or(b"");
-        assert!(rt; whole.file("o.txt").unwrap_or(b"").starts_with(order));
+        let line: &[u8] = match call {
+            0 | 1 => b"cannot read a.txt\n",
+            3 | 5 | 6 | 57 | 109 => b"cannot write o.txt\n",
+            _ => b"cannot write o.wav\n",
+        };
+        assert_eq!(rt; out.bytes(), line);
+        // no file is made before call 3, no order before call 4, and each holds what was appended before
+        let (blocks, lines) = made_before(call.max(6) - 6);
+        let own = match call {
+            0..=2 => None,
+            3 | 4 => sound.get(..0),
+            _ => sound.get(..44 + 128 * blocks),
+        };
+        assert!(rt; shelf.file("o.wav") == own);
+        let own = match call {
+            0..=3 => None,
+            4 | 5 => order.get(..0),
+            _ => order.get(..[header, first, order.len()][lines]),
+        };
+        assert!(rt; shelf.file("o.txt") == own);
     }
     // The report can't be put, and the files are whole.
     let mut shelf = MemShelf::new(alloc, &[])?;
-    shelf.put_file(alloc, "a.txt", script)?;
+    shelf.put_file(alloc, "a.txt", NOTE)?;
     let mut out = MemOut::new(alloc, &[0])?;
     assert_eq!(rt;
         play_main(rt, alloc, &words, &mut shelf, &mut out, &NoGate, maps),
         3
     );
+    assert_eq!(rt; out.bytes(), b"".as_slice());
     assert!(rt; shelf.file("o.wav") == whole.file("o.wav"));
     assert!(rt; shelf.file("o.txt") == whole.file("o.txt"));
+    Ok(())
+}
+
+/// A shelf that holds back has written out both files when a run ends. Where OUT is on a device that takes nothing, ORDER has what came
+/// before the failing write.
+fn held_back_is_written_out<R: Threads + Wait + Sync + Files + Abort>(
+    rt: &R,
+    alloc: Global,
+    maps: &MapSet,
+) -> Result<(), Fail> {
+    let mut inner = DiskShelf::new(rt);
+    inner.create("a.txt")?;
+    append_all(&mut inner, "a.txt", NOTE)?;
+    let order =
+        b"order engine 1 blocks 100 scripts 1\n0 0 0 0 on 0 69 100\n50 50 0 1 off 0 69\n".as_slice();
+    for (words, status, line) in [
+        (
+            "o.wav o.txt 100 - a.txt",
+            0,
+            b"ok blocks 100 commands 2\n".as_slice(),
+        ),
+        (
+            "/dev/full o.txt 100 - a.txt",
+            3,
+            b"cannot write /dev/full\n".as_slice(),
+        ),
+    ] {
+        let mut shelf = DiskShelf::holding_back(rt);
+        let mut out = MemOut::new(alloc, &[])?;
+        let words = words_of(alloc, words)?;
+        assert_eq!(rt;
+            play_main(rt, alloc, &words, &mut shelf, &mut out, &NoGate, maps),
+            status
+        );
+        assert_eq!(rt; out.bytes(), line);
+        let Ok(text) = read_all(alloc, &mut inner, "o.txt", 1000) else {
+            return Err("o.txt".into());
+        };
+        assert_eq!(rt; text.as_slice(), order);
+    }
+    let Ok(sound) = read_all(alloc, &mut inner, "o.wav", 20_000) else {
+        return Err("o.wav".into());
+    };
+    assert_eq!(rt; sound.len(), 12844);
     Ok(())
 }
 
@@ -405,14 +470,24 @@ fn many_scripts_are_played<R: Threads + Wait + Sync + Abort>(
     alloc: Global,
     maps: &MapSet,
 ) -> Result<(), Fail> {
-    let mut text = String::from_str(alloc, "o.wav o.txt 3 5")?;
-    for _ in 0..256 {
-        text.push_str(" a.txt")?;
-    }
     let mut shelf = MemShelf::new(alloc, &[])?;
     shelf.put_file(alloc, "a.txt", b"midi 1\n0 off 0 1\n")?;
+    let mut text = String::from_str(alloc, "o.wav o.txt 3 -")?;
+    let mut few = String::from_str(alloc, "o.wav o.txt 3 5")?;
+    for _ in 0..256 {
+        text.push_str(" a.txt")?;
+        few.push_str(" a.txt")?;
+    }
     let mut out = MemOut::new(alloc, &[])?;
     let words = words_of(alloc, &text)?;
+    assert_eq!(rt;
+        play_main(rt, alloc, &words, &mut shelf, &mut out, &NoGate, maps),
+        0
+    );
+    assert_eq!(rt; out.bytes(), b"ok blocks 3 commands 256\n".as_slice());
+    let order = shelf.file("o.txt").unwrap_or(b"");
+    assert_eq!(rt; order.iter().filter(|byte| **byte == b'\n').count(), 257);
+    let words = words_of(alloc, &few)?;
     let status = play_main(rt, alloc, &words, &mut shelf, &mut out, &NoGate, maps);
     assert!(rt; status == 0 || status == 5);
     text.push_str(" a.txt")?;
@@ -514,7 +589,8 @@ fn scripts_run_side_by_side<R: Threads + Wait + Sync + Abort>(
         0
     );
     assert_eq!(rt; gate.met.load(Ordering::SeqCst), 2);
-    // One place: a script that has its turn before anything is taken is refused in each turn.
+    // One place: a script that has its turn before anything is taken is refused in each turn. A single script has, also where no gate
+    // holds the taking half back.
     let cases: [(&str, u8, &[u8], &[u8]); 2] = [
         (
             "o.wav o.txt 3 1 b.txt",
@@ -534,12 +610,15 @@ fn scripts_run_side_by_side<R: Threads + Wait + Sync + Abort>(
             turns: AtomicU64::new(0),
             passes: AtomicU64::new(0),
         };
-        let mut out = MemOut::new(alloc, &[])?;
         let words = words_of(alloc, words)?;
-        assert_eq!(rt;
-            play_main(rt, alloc, &words, &mut shelf, &mut out, &gate, maps),
-            status
-        );
+        let mut out = MemOut::new(alloc, &[])?;
+        let held = play_main(rt, alloc, &words, &mut shelf, &mut out, &gate, maps);
+        assert_eq!(rt; held, status);
+        assert_eq!(rt; out.bytes(), line);
+        assert_eq!(rt; shelf.file("o.txt").unwrap_or(b""), order);
+        let mut out = MemOut::new(alloc, &[])?;
+        let free = play_main(rt, alloc, &words, &mut shelf, &mut out, &NoGate, maps);
+        assert_eq!(rt; free, status);
         assert_eq!(rt; out.bytes(), line);
         assert_eq!(rt; shelf.file("o.txt").unwrap_or(b""), order);
     }
@@ -554,6 +633,7 @@ fn small_runs(rt: HostRuntime) -> Result<(), Fail> {
     samples_are_known(&rt, alloc, &maps)?;
     refusals_are_told(&rt, alloc, &maps)?;
     failing_calls_are_told(&rt, alloc, &maps)?;
+    held_back_is_written_out(&rt, alloc, &maps)?;
     scripts_run_side_by_side(&rt, alloc, &maps)?;
     limits_are_told(&rt, alloc, &maps)?;
     many_notes_are_played(&rt, alloc, &maps)?;
