@@ -8,11 +8,14 @@ use command_queue::{Line, SendEnd};
 use command_set::Command;
 use instrument::Engine;
 use live_renderer::{LiveRenderer, Stop, TakeOne};
-use outside::{MemOut, MemShelf, NoGate, SureShelf};
+use outside::{DiskShelf, MemOut, MemShelf, NoGate, Shelf, SureShelf, append_all, write_out};
 use play_core::{play_main, play_never_failing};
 use std::alloc::{AllocError, Global};
+use std::process::Abort;
+use std::rt::Files;
 use std::sync::Wait;
 use std::test::Fail;
+use std::thread::Threads;
 use tool_core::tool_main;
 use velocity_map::{Curve, MapSet, VelocityMap};
 
@@ -65,20 +68,145 @@ fn hundred_notes(alloc: Global, script: u32) -> Result<Vec<u8>, AllocError> {
     Ok(text)
 }
 
-/// How many of the script's notes stand in the order, from the first on; none stands behind one that lacks.
-fn notes_in(alloc: Global, order: &str, script: u32) -> Result<u32, AllocError> {
-    let mut count = 0u32;
-    for n in 0..100u32 {
-        let (due, key) = (n / 10, n % 100 + script % 20);
-        let entry = format!(in alloc; " {due} {script} {n} on 0 {key} 100\n")?;
-        if order.contains(entry.as_str()) {
-            if count < n {
-                return Ok(1000);
+/// How many notes of each of three scripts stand in the lines of an order: each script's own, in its order, numbered from 0 on, with its due
+/// block, and at no block before that. `None` where a line says something else.
+fn notes_in(alloc: Global, order: &str) -> Result<Option<[u32; 3]>, Fail> {
+    let mut counts = [0u32; 3];
+    let mut last = 0u32;
+    for line in order.split('\n').skip(1) {
+        if line.is_empty() {
+            continue;
+        }
+        let mut found = false;
+        for script in 0..3u32 {
+            let n = counts[script as usize];
+            let (due, key) = (n / 10, n % 100 + script % 20);
+            let entry = format!(in alloc; " {due} {script} {n} on 0 {key} 100")?;
+            let Some(block) = line.strip_suffix(entry.as_str()) else {
+                continue;
+            };
+            let Ok(block) = block.parse::<u32>() else {
+                return Ok(None);
+            };
+            if block < due || block < last || n >= 100 {
+                return Ok(None);
             }
-            count = n + 1;
+            last = block;
+            counts[script as usize] = n + 1;
+            found = true;
+            break;
+        }
+        if !found {
+            return Ok(None);
         }
     }
-    Ok(count)
+    Ok(Some(counts))
+}
+
+/// How many notes of three such scripts an order lists, each script's as `notes_in` wants them.
+fn notes_listed(alloc: Global, order: &[u8]) -> Result<u32, Fail> {
+    let Ok(text) = String::from_utf8(Vec::from_slice(alloc, order)?) else {
+        return Err("no text".into());
+    };
+    match notes_in(alloc, &text)? {
+        Some(counts) => Ok(
+            counts[0]
+                .saturating_add(counts[1])
+                .saturating_add(counts[2]),
+        ),
+        None => Err("another order".into()),
+    }
+}
+
+/// Whether `tool verify` finds the two files of a run the same.
+fn is_verified<S: Shelf>(alloc: Global, shelf: &mut S) -> Result<bool, AllocError> {
+    let words = words_of(alloc, "verify o.txt o.wav")?;
+    let mut told = MemOut::new(alloc, &[])?;
+    let status = tool_main(alloc, &words, shelf, &mut told);
+    Ok(status == 0 && told.bytes() == b"same\n".as_slice())
+}
+
+/// Three scripts of a hundred notes go through one place.
+fn three_scripts_share_a_place<R: Threads + Wait + Sync + Abort>(
+    rt: &R,
+    alloc: Global,
+    maps: &MapSet,
+) -> Result<(), Fail> {
+    let mut shelf = MemShelf::new(alloc, &[])?;
+    shelf.put_file(alloc, "a.txt", &hundred_notes(alloc, 0)?)?;
+    shelf.put_file(alloc, "b.txt", &hundred_notes(alloc, 1)?)?;
+    shelf.put_file(alloc, "c.txt", &hundred_notes(alloc, 2)?)?;
+    let words = words_of(alloc, "o.wav o.txt - 1 a.txt b.txt c.txt")?;
+    let mut out = MemOut::new(alloc, &[])?;
+    let status = play_main(rt, alloc, &words, &mut shelf, &mut out, &NoGate, maps);
+    assert!(rt; is_verified(alloc, &mut shelf)?);
+    let order = shelf.file("o.txt").unwrap_or(b"");
+    let all = notes_listed(alloc, order)?;
+    assert!(rt; (status == 0 && all == 300) || (status == 5 && all < 300));
+    Ok(())
+}
+
+/// Two scripts have a note each at block 0.
+fn two_notes_are_due_at_once<R: Threads + Wait + Sync + Abort>(
+    rt: &R,
+    alloc: Global,
+    maps: &MapSet,
+) -> Result<(), Fail> {
+    let mut shelf = MemShelf::new(alloc, &[])?;
+    shelf.put_file(alloc, "a.txt", b"midi 1\n0 on 0 60 100\n")?;
+    shelf.put_file(alloc, "b.txt", b"midi 1\n0 on 0 64 100\n")?;
+    let words = words_of(alloc, "o.wav o.txt 10 - a.txt b.txt")?;
+    let mut out = MemOut::new(alloc, &[])?;
+    let status = play_main(rt, alloc, &words, &mut shelf, &mut out, &NoGate, maps);
+    assert_eq!(rt; status, 0);
+    assert_eq!(rt; out.bytes(), b"ok blocks 10 commands 2\n".as_slice());
+    assert!(rt; is_verified(alloc, &mut shelf)?);
+    Ok(())
+}
+
+/// Two thousand notes.
+fn many_notes(alloc: Global) -> Result<Vec<u8>, AllocError> {
+    let mut notes = Vec::from_slice(alloc, b"midi 1\n")?;
+    for n in 0..2000u32 {
+        let key = n % 128;
+        let (on, off) = (10 * n, 10 * n + 5);
+        let lines = format!(in alloc; "{on} on 0 {key} 100\n{off} off 0 {key}\n")?;
+        notes.extend_from_slice(lines.as_bytes())?;
+    }
+    Ok(notes)
+}
+
+/// A cartridge beside two thousand notes, over a shelf that never fails and on disk.
+fn a_cartridge_stands_beside_notes<R: Threads + Wait + Sync + Files + Abort>(
+    rt: &R,
+    alloc: Global,
+    maps: &MapSet,
+) -> Result<(), Fail> {
+    let cartridge = Cartridge::blank(alloc)?.write(alloc, 0)?;
+    let notes = many_notes(alloc)?;
+    let mut sure = SureShelf::new(alloc);
+    sure.put_file(alloc, "cart.syx", &cartridge)?;
+    sure.put_file(alloc, "notes.txt", &notes)?;
+    let words = words_of(alloc, "o.wav o.txt - - cart.syx notes.txt")?;
+    let mut out = MemOut::new(alloc, &[])?;
+    assert_eq!(rt;
+        play_never_failing(rt, alloc, &words, &mut sure, &mut out, &NoGate, maps),
+        0
+    );
+    assert_eq!(rt; out.bytes(), b"ok blocks 20196 commands 4001\n".as_slice());
+    let mut disk = DiskShelf::holding_back(rt);
+    disk.create("cart.syx")?;
+    append_all(&mut disk, "cart.syx", &cartridge)?;
+    write_out(&mut disk, "cart.syx")?;
+    disk.create("notes.txt")?;
+    append_all(&mut disk, "notes.txt", &notes)?;
+    write_out(&mut disk, "notes.txt")?;
+    let mut out = MemOut::new(alloc, &[])?;
+    let status = play_main(rt, alloc, &words, &mut disk, &mut out, &NoGate, maps);
+    assert_eq!(rt; status, 0);
+    assert_eq!(rt; out.bytes(), b"ok blocks 20196 commands 4001\n".as_slice());
+    assert!(rt; is_verified(alloc, &mut disk)?);
+    Ok(())
 }
 
 #[test]
@@ -92,46 +220,7 @@ fn runs_are_verified(rt: HostRuntime) -> Result<(), Fail> {
         VelocityMap::new(Curve::Soft, soft),
         VelocityMap::new(Curve::Hard, hard),
     );
-    let mut shelf = MemShelf::new(alloc, &[])?;
-    shelf.put_file(alloc, "a.txt", &hundred_notes(alloc, 0)?)?;
-    shelf.put_file(alloc, "b.txt", &hundred_notes(alloc, 1)?)?;
-    shelf.put_file(alloc, "c.txt", &hundred_notes(alloc, 2)?)?;
-    let words = words_of(alloc, "o.wav o.txt - 1 a.txt b.txt c.txt")?;
-    let mut out = MemOut::new(alloc, &[])?;
-    let status = play_main(&rt, alloc, &words, &mut shelf, &mut out, &NoGate, &maps);
-    let verify = words_of(alloc, "verify o.txt o.wav")?;
-    let mut told = MemOut::new(alloc, &[])?;
-    assert_eq!(rt; tool_main(alloc, &verify, &mut shelf, &mut told), 0);
-    assert_eq!(rt; told.bytes(), b"same\n".as_slice());
-    let order = String::from_utf8(Vec::from_slice(alloc, shelf.file("o.txt").unwrap_or(b""))?);
-    let Ok(order) = order else {
-        return Err("no text".into());
-    };
-    let mut all = 0u32;
-    for script in 0..3u32 {
-        let count = notes_in(alloc, &order, script)?;
-        assert!(rt; count <= 100);
-        all = all.saturating_add(count);
-    }
-    assert!(rt; (status == 0 && all == 300) || (status == 5 && all < 300));
-    // A cartridge beside two thousand notes.
-    let blank = Cartridge::blank(alloc)?;
-    let mut notes = Vec::from_slice(alloc, b"midi 1\n")?;
-    for n in 0..2000u32 {
-        let key = n % 128;
-        let (on, off) = (10 * n, 10 * n + 5);
-        let lines = format!(in alloc; "{on} on 0 {key} 100\n{off} off 0 {key}\n")?;
-        notes.extend_from_slice(lines.as_bytes())?;
-    }
-    let mut sure = SureShelf::new(alloc);
-    sure.put_file(alloc, "cart.syx", &blank.write(alloc, 0)?)?;
-    sure.put_file(alloc, "notes.txt", &notes)?;
-    let words = words_of(alloc, "o.wav o.txt - - cart.syx notes.txt")?;
-    let mut out = MemOut::new(alloc, &[])?;
-    assert_eq!(rt;
-        play_never_failing(&rt, alloc, &words, &mut sure, &mut out, &NoGate, &maps),
-        0
-    );
-    assert_eq!(rt; out.bytes(), b"ok blocks 20196 commands 4001\n".as_slice());
-    Ok(())
+    three_scripts_share_a_place(&rt, alloc, &maps)?;
+    two_notes_are_due_at_once(&rt, alloc, &maps)?;
+    a_cartridge_stands_beside_notes(&rt, alloc, &maps)
 }
