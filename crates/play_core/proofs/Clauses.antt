@@ -385,12 +385,13 @@ module _ (words : List (List ℕ)) (a : RequestData) (before now : Snapshot) (st
   of_order P f = of_done (λ b plans. (o : OrderData) → Lists now.files b.order o → P b plans o)
       (λ d told is o lists. subst (λ (x : OrderData). P a d.plans x) (sym (same_order d told is o lists)) (f d told is))
 
-  pub clause_order : Played words status before.files (λ b plans. (o : OrderData) × Lists now.files b.order o × (o.scripts ≡ length b.scripts))
-  clause_order = of_done (λ b plans. (o : OrderData) × Lists now.files b.order o × (o.scripts ≡ length b.scripts))
+  pub clause_order : Played words status before.files (λ b plans. (o : OrderData) × Lists now.files b.order o × (o.scripts ≡ length b.scripts) × ((other : OrderData) → Lists now.files b.order other → other ≡ o))
+  clause_order = of_done (λ b plans. (o : OrderData) × Lists now.files b.order o × (o.scripts ≡ length b.scripts) × ((other : OrderData) → Lists now.files b.order other → other ≡ o))
       (λ d told is. (
         data_of a d.plans d.journal,
         (subst (λ (f : Option (List ℕ)). IsSomeAnd f (λ text. IsOrder text (data_of a d.plans d.journal))) (sym (order_bytes d told is)) (record { ordered = d.ordered; spelled = refl })),
         d.planned.0,
+        same_order d told is,
       ))
 
   pub clause_blocks : PlayedAs words status before.files now.files (λ b plans o. o.blocks ≡ blocks_of_run b.blocks plans)

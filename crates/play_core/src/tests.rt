@@ -104,6 +104,29 @@ fn runs_are_written<R: Threads + Wait + Sync + Abort>(
     Ok(())
 }
 
+/// A script with no command: the sound file's header and one block of silence.
+fn silence_is_written<R: Threads + Wait + Sync + Abort>(
+    rt: &R,
+    alloc: Global,
+    maps: &MapSet,
+) -> Result<(), Fail> {
+    let words = words_of(alloc, "o.wav o.txt 1 - e.txt")?;
+    let mut shelf = MemShelf::new(alloc, &[])?;
+    shelf.put_file(alloc, "e.txt", b"midi 1\n")?;
+    let mut out = MemOut::new(alloc, &[])?;
+    assert_eq!(rt;
+        play_main(rt, alloc, &words, &mut shelf, &mut out, &NoGate, maps),
+        0
+    );
+    let mut sound = Vec::from_slice(
+        alloc,
+        b"RIFF\xa4\0\0\0WAVEfmt \x10\0\0\0\x01\0\x01\0\x44\xac\0\0\x88\x58\x01\0\x02\0\x10\0data\x80\0\0\0",
+    )?;
+    sound.resize(172, 0)?;
+    assert!(rt; shelf.file("o.wav") == Some(sound.as_slice()));
+    Ok(())
+}
+
 fn samples_are_known<R: Threads + Wait + Sync + Abort>(
     rt: &R,
     alloc: Global,
@@ -275,7 +298,10 @@ fn refusals_are_told<R: Threads + Wait + Sync + Abort>(
             status
         );
         assert_eq!(rt; out.bytes(), line);
-        assert!(rt; status == 0 || shelf.file("o.wav").is_none());
+        for name in ["o.wav", "o.txt", "x.wav"] {
+            assert!(rt; status == 0 || shelf.file(name).is_none());
+        }
+        assert!(rt; shelf.file("a.txt") == Some(script) && shelf.file("b.txt") == Some(NOTE));
     }
     Ok(())
 }
@@ -591,7 +617,13 @@ fn scripts_run_side_by_side<R: Threads + Wait + Sync + Abort>(
     assert_eq!(rt; gate.met.load(Ordering::SeqCst), 2);
     // One place: a script that has its turn before anything is taken is refused in each turn. A single script has, also where no gate
     // holds the taking half back.
-    let cases: [(&str, u8, &[u8], &[u8]); 2] = [
+    let cases: [(&str, u8, &[u8], &[u8]); 3] = [
+        (
+            "o.wav o.txt 10 1 b.txt",
+            0,
+            b"ok blocks 10 commands 3\n",
+            b"order engine 1 blocks 10 scripts 1\n0 0 0 0 on 0 60 100\n1 0 0 1 on 0 64 100\n2 0 0 2 on 0 67 100\n",
+        ),
         (
             "o.wav o.txt 3 1 b.txt",
             0,
@@ -630,6 +662,7 @@ fn small_runs(rt: HostRuntime) -> Result<(), Fail> {
     let alloc = rt.alloc();
     let maps = make_maps!(alloc);
     runs_are_written(&rt, alloc, &maps)?;
+    silence_is_written(&rt, alloc, &maps)?;
     samples_are_known(&rt, alloc, &maps)?;
     refusals_are_told(&rt, alloc, &maps)?;
     failing_calls_are_told(&rt, alloc, &maps)?;

@@ -46,10 +46,11 @@ pub fn play_main<R: Threads + Wait + Sync, S: Shelf, O: Out, G: Gate>(
 ) -> u8
     ensures status { IsOneOf result (0 ∷ 1 ∷ 2 ∷ 3 ∷ 4 ∷ 5 ∷ 6 ∷ 8 ∷ []) }
 
-    // The headline: 0 and 5 over told files. ORDER is the order of just one journal, with as many scripts as were named. All that follows
-    // speaks of this journal.
+    // The headline: 0 and 5 over told files. ORDER is the order of one journal and of no other, with as many scripts as were named. All that
+    // follows speaks of this journal.
     ensures order { Played (map string_bytes words.now) result (S.files shelf.old)
-        (λ a plans. (o : OrderData) × Lists (S.files shelf.new) a.order o × (o.scripts ≡ length a.scripts)) }
+        (λ a plans. (o : OrderData) × Lists (S.files shelf.new) a.order o × (o.scripts ≡ length a.scripts)
+        × ((other : OrderData) → Lists (S.files shelf.new) a.order other → other ≡ o)) }
     // It has as many blocks as were asked for, or 201 more than the greatest block that a command is due at.
     ensures blocks { PlayedAs (map string_bytes words.now) result (S.files shelf.old) (S.files shelf.new)
         (λ a plans o. o.blocks ≡ blocks_of_run a.blocks plans) }

@@ -126,6 +126,47 @@ fn is_verified<S: Shelf>(alloc: Global, shelf: &mut S) -> Result<bool, AllocErro
     Ok(status == 0 && told.bytes() == b"same\n".as_slice())
 }
 
+/// The files of one script, through ample places and through one place, are found the same; with the last byte of the sound changed they
+/// aren't.
+fn one_script_is_verified<R: Threads + Wait + Sync + Abort>(
+    rt: &R,
+    alloc: Global,
+    maps: &MapSet,
+) -> Result<(), Fail> {
+    let cases: [(&str, &[u8], &[u8]); 2] = [
+        (
+            "o.wav o.txt 100 - a.txt",
+            b"midi 1\n0 on 0 69 100\n50 off 0 69\n",
+            b"ok blocks 100 commands 2\n",
+        ),
+        (
+            "o.wav o.txt 10 1 a.txt",
+            b"midi 1\n0 on 0 60 100\n0 on 0 64 100\n0 on 0 67 100\n",
+            b"ok blocks 10 commands 3\n",
+        ),
+    ];
+    for (words, script, line) in cases {
+        let mut shelf = MemShelf::new(alloc, &[])?;
+        shelf.put_file(alloc, "a.txt", script)?;
+        let words = words_of(alloc, words)?;
+        let mut out = MemOut::new(alloc, &[])?;
+        let status = play_main(rt, alloc, &words, &mut shelf, &mut out, &NoGate, maps);
+        assert_eq!(rt; status, 0);
+        assert_eq!(rt; out.bytes(), line);
+        assert!(rt; is_verified(alloc, &mut shelf)?);
+        let mut sound = Vec::from_slice(alloc, shelf.file("o.wav").unwrap_or(b""))?;
+        let last = sound.pop().unwrap_or(0);
+        sound.push(last ^ 1)?;
+        shelf.put_file(alloc, "o.wav", &sound)?;
+        let words = words_of(alloc, "verify o.txt o.wav")?;
+        let mut told = MemOut::new(alloc, &[])?;
+        assert_eq!(rt; tool_main(alloc, &words, &mut shelf, &mut told), 7);
+        let line = format!(in alloc; "differs at {}\n", sound.len().saturating_sub(1))?;
+        assert_eq!(rt; told.bytes(), line.as_bytes());
+    }
+    Ok(())
+}
+
 /// Three scripts of a hundred notes go through one place.
 fn three_scripts_share_a_place<R: Threads + Wait + Sync + Abort>(
     rt: &R,
@@ -220,6 +261,7 @@ fn runs_are_verified(rt: HostRuntime) -> Result<(), Fail> {
         VelocityMap::new(Curve::Soft, soft),
         VelocityMap::new(Curve::Hard, hard),
     );
+    one_script_is_verified(&rt, alloc, &maps)?;
     three_scripts_share_a_place(&rt, alloc, &maps)?;
     two_notes_are_due_at_once(&rt, alloc, &maps)?;
     a_cartridge_stands_beside_notes(&rt, alloc, &maps)
