@@ -1,4 +1,4 @@
-//! A schedule as a plain program: each block is played anew from the journal so far.
+//! A schedule as a plain program: each block is played anew from the journal so far, by the instrument itself.
 
 ghost use Rattle.std.specs.Prelude.{◌≡◌, ◌<◌, ◌≤◌};
 ghost use Rattle.command_set.specs.Command.{IsInRange, content};
