@@ -1,4 +1,4 @@
-//! The rule of the queue behind a line, and what each step tells the pass that makes it.
+//! The rule of the queue of a line, and what each step tells the pass that makes it.
 ghost use Rattle.std.specs.Prelude.{ℕ, List};
 
 use command_set::Entry;

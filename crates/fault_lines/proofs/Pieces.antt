@@ -8,13 +8,13 @@ use Rattle.outside.specs.Faults.{HasCause}
 use Rattle.outside.proofs.Shelves.{then_said}
 use Rattle.fault_lines.specs.Lines.{Says}
 
--- some of the second piece, behind the whole first one, is some of both
-pub some_behind : (o mid now : Option (List ℕ)) (a b : List ℕ)
+-- some of the second piece, after the whole first one, is some of both
+pub some_after : (o mid now : Option (List ℕ)) (a b : List ℕ)
     → mid ≡ option_map (said a) o → (now ≡ mid) ⊎ SaidSome b mid now
     → (now ≡ o) ⊎ SaidSome (a ++ b) o now
-some_behind o mid now a b first (inl same) =
+some_after o mid now a b first (inl same) =
     inr (length a, omega (arith, length-append a b), same ∙ first ∙ ap (λ (l : List ℕ). option_map (said l) o) (sym (take-append_seam a b)))
-some_behind o mid now a b first (inr (count, fits, is)) =
+some_after o mid now a b first (inr (count, fits, is)) =
     inr (
       length a + count,
       omega (arith, length-append a b),

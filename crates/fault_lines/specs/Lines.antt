@@ -3,7 +3,7 @@ use Rattle.std.specs.Prelude.{◌≡◌, ◌⊎◌, ℕ, ◌≤◌, List, [], �
 use Rattle.outside.specs.Files.{said, SaidSome}
 use Rattle.outside.specs.Faults.{Rose}
 
--- the line was added, or the output failed and some of it was added, from the front
+-- the line was added, or the output failed and some of it was added, a prefix of it
 abbrev pub Says : List ℕ → Option (List ℕ) → Option (List ℕ) → ℕ → ℕ → Type 0
 Says line before now faults_before faults_now =
     ((now ≡ option_map (said line) before) × (faults_now ≡ faults_before))

@@ -1,10 +1,10 @@
 //! The lines in which a program tells what went wrong, put to an output that may fail.
 #![tactic(auto)]
 
-mod putting;
-mod saying;
+mod messages;
+mod outputs;
 
-pub use saying::{
+pub use messages::{
     say, say_cannot_read, say_cannot_write, say_limit_commands, say_limit_file, say_out_of_memory,
 };
 

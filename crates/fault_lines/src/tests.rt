@@ -1,3 +1,5 @@
+//! The lines as bytes.
+
 use super::*;
 use outside::MemOut;
 use std::test::Fail;

@@ -99,7 +99,7 @@ next_script seed n b k scripts before script old new below h g last up =
       journal = s.journal ∙ h.journal;
       waiting =
           s.waiting
-          ∙ ap (λ (front : List EntryData). front ++ more) h.waiting
+          ∙ ap (λ (prefix : List EntryData). prefix ++ more) h.waiting
           ∙ ap (λ (back : List EntryData). all_due_at seed n k b ++ back) (sym run)
           ∙ sym (flat_more (due_at seed n b) k);
       four = length-set scripts k script ∙ h.four;
@@ -143,7 +143,7 @@ first_block seed n scripts w four is none generated =
 -- what is logged when the line is settled
 pub settled_is : (seed n b : ℕ) (scripts : List GeneratedScript) (w : Core) → IsInBlock seed n b 4 scripts w → (step w Settle).journal ≡ journal_below seed n (b + 1)
 settled_is seed n b scripts w h =
-    ap (λ (front : List LoggedData). front ++ map (logged_at w.blocks) w.waiting) h.journal
+    ap (λ (prefix : List LoggedData). prefix ++ map (logged_at w.blocks) w.waiting) h.journal
     ∙ ap (λ (now : ℕ). journal_below seed n b ++ map (logged_at now) w.waiting) h.blocks
     ∙ ap (λ (es : List EntryData). journal_below seed n b ++ map (logged_at b) es) h.waiting
     ∙ sym (flat_more (block_entries seed n) b)

@@ -48,14 +48,14 @@ taken : (seed number b i k : ℕ) → ((j : ℕ) → i ≤ j → j < i + k → d
 taken seed number b i zero always = ap (due_of seed number b) (let e : i + 0 ≡ i = omega arith in e) ∙ sym (append-nil (due_of seed number b i))
 taken seed number b i (suc k) always =
     let here : (due seed (i + k) == b) ≡ true = eq-eqb (due seed (i + k)) b (always (i + k) (omega arith) (omega arith)) in
-    let front : List EntryData = due_of seed number b i in
+    let prefix : List EntryData = due_of seed number b i in
     ap (due_of seed number b) (let e : i + suc k ≡ i + k + 1 = omega arith in e)
     ∙ one_more seed number b (i + k)
     ∙ ap (λ (back : List EntryData). due_of seed number b (i + k) ++ back) (cond-true (due seed (i + k) == b) (entry seed number (i + k) ∷ []) [] here)
     ∙ ap (λ (all : List EntryData). all ++ entry seed number (i + k) ∷ []) (taken seed number b i k (λ j up below. always j up (omega (arith, below))))
-    ∙ append_assoc front (map (entry seed number) (range_with_len i k)) (entry seed number (i + k) ∷ [])
-    ∙ ap (λ (back : List EntryData). front ++ back) (sym (map-range_with_len_more (entry seed number) i k (i + k) refl))
-    ∙ ap (λ (n : ℕ). front ++ map (entry seed number) (range_with_len i n)) (let e : k + 1 ≡ suc k = omega arith in e)
+    ∙ append_assoc prefix (map (entry seed number) (range_with_len i k)) (entry seed number (i + k) ∷ [])
+    ∙ ap (λ (back : List EntryData). prefix ++ back) (sym (map-range_with_len_more (entry seed number) i k (i + k) refl))
+    ∙ ap (λ (n : ℕ). prefix ++ map (entry seed number) (range_with_len i n)) (let e : k + 1 ≡ suc k = omega arith in e)
 
 pub due_run : (seed number b n from to : ℕ) → from ≤ to → AreBefore seed n b from → AreBefore seed n (b + 1) to
     → due_of seed number b n ≡ map (entry seed number) (range_with_len from (to - from))
@@ -75,7 +75,7 @@ due_run seed number b n from to up first last =
     all
     ∙ ap (due_of seed number b) (let e : to ≡ from + (to - from) = omega (arith, up) in e)
     ∙ some
-    ∙ ap (λ (front : List EntryData). front ++ map (entry seed number) (range_with_len from (to - from))) none
+    ∙ ap (λ (prefix : List EntryData). prefix ++ map (entry seed number) (range_with_len from (to - from))) none
 
 pub none_before : (seed n : ℕ) → AreBefore seed n 0 0
 none_before seed n = record {

@@ -21,6 +21,6 @@ lines_of seed n = codes "midi 1" ++ (10 ∷ flat_map (line seed) (range_with_len
 
 pub lines_more : (seed n : ℕ) (before next : List ℕ) → before ≡ lines_of seed n → next ≡ line seed n → before ++ next ≡ lines_of seed (n + 1)
 lines_more seed n before next was is =
-    ap (λ (front : List ℕ). front ++ next) was
+    ap (λ (prefix : List ℕ). prefix ++ next) was
     ∙ ap (λ (back : List ℕ). lines_of seed n ++ back) is
     ∙ ap (λ (all : List ℕ). codes "midi 1" ++ (10 ∷ all)) (sym (flat_more (line seed) n))

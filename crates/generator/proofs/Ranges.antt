@@ -9,7 +9,7 @@ range_more : (n : ℕ) → range_with_len 0 (n + 1) ≡ range_with_len 0 n ++ n 
 range_more n =
     sym (map-id (range_with_len 0 (n + 1)))
     ∙ map-range_with_len_more (λ (k : ℕ). k) 0 n n (omega arith)
-    ∙ ap (λ (front : List ℕ). front ++ n ∷ []) (map-id (range_with_len 0 n))
+    ∙ ap (λ (prefix : List ℕ). prefix ++ n ∷ []) (map-id (range_with_len 0 n))
 
 pub flat_more : {A : Type 0} (f : ℕ → List A) (n : ℕ) → flat_map f (range_with_len 0 (n + 1)) ≡ flat_map f (range_with_len 0 n) ++ f n
 flat_more {A} f n =

@@ -58,7 +58,7 @@ one_sent c d number seed from i up made room h =
       blocks = h.blocks;
       journal = h.journal;
       waiting =
-          ap (λ (front : List EntryData). front ++ e ∷ []) h.waiting
+          ap (λ (prefix : List EntryData). prefix ++ e ∷ []) h.waiting
           ∙ append_assoc c.waiting (map (entry seed number) (range_with_len from (i - from))) (e ∷ [])
           ∙ ap (λ (x : EntryData). c.waiting ++ (map (entry seed number) (range_with_len from (i - from)) ++ x ∷ [])) same
           ∙ ap (λ (back : List EntryData). c.waiting ++ back)

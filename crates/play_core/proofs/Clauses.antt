@@ -17,7 +17,7 @@ use Rattle.script_read.specs.Plan.{plan}
 use Rattle.take_files.specs.Files.{wav}
 use Rattle.take_files.specs.Orders.{OrderData, IsOrder, IsOrdered}
 use Rattle.take_files.proofs.Laws.{orders_unique}
-use Rattle.turns.specs.Turns.{blocks_of, others_than}
+use Rattle.turns.specs.Turns.{blocks_of, others_than, plan_of}
 use Rattle.turns.specs.Timed.{ArePlayed, IsTimed}
 use Rattle.play_core.specs.declared.totals.Totals.{Totals}
 use Rattle.play_core.specs.declared.refusal.Refusal.{Refusal}
@@ -31,7 +31,8 @@ use Rattle.play_core.specs.Files.{AreBegun, with_two}
 use Rattle.outside.specs.Snapshot.{Snapshot}
 use Rattle.play_core.specs.Run.{HavePlans, IsRefused, IsStoppedRun, IsDone, IsRun, IsPlayedRun, SaysOfStop, report_of, left_of, sound_of, order_of, played}
 use Rattle.play_core.proofs.Counts.{all_played, some_left, length_blocks, length_part}
-use Rattle.play_core.specs.Headline.{Answers, Asks, HasAll, IsComplete, IsLimit, LacksSome, Lists, Played, PlayedAs, Told, WasPlayed, limit_line}
+use Rattle.play_core.proofs.Prompt.{all_prompt, one_alone}
+use Rattle.play_core.specs.Headline.{Answers, ArePrompt, Asks, HasAll, IsComplete, IsLimit, LacksSome, Lists, Played, PlayedAs, Told, WasPlayed, journal_alone, limit_line}
 
 -- the words ask for this, over files that may be told
 
@@ -411,6 +412,15 @@ module _ (words : List (List ℕ)) (a : RequestData) (before now : Snapshot) (st
 
   pub clause_timed : PlayedAs words status before.files now.files (λ b plans o. IsTimed o.journal plans (places_of_run b.places plans))
   clause_timed = of_order (λ b plans o. IsTimed o.journal plans (places_of_run b.places plans)) (λ d told is. d.timed)
+
+  pub clause_prompt : PlayedAs words status before.files now.files (λ b plans o. count_all plans ≤ places_of_run b.places plans → ArePrompt o.journal plans)
+  clause_prompt = of_order (λ b plans o. count_all plans ≤ places_of_run b.places plans → ArePrompt o.journal plans)
+      (λ d told is room. all_prompt d.plans d.journal (places_of_run a.places d.plans) d.timed room)
+
+  pub clause_alone : PlayedAs words status before.files now.files
+      (λ b plans o. count_all plans ≤ places_of_run b.places plans → length plans ≡ 1 → o.journal ≡ journal_alone 0 (plan_of plans 0))
+  clause_alone = of_order (λ b plans o. count_all plans ≤ places_of_run b.places plans → length plans ≡ 1 → o.journal ≡ journal_alone 0 (plan_of plans 0))
+      (λ d told is room one. one_alone d.plans d.journal (places_of_run a.places d.plans) d.timed room one)
 
   pub clause_others : Played words status before.files (λ b plans. (other : List ℕ) → other ≢ b.out → other ≢ b.order → file_of now.files other ≡ file_of before.files other)
   clause_others = of_done (λ b plans. (other : List ℕ) → other ≢ b.out → other ≢ b.order → file_of now.files other ≡ file_of before.files other)

@@ -18,7 +18,7 @@ use Rattle.play_core.specs.Headline.{HasAll, LacksSome}
 below_or : (a b : ℕ) → (a < b) ⊎ (b ≤ a)
 below_or a b = grind arith
 
-empty : {A : Type 0} (l : List A) → length l ≡ 0 → l ≡ []
+pub empty : {A : Type 0} (l : List A) → length l ≡ 0 → l ≡ []
 empty [] e = refl
 empty (x ∷ l) e = absurd (omega arith)
 

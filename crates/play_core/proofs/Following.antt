@@ -1,4 +1,4 @@
--- The entries of a run's journal stand behind each other as an order lists them.
+-- The entries of a run's journal stand one after the other as an order lists them.
 use Rattle.std.proofs.Common.{◌≡◌, ◌⊎◌, ℕ, zero, suc, ◌+◌, ◌-◌, ◌^◌, ◌<◌, ◌≤◌, List, [], ◌∷◌, ◌++◌, length, map, take, get_or, refl, sym, ap, ◌∙◌, subst, ⊎_elim, inl, inr, arith, length-append, eq-eqb}
 use Rattle.std.specs.Prelude.{◌==◌, Bool, true, false, cond, filter, All, slice_index, slice_index_or}
 use Rattle.std.proofs.lemmas.List.{length-map}

@@ -7,3 +7,4 @@ pub mod Runs
 pub mod Stages
 pub mod Following
 pub mod NeverFailing
+pub mod Prompt

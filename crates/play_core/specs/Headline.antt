@@ -1,13 +1,13 @@
 -- What the status says of the files and of the output.
-use Rattle.std.specs.Prelude.{◌≡◌, ◌⊎◌, ℕ, ◌<◌, ◌≤◌, List, [], ◌∷◌, ◌++◌, length, Option, Some, IfSome, IsSomeAnd, slice_index_or}
+use Rattle.std.specs.Prelude.{◌≡◌, ◌⊎◌, ℕ, ◌+◌, ◌<◌, ◌≤◌, List, [], ◌∷◌, ◌++◌, length, Option, Some, IfSome, IsSomeAnd, slice_index_or}
 use Rattle.outside.specs.Files.{Files, file_of}
 use Rattle.fault_lines.specs.Lines.{limit_file, limit_commands}
 use Rattle.fault_lines.specs.Statuses.{IsOneOf}
 use Rattle.command_set.specs.Entries.{LoggedData, entries_of, sent_by}
-use Rattle.script_plan.specs.Plan.{PlannedData}
+use Rattle.script_plan.specs.Plan.{PlannedData, dues}
 use Rattle.take_files.specs.Orders.{OrderData, IsOrder}
 use Rattle.players.specs.Players.{entries}
-use Rattle.turns.specs.Turns.{plan_of}
+use Rattle.turns.specs.Turns.{blocks_of, plan_of}
 use Rattle.play_core.specs.Words.{RequestData, requested_by}
 use Rattle.play_core.specs.Verdict.{Verdict, Lacking, LongFile, LongScripts, Faulty, ManyCommands, ManyBlocks, Plays, verdict, plans_in, places_of_run, count_all}
 use Rattle.play_core.specs.Lines.{limit_scripts, limit_blocks}
@@ -43,6 +43,16 @@ HasAll journal plans = (k : ℕ) → k < length plans → sent_by k (entries_of 
 -- of some script the journal has fewer commands than there are
 abbrev pub LacksSome : List LoggedData → List (List PlannedData) → Type 0
 LacksSome journal plans = (k : ℕ) × (k < length plans) × (length (sent_by k (entries_of journal)) < length (plan_of plans k))
+
+-- each command of each script is logged at its due block
+abbrev pub ArePrompt : List LoggedData → List (List PlannedData) → Type 0
+ArePrompt journal plans = (k : ℕ) → k < length plans → blocks_of k journal ≡ dues (plan_of plans k)
+
+-- the journal of one script, numbered from seq on, each command at its due block
+abbrev pub journal_alone : ℕ → List PlannedData → List LoggedData
+journal_alone seq [] = []
+journal_alone seq (c ∷ cs) =
+    record { block = c.due; entry = record { script = 0; seq = seq; sent_at = c.due; command = c.command } } ∷ journal_alone (seq + 1) cs
 
 -- a limit that was passed
 abbrev pub IsLimit : Verdict → Type 0

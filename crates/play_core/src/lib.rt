@@ -20,6 +20,4 @@ pub use totals::Totals;
 pub use words::Request;
 
 #[cfg(test)]
-mod one_byte;
-#[cfg(test)]
 mod tests;

@@ -3,8 +3,9 @@
 ghost use Rattle.std.specs.Prelude.{◌≤◌};
 
 use super::*;
-use crate::one_byte::OneByteShelf;
-use outside::{DiskShelf, Gate, MemOut, MemShelf, NoGate, Shelf, SureShelf, append_all, read_all};
+use outside::{
+    DiskShelf, Gate, MemOut, MemShelf, NoGate, OneByteShelf, Shelf, SureShelf, append_all, read_all,
+};
 use std::alloc::{AllocError, Global};
 use std::process::Abort;
 use std::rt::Files;

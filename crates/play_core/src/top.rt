@@ -8,6 +8,7 @@ ghost use Rattle.command_set.specs.Entries.{LoggedData};
 ghost use Rattle.take_files.specs.Files.{wav};
 ghost use Rattle.take_files.specs.Orders.{IsOrdered, OrderData};
 ghost use Rattle.turns.specs.Timed.{ArePlayed, IsTimed};
+ghost use Rattle.turns.specs.Turns.{plan_of};
 ghost use Rattle.turns.specs.Written.{HoldsNothing};
 ghost use Rattle.script_outcome.specs.declared.fault.Place.{Place};
 ghost use Rattle.script_outcome.specs.declared.fault.ScriptKind.{ScriptKind};
@@ -19,7 +20,7 @@ ghost use Rattle.play_core.specs.Lines.{fault_line, report, usage};
 ghost use Rattle.play_core.specs.Files.{AreBegun};
 ghost use Rattle.outside.specs.Snapshot.{snapshot};
 ghost use Rattle.play_core.specs.Run.{HavePlans, SaysOfStop, report_of, sound_of, order_of};
-ghost use Rattle.play_core.specs.Headline.{Answers, Asks, HasAll, IsComplete, IsLimit, LacksSome, Lists, Played, PlayedAs, Told, WasPlayed, limit_line};
+ghost use Rattle.play_core.specs.Headline.{Answers, ArePrompt, Asks, HasAll, IsComplete, IsLimit, LacksSome, Lists, Played, PlayedAs, Told, WasPlayed, journal_alone, limit_line};
 
 use crate::lines::say_usage;
 use crate::play::play;
@@ -67,6 +68,12 @@ pub fn play_main<R: Threads + Wait + Sync, S: Shelf, O: Out, G: Gate>(
     // Each is logged at its due block or above; above it, or not at all, only where the line has few places.
     ensures timed { PlayedAs (map string_bytes words.now) result (S.files shelf.old) (S.files shelf.new)
         (λ a plans o. IsTimed o.journal plans (places_of_run a.places plans)) }
+    // Where the line has a place for each command, as it has with PLACES `-`, each is logged at its due block.
+    ensures prompt { PlayedAs (map string_bytes words.now) result (S.files shelf.old) (S.files shelf.new)
+        (λ a plans o. count_all plans ≤ places_of_run a.places plans → ArePrompt o.journal plans) }
+    // One script alone then has the journal of its plan: its bytes and BLOCKS decide every byte of both files.
+    ensures alone { PlayedAs (map string_bytes words.now) result (S.files shelf.old) (S.files shelf.new)
+        (λ a plans o. count_all plans ≤ places_of_run a.places plans → length plans ≡ 1 → o.journal ≡ journal_alone 0 (plan_of plans 0)) }
     // All other files are as before, and just the report was added.
     ensures others { Played (map string_bytes words.now) result (S.files shelf.old) (λ a plans.
         (other : List ℕ) → other ≢ a.out → other ≢ a.order → file_of (S.files shelf.new) other ≡ file_of (S.files shelf.old) other) }

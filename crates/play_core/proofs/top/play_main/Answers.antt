@@ -2,7 +2,7 @@ use Rattle.std.proofs.Common.{map, string_bytes, sym}
 use Rattle.turns.specs.Written.{HoldsNothing}
 use Rattle.play_core.specs.Words.{request_data}
 use Rattle.outside.specs.Snapshot.{snapshot}
-use Rattle.play_core.proofs.Clauses.{asked_for, clause_order, clause_blocks, clause_sound, clause_all, clause_played, clause_left, clause_timed, clause_others, clause_report, clause_unread, clause_fault, clause_limit, clause_judged, clause_places, clause_complete, clause_stopped}
+use Rattle.play_core.proofs.Clauses.{asked_for, clause_order, clause_blocks, clause_sound, clause_all, clause_played, clause_left, clause_timed, clause_prompt, clause_alone, clause_others, clause_report, clause_unread, clause_fault, clause_limit, clause_judged, clause_places, clause_complete, clause_stopped}
 use Rattle.play_core.proofs.top.play_main.Goals as goal
 
 pub returns-in-Some-clause-order : goal.returns-in-Some-clause-order
@@ -50,6 +50,20 @@ returns-in-Some-clause-left g c =
 pub returns-in-Some-clause-timed : goal.returns-in-Some-clause-timed
 returns-in-Some-clause-timed g c =
     clause_timed (map string_bytes c.args.words.now) (request_data c.in-Some.request)
+    (snapshot (g.S.Shelf.files c.args.shelf.now) (g.S.Shelf.reading c.args.shelf.now) (g.S.Shelf.writing c.args.shelf.now) (g.O.Out.written c.args.out.now) (g.O.Out.faults c.args.out.now))
+    (snapshot (g.S.Shelf.files c.play.new.shelf) (g.S.Shelf.reading c.play.new.shelf) (g.S.Shelf.writing c.play.new.shelf) (g.O.Out.written c.play.new.out) (g.O.Out.faults c.play.new.out))
+    c.play.result (sym c.in-Some.ensures.asked) c.in-Some.ensures.request.differ c.play.ensures.run
+
+pub returns-in-Some-clause-prompt : goal.returns-in-Some-clause-prompt
+returns-in-Some-clause-prompt g c =
+    clause_prompt (map string_bytes c.args.words.now) (request_data c.in-Some.request)
+    (snapshot (g.S.Shelf.files c.args.shelf.now) (g.S.Shelf.reading c.args.shelf.now) (g.S.Shelf.writing c.args.shelf.now) (g.O.Out.written c.args.out.now) (g.O.Out.faults c.args.out.now))
+    (snapshot (g.S.Shelf.files c.play.new.shelf) (g.S.Shelf.reading c.play.new.shelf) (g.S.Shelf.writing c.play.new.shelf) (g.O.Out.written c.play.new.out) (g.O.Out.faults c.play.new.out))
+    c.play.result (sym c.in-Some.ensures.asked) c.in-Some.ensures.request.differ c.play.ensures.run
+
+pub returns-in-Some-clause-alone : goal.returns-in-Some-clause-alone
+returns-in-Some-clause-alone g c =
+    clause_alone (map string_bytes c.args.words.now) (request_data c.in-Some.request)
     (snapshot (g.S.Shelf.files c.args.shelf.now) (g.S.Shelf.reading c.args.shelf.now) (g.S.Shelf.writing c.args.shelf.now) (g.O.Out.written c.args.out.now) (g.O.Out.faults c.args.out.now))
     (snapshot (g.S.Shelf.files c.play.new.shelf) (g.S.Shelf.reading c.play.new.shelf) (g.S.Shelf.writing c.play.new.shelf) (g.O.Out.written c.play.new.out) (g.O.Out.faults c.play.new.out))
     c.play.result (sym c.in-Some.ensures.asked) c.in-Some.ensures.request.differ c.play.ensures.run

@@ -1,10 +1,11 @@
 //! A shelf that takes one byte an append.
 
-use outside::{Failed, Shelf};
+use crate::shelf::{Failed, Shelf};
 
-/// Serves as the shelf inside does, but takes at most one byte in each append.
+/// Serves as the shelf inside does, but takes at most one byte in each append: for tests of what is written in pieces.
 #[derive(Drop)]
 pub struct OneByteShelf<S> {
+    /// The shelf that serves.
     pub inner: S,
 }
 

@@ -1,10 +1,12 @@
+//! Pieces of a line, put one after the other to an output that may fail.
+
 ghost use Rattle.std.specs.Prelude.{◌≡◌, ◌⊎◌, ◌++◌, OnOk, OnErr, option_map};
 ghost use Rattle.outside.specs.Files.{said, SaidSome};
 ghost use Rattle.outside.specs.Faults.{HasCause};
 
 use outside::{Failed, Out, put_all};
 
-/// Puts three pieces one after the other, or the front of them where the output fails.
+/// Puts three pieces one after the other, or a prefix of them where the output fails.
 pub(crate) fn put_three<O: Out>(
     out: &mut O,
     before: &[u8],

@@ -1,9 +1,11 @@
+//! Each line of a fault, put whole or as far as the output took it.
+
 ghost use Rattle.fault_lines.specs.Lines.{Says, cannot_read, cannot_write, limit_commands, limit_file, out_of_memory};
 
-use crate::putting::put_three;
+use crate::outputs::put_three;
 use outside::{Out, put_all};
 
-/// Puts a line, or the front of it where the output fails.
+/// Puts a line, or a prefix of it where the output fails.
 pub fn say<O: Out>(out: &mut O, line: &[u8])
     ensures { Says line.now (O.written out.old) (O.written out.new) (O.faults out.old) (O.faults out.new) }
 {
