@@ -4,7 +4,8 @@ use Rattle.std.proofs.lemmas.Bool.{eqb-true, le-leb, lt-leb}
 use Rattle.std.proofs.Common.{eq-eqb}
 use Rattle.block_rates.specs.declared.level_segment.LevelSegment.{LevelSegment}
 use Rattle.block_rates.specs.Levels.{rise, risen, go, level_motion}
-use Rattle.block_rates.proofs.StageRuns.{RunsOn, lt_or_le}
+use Rattle.block_rates.specs.Segments.{RunsOn}
+use Rattle.block_rates.proofs.StageRuns.{lt_or_le}
 
 falling : (s : LevelSegment) (x m : ℕ) → s.target ≤ x → go s x (suc m) ≡ max s.target (x - suc m * s.step)
 unfolding go
@@ -58,8 +59,8 @@ begins_at : (s : LevelSegment) (x : ℕ) → go s x 0 ≡ x
 unfolding go
 begins_at s x = refl
 
-pub sloping_runs : RunsOn level_motion
-sloping_runs = record {
+pub level_runs : RunsOn level_motion
+level_runs = record {
   begins = begins_at;
   arrives = λ s x e. eqb-true x s.target e;
   stays = stays_at;

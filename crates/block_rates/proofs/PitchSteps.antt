@@ -5,7 +5,7 @@ use Rattle.std.specs.Ordering.{int_eq}
 use Rattle.std.proofs.lemmas.Int.{ints, clamps, by_lt_z}
 use Rattle.block_rates.specs.declared.pitch_segment.PitchSegment.{PitchSegment}
 use Rattle.block_rates.specs.Pitches.{pitch_moved, pitch_motion}
-use Rattle.block_rates.proofs.StageRuns.{RunsOn}
+use Rattle.block_rates.specs.Segments.{RunsOn}
 
 down_test : (a b : ℤ) → a ≤ℤ b → int_le a b ≡ true
 down_test a b h = grind (arith, ints)
@@ -86,16 +86,10 @@ go_on g x m ne =
           ∙ sym (going_up g (int_min g.target (x +ℤ pos g.step)) m (left_up g.target x g.step h ne')) ∙ ap (λ y. pitch_moved g y m) (sym e)
     ]
 
-pub gliding_runs : RunsOn pitch_motion
-gliding_runs = record {
+pub pitch_runs : RunsOn pitch_motion
+pitch_runs = record {
   begins = begins_at;
   arrives = λ g x e. same x g.target e;
   stays = λ g m. going_down g g.target m (le_self g.target) ∙ stays_down g.target (m * g.step);
   goes_on = λ g x m e. go_on g x m (other (pitch_moved g x 1) g.target e);
 }
-
-pub eq_test : (a b : ℤ) → a ≡ b → int_eq a b ≡ true
-eq_test a b h = grind (arith, ints)
-
-pub ne_test : (a b : ℤ) → a ≢ b → int_eq a b ≡ false
-ne_test a b h = grind (arith, ints)

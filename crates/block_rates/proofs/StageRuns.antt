@@ -2,13 +2,7 @@
 use Rattle.std.proofs.Common.{◌≡◌, ℕ, zero, suc, ◌+◌, ◌-◌, ◌<◌, ◌≤◌, Bool, true, false, cond, ltb, inl, inr, ◌⊎◌, List, [], ◌∷◌, refl, ap, sym, ◌∙◌, arith}
 use Rattle.std.proofs.lemmas.Bool.{ltb-true, ltb-false, lt-ltb, le-ltb}
 use Rattle.block_rates.specs.Stages.{Motion, first_from, lasts, after}
-
--- what makes stages of a kind run on step by step
-pub record RunsOn {S X : Type 0} (motion : Motion S X) : Type 0 where
-  pub begins : (s : S) (x : X) → motion.go s x 0 ≡ x
-  pub arrives : (s : S) (x : X) → motion.is_there s x ≡ true → x ≡ motion.target s
-  pub stays : (s : S) (m : ℕ) → motion.go s (motion.target s) m ≡ motion.target s
-  pub goes_on : (s : S) (x : X) (m : ℕ) → motion.is_there s (motion.go s x 1) ≡ false → motion.go s x (suc m) ≡ motion.go s (motion.go s x 1) m
+use Rattle.block_rates.specs.Segments.{RunsOn}
 
 lt_or_le_by : (a b : ℕ) (t : Bool) → ltb a b ≡ t → (a < b) ⊎ (b ≤ a)
 lt_or_le_by a b true e = inl (ltb-true a b e)

@@ -1,5 +1,6 @@
 pub mod Stages
 pub mod StageOrder
+pub mod Segments
 pub mod Levels
 pub mod Envelopes
 pub mod Pitches

@@ -2,31 +2,24 @@
 
 ghost use Rattle.std.specs.Prelude.{ℕ, ◌≡◌, ◌≤◌, pos, ◌≤ℤ◌, All, unsigned_abs, Option, None};
 ghost use Rattle.block_rates.specs.Levels.{IsLevelSegment};
+ghost use Rattle.block_rates.specs.Segments.{AllFour};
 
 use crate::level_segment::LevelSegment;
-use crate::stage::Stage;
+use crate::stages::Stages;
 
 /// The envelope generator of an operator: four stages, of which the fourth begins when the key is
 /// released.
 #[derive(Clone, Copy)]
 pub struct Envelope {
     level: u32,
-    stage: Stage,
-    first: LevelSegment,
-    second: LevelSegment,
-    third: LevelSegment,
-    fourth: LevelSegment,
+    stages: Stages<LevelSegment>,
     ghost level_bound: { level ≤ 266338304 },
-    ghost first_bound: { IsLevelSegment first },
-    ghost second_bound: { IsLevelSegment second },
-    ghost third_bound: { IsLevelSegment third },
-    ghost fourth_bound: { IsLevelSegment fourth },
+    ghost segment_bounds: { AllFour IsLevelSegment stages.first stages.second stages.third stages.fourth },
 }
 
 impl Envelope {
     ghost use Rattle.std.specs.Prelude.{◌+◌};
     ghost use Rattle.block_rates.specs.Stages.{released_after};
-    ghost use Rattle.block_rates.specs.StageOrder.{at_stage};
     ghost use Rattle.block_rates.specs.Levels.{EnvelopeSettings, envelope_level};
     ghost use Rattle.block_rates.specs.Envelopes.{IsEnvelope};
 
@@ -45,11 +38,12 @@ impl Envelope {
         let rate_scale = rate_scale as u32;
         Envelope {
             level: 0,
-            stage: Stage::First,
-            first: LevelSegment::new(rates[0], levels[0], out, rate_scale),
-            second: LevelSegment::new(rates[1], levels[1], out, rate_scale),
-            third: LevelSegment::new(rates[2], levels[2], out, rate_scale),
-            fourth: LevelSegment::new(rates[3], levels[3], out, rate_scale),
+            stages: Stages::new(
+                LevelSegment::new(rates[0], levels[0], out, rate_scale),
+                LevelSegment::new(rates[1], levels[1], out, rate_scale),
+                LevelSegment::new(rates[2], levels[2], out, rate_scale),
+                LevelSegment::new(rates[3], levels[3], out, rate_scale),
+            ),
         }
     }
 
@@ -58,7 +52,7 @@ impl Envelope {
         ensures { (s : EnvelopeSettings) (k : ℕ) (off : Option ℕ) →
             IsEnvelope self.old s k off → IsEnvelope self.new s k (released_after k off) }
     {
-        self.stage = Stage::Fourth;
+        self.stages.release();
     }
 
     /// The level of the next block, where 2^24 is one octave of gain.
@@ -70,24 +64,7 @@ impl Envelope {
         ensures low { pos 0 ≤ℤ result }
         ensures high { result ≤ℤ pos 266338304 }
     {
-        let level_segment = self.level_segment();
-        self.level = level_segment.stepped(self.level);
-        if self.level == level_segment.target {
-            self.stage = self.stage.next();
-        }
+        self.level = self.stages.step(self.level);
         self.level as i32
-    }
-
-    /// The segment of the present stage.
-    fn level_segment(&self) -> LevelSegment
-        ensures value { result ≡ at_stage self.now.stage self.now.first self.now.second self.now.third self.now.fourth }
-        ensures bound { IsLevelSegment result }
-    {
-        match self.stage {
-            Stage::First => self.first,
-            Stage::Second => self.second,
-            Stage::Third => self.third,
-            Stage::Fourth => self.fourth,
-        }
     }
 }

@@ -1,8 +1,9 @@
 //! One stage of an operator's envelope: where it leads, and how fast.
 
 ghost use Rattle.std.specs.Prelude.{◌≡◌, ◌≤◌};
-ghost use Rattle.block_rates.specs.Levels.{IsLevelSegment, target_level, rate_step, scaled_rate, go};
+ghost use Rattle.block_rates.specs.Levels.{IsLevelSegment, target_level, rate_step, scaled_rate, level_motion};
 
+use crate::stages::Segment;
 use dx_tables::constants::level;
 
 /// The level that a rising stage begins at, if it is entered below.
@@ -32,14 +33,18 @@ impl LevelSegment {
             step: step(scaled),
         }
     }
+}
 
-    /// The level one step on from `level`.
-    pub(crate) fn stepped(self, level: u32) -> u32
-        requires level_segment { IsLevelSegment self }
-        requires level { level ≤ 266338304 }
-        ensures value { result ≡ go self level 1 }
-        ensures bound { result ≤ 266338304 }
-    {
+impl Segment for LevelSegment {
+    type Value = u32;
+
+    ghost motion = { level_motion };
+
+    ghost IsBounded = { IsLevelSegment };
+
+    ghost IsWithin = { λ x. x ≤ 266338304 };
+
+    fn stepped(self, level: u32) -> u32 {
         if self.target <= level {
             self.target.max(level.saturating_sub(self.step))
         } else {
@@ -47,6 +52,10 @@ impl LevelSegment {
             self.target
                 .min(from + ((0x1100_0000 - from) >> 24) * self.step)
         }
+    }
+
+    fn is_at_target(self, level: &u32) -> bool {
+        *level == self.target
     }
 }
 

@@ -9,6 +9,7 @@ mod lfo;
 mod pitch_envelope;
 mod pitch_segment;
 mod stage;
+mod stages;
 mod wave;
 
 pub use envelope::Envelope;

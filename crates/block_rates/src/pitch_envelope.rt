@@ -2,30 +2,23 @@
 
 ghost use Rattle.std.specs.Prelude.{ℕ, ◌≡◌, ◌≤◌, ◌^◌, pos, neg_ℤ, ◌≤ℤ◌, All, Option, None};
 ghost use Rattle.block_rates.specs.Pitches.{IsPitch, IsPitchSegment};
+ghost use Rattle.block_rates.specs.Segments.{AllFour};
 
 use crate::pitch_segment::{PitchSegment, pitch};
-use crate::stage::Stage;
+use crate::stages::Stages;
 
 /// The pitch envelope of a note: four stages, of which the fourth begins when the key is released.
 #[derive(Clone, Copy)]
 pub struct PitchEnvelope {
     level: i32,
-    stage: Stage,
-    first: PitchSegment,
-    second: PitchSegment,
-    third: PitchSegment,
-    fourth: PitchSegment,
+    stages: Stages<PitchSegment>,
     ghost level_bound: { IsPitch level },
-    ghost first_bound: { IsPitchSegment first },
-    ghost second_bound: { IsPitchSegment second },
-    ghost third_bound: { IsPitchSegment third },
-    ghost fourth_bound: { IsPitchSegment fourth },
+    ghost segment_bounds: { AllFour IsPitchSegment stages.first stages.second stages.third stages.fourth },
 }
 
 impl PitchEnvelope {
     ghost use Rattle.std.specs.Prelude.{◌+◌};
     ghost use Rattle.block_rates.specs.Stages.{released_after};
-    ghost use Rattle.block_rates.specs.StageOrder.{at_stage};
     ghost use Rattle.block_rates.specs.Pitches.{PitchEnvelopeSettings, pitch_envelope_level};
     ghost use Rattle.block_rates.specs.PitchEnvelopes.{IsPitchEnvelope};
 
@@ -37,11 +30,12 @@ impl PitchEnvelope {
     {
         PitchEnvelope {
             level: pitch(levels[3]),
-            stage: Stage::First,
-            first: PitchSegment::new(rates[0], levels[0]),
-            second: PitchSegment::new(rates[1], levels[1]),
-            third: PitchSegment::new(rates[2], levels[2]),
-            fourth: PitchSegment::new(rates[3], levels[3]),
+            stages: Stages::new(
+                PitchSegment::new(rates[0], levels[0]),
+                PitchSegment::new(rates[1], levels[1]),
+                PitchSegment::new(rates[2], levels[2]),
+                PitchSegment::new(rates[3], levels[3]),
+            ),
         }
     }
 
@@ -50,7 +44,7 @@ impl PitchEnvelope {
         ensures { (s : PitchEnvelopeSettings) (k : ℕ) (off : Option ℕ) →
             IsPitchEnvelope self.old s k off → IsPitchEnvelope self.new s k (released_after k off) }
     {
-        self.stage = Stage::Fourth;
+        self.stages.release();
     }
 
     /// The pitch of the next block, where 2^24 is one octave.
@@ -62,24 +56,7 @@ impl PitchEnvelope {
         ensures low { neg_ℤ (pos 67108864) ≤ℤ result }
         ensures high { result ≤ℤ pos 67108864 }
     {
-        let pitch_segment = self.pitch_segment();
-        self.level = pitch_segment.stepped(self.level);
-        if self.level == pitch_segment.target {
-            self.stage = self.stage.next();
-        }
+        self.level = self.stages.step(self.level);
         self.level
-    }
-
-    /// The segment of the present stage.
-    fn pitch_segment(&self) -> PitchSegment
-        ensures value { result ≡ at_stage self.now.stage self.now.first self.now.second self.now.third self.now.fourth }
-        ensures bound { IsPitchSegment result }
-    {
-        match self.stage {
-            Stage::First => self.first,
-            Stage::Second => self.second,
-            Stage::Third => self.third,
-            Stage::Fourth => self.fourth,
-        }
     }
 }

@@ -1,8 +1,9 @@
 //! One stage of a pitch envelope: where it leads, and how fast.
 
 ghost use Rattle.std.specs.Prelude.{◌≡◌, ◌≤◌};
-ghost use Rattle.block_rates.specs.Pitches.{IsPitch, IsPitchSegment, pitch_of, pitch_step, pitch_moved};
+ghost use Rattle.block_rates.specs.Pitches.{IsPitch, IsPitchSegment, pitch_of, pitch_step, pitch_motion};
 
+use crate::stages::Segment;
 use dx_tables::constants::{pitch_level, pitch_rate};
 
 /// Where a stage of a pitch envelope leads, and by how much it moves.
@@ -26,20 +27,28 @@ impl PitchSegment {
             step: step(rate),
         }
     }
+}
 
-    /// The pitch one step on from `level`.
-    pub(crate) fn stepped(self, level: i32) -> i32
-        requires pitch_segment { IsPitchSegment self }
-        requires level { IsPitch level }
-        ensures value { result ≡ pitch_moved self level 1 }
-        ensures bound { IsPitch result }
-    {
+impl Segment for PitchSegment {
+    type Value = i32;
+
+    ghost motion = { pitch_motion };
+
+    ghost IsBounded = { IsPitchSegment };
+
+    ghost IsWithin = { IsPitch };
+
+    fn stepped(self, level: i32) -> i32 {
         let step = self.step as i32;
         if self.target <= level {
             self.target.max(level - step)
         } else {
             self.target.min(level + step)
         }
+    }
+
+    fn is_at_target(self, level: &i32) -> bool {
+        *level == self.target
     }
 }
 

@@ -205,7 +205,7 @@ const CYCLES: [(u8, u8, u32, i32, i32, i32, i64); 18] = [
 ];
 
 #[test]
-fn oscillator_gives_known_waves(rt: HostRuntime) -> Result<(), Fail> {
+fn lfo_gives_known_waves(rt: HostRuntime) -> Result<(), Fail> {
     let tables = Tables::new(rt.alloc())?;
     let mut opening = Lfo::new();
     opening.key_down();
@@ -232,7 +232,7 @@ fn oscillator_gives_known_waves(rt: HostRuntime) -> Result<(), Fail> {
 }
 
 #[test]
-fn oscillator_holds_waits_and_runs_free(rt: HostRuntime) -> Result<(), Fail> {
+fn lfo_holds_waits_and_runs_free(rt: HostRuntime) -> Result<(), Fail> {
     let tables = Tables::new(rt.alloc())?;
     let mut held = lfo(99, 0, 1, 5)?;
     held.key_down();

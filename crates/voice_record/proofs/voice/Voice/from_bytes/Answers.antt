@@ -1,16 +1,18 @@
 -- The loop clamps one number after the other.
-use Rattle.std.proofs.Common.{◌≢◌, ◌<◌, ◌∙◌, length, arith, length-set, get_or-set_other, get_or-set_same, below_more}
+use Rattle.std.proofs.Common.{◌<◌, ◌%◌, ◌∙◌, min, length, get_or, arith, length-set}
+use Rattle.std.proofs.lemmas.List.Edits.{fill_by_more}
+use Rattle.voice_record.specs.Voice.{greatest_value}
 use Rattle.voice_record.proofs.Voices.{clamped_is_voice, clamped_same}
 use Rattle.voice_record.proofs.voice.Voice.from_bytes.Goals as goal
 
 pub loop-number-preserved : goal.loop-number-preserved
-loop-number-preserved c = record {
-  count = length-set _ _ _ ∙ c.loop-number.invariant.count;
-  filled = below_more _ _
-      (λ k h. let ne : k ≢ c.loop-number.number = omega arith in rw get_or-set_other (c.loop-number.invariant.filled k h))
-      (let lt : c.loop-number.number < length c.loop-number.fields = omega arith in
-      rw get_or-set_same (rw (c.min.ensures, c.greatest.ensures.value)));
-}
+loop-number-preserved c =
+    let lt : c.loop-number.number < length c.loop-number.fields = omega arith in
+    record {
+      count = length-set _ _ _ ∙ c.loop-number.invariant.count;
+      filled = rw (c.min.ensures, c.greatest.ensures.value)
+          (fill_by_more (λ k. min (get_or c.args.bytes.now k 0 % 128) (greatest_value k)) _ _ 0 lt c.loop-number.invariant.filled);
+    }
 
 pub invariant_of-result : goal.invariant_of-result
 invariant_of-result c =

@@ -2,7 +2,7 @@ use Rattle.std.proofs.Common.{ℕ, ◌≡◌, ◌<◌, ◌+◌, ◌-◌, ◌*◌
 use Rattle.block_rates.specs.declared.level_segment.LevelSegment.{LevelSegment}
 use Rattle.block_rates.specs.Levels.{go}
 use Rattle.block_rates.proofs.LevelSteps.{rising_one, falling_one}
-use Rattle.block_rates.proofs.level_segment.LevelSegment.stepped.Goals as goal
+use Rattle.block_rates.proofs.level_segment.LevelSegmentSegment.stepped.Goals as goal
 
 pub returns-then-self-level-clause-value : goal.returns-then-self-level-clause-value
 returns-then-self-level-clause-value c = c.max.ensures ∙ ap (max c.args.self.target) c.saturating_sub.ensures ∙ sym (falling_one _ _ c.if-self-level.true)

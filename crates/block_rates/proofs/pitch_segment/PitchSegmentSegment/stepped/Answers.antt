@@ -5,7 +5,7 @@ use Rattle.dx_tables.proofs.Ranges.{fits_from_Within}
 use Rattle.block_rates.specs.declared.pitch_segment.PitchSegment.{PitchSegment}
 use Rattle.block_rates.specs.Pitches.{pitch_moved}
 use Rattle.block_rates.proofs.PitchSteps.{down_one, up_one}
-use Rattle.block_rates.proofs.pitch_segment.PitchSegment.stepped.Goals as goal
+use Rattle.block_rates.proofs.pitch_segment.PitchSegmentSegment.stepped.Goals as goal
 
 le_test : (a b : ℤ) → int_le a b ≡ true → a ≤ℤ b
 le_test a b e = grind (arith, ints)
@@ -48,9 +48,9 @@ up_is g x r f fr test e =
 pub returns-then-self-level-clause-value : goal.returns-then-self-level-clause-value
 returns-then-self-level-clause-value c =
     let r = c.requires in
-    down_is c.args.self c.args.level c.max.result (step_fits _ _ _ r.pitch_segment.0.0 r.pitch_segment.0.1 r.pitch_segment.1 r.level.0 r.level.1) (record { sfits = c.max.type_inv }) c.if-self-level.true c.max.ensures.value
+    down_is c.args.self c.args.level c.max.result (step_fits _ _ _ r.segment.0.0 r.segment.0.1 r.segment.1 r.value.0 r.value.1) (record { sfits = c.max.type_inv }) c.if-self-level.true c.max.ensures.value
 
 pub returns-else-self-level-clause-value : goal.returns-else-self-level-clause-value
 returns-else-self-level-clause-value c =
     let r = c.requires in
-    up_is c.args.self c.args.level c.min.result (step_fits _ _ _ r.pitch_segment.0.0 r.pitch_segment.0.1 r.pitch_segment.1 r.level.0 r.level.1) (record { sfits = c.min.type_inv }) c.if-self-level.false c.min.ensures.value
+    up_is c.args.self c.args.level c.min.result (step_fits _ _ _ r.segment.0.0 r.segment.0.1 r.segment.1 r.value.0 r.value.1) (record { sfits = c.min.type_inv }) c.if-self-level.false c.min.ensures.value
