@@ -69,7 +69,8 @@ found_empty e = record e { empties = one_up e.empties }
 
 -- a push found the line full, in a legal state with all entries that were accepted of this end
 abbrev pub WasFull : SendView → Type 0
-WasFull e = (taken waiting : List EntryData) × (length waiting ≡ e.line.places) × IsLegal e.line.quotas e.line.places taken waiting × (e.list ≡ sent_by e.number (taken ++ waiting))
+WasFull e = (taken waiting : List EntryData) × (length waiting ≡ e.line.places)
+    × IsLegal e.line.quotas e.line.places taken waiting × (e.list ≡ sent_by e.number (taken ++ waiting))
 
 -- a pop found nothing, in a legal state with all entries that were taken
 abbrev pub WasEmpty : TakeView → Type 0
@@ -93,7 +94,8 @@ AreNewEnds line ends = (length ends ≡ length line.quotas) × ((k : ℕ) (d : S
 
 -- these are all ends of the line, in order of number
 abbrev pub AreEnds : LineView → List SendView → Type 0
-AreEnds line ends = (length ends ≡ length line.quotas) × ((k : ℕ) (d : SendView) → k < length ends → ((slice_index_or ends k d).line ≡ line) × ((slice_index_or ends k d).number ≡ k))
+AreEnds line ends = (length ends ≡ length line.quotas)
+    × ((k : ℕ) (d : SendView) → k < length ends → ((slice_index_or ends k d).line ≡ line) × ((slice_index_or ends k d).number ≡ k))
 
 -- what rests once the taker took these entries and the ends were joined
 abbrev pub rest_of : LineView → List EntryData → List SendView → RestView

@@ -1,4 +1,4 @@
--- The rule of the queue. One pass takes, and its role says how many ends there are; the role of each end has what was accepted of it.
+-- The rule of the queue. One pass takes, and its role has the number of ends; the role of each end has what was accepted of it.
 use Rattle.std.specs.Prelude.{◌≡◌, ℕ, ◌+◌, ◌<◌, ◌≤◌, true, false, List, [], ◌∷◌, ◌++◌, length, map, All, sum, slice_index_or}
 use mathlib.Core.Option.{some}
 use lib.ListN.{get_elem?}
@@ -101,7 +101,8 @@ Sent v x w = w ≡ with_sent v x
 abbrev pub SenderSees : Role → List EntryData → Type 0
 SenderSees v waiting = (taken : List EntryData) × IsLegal v.quotas v.places taken waiting × (v.sent ≡ sent_by v.number (taken ++ waiting))
 
--- a pop adds the entry to the taker's list: it is of an end, in range and within the quotas, the next of its end, and of a joined end not all entries were taken before
+-- a pop adds the entry to the taker's list: it is of an end, in range and within the quotas, the next of its end, and of a joined end not all entries
+-- were taken before
 abbrev pub Took : Role → EntryData → Role → Type 0
 Took v x w = (w ≡ with_taken v x) × (x.script < length v.quotas) × IsInRange x.command × (length v.taken < sum v.quotas)
     × (x.script < length v.known → length (sent_by x.script v.taken) < length (slice_index_or v.known x.script []))

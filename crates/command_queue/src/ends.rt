@@ -25,10 +25,19 @@ impl Model for SendEnd {
 
     ghost Value = { SendView };
 
-    ghost view = { λ s. record { line = record { table = s.pass.table_id; places = (role_of s.pass).places; quotas = (role_of s.pass).quotas }; number = s.number; list = (role_of s.pass).sent; refusals = s.refusals } };
+    ghost view = { λ s. record {
+      line = record { table = s.pass.table_id; places = (role_of s.pass).places; quotas = (role_of s.pass).quotas };
+      number = s.number;
+      list = (role_of s.pass).sent;
+      refusals = s.refusals;
+    } };
 
-    ghost invariant = { λ s. (s.pass.me.1 ≡ []) × (role_of s.pass ≡ sender (role_of s.pass).places (role_of s.pass).quotas s.number (role_of s.pass).sent) × (s.count ≡ length (role_of s.pass).sent)
-        × (s.number < length (role_of s.pass).quotas) × (s.quota ≡ quota_at (role_of s.pass).quotas s.number) × (s.others ≡ others_at (role_of s.pass).quotas s.number) };
+    ghost invariant = { λ s. (s.pass.me.1 ≡ [])
+        × (role_of s.pass ≡ sender (role_of s.pass).places (role_of s.pass).quotas s.number (role_of s.pass).sent)
+        × (s.count ≡ length (role_of s.pass).sent)
+        × (s.number < length (role_of s.pass).quotas)
+        × (s.quota ≡ quota_at (role_of s.pass).quotas s.number)
+        × (s.others ≡ others_at (role_of s.pass).quotas s.number) };
 }
 
 /// No place was left.
@@ -90,9 +99,14 @@ impl Model for TakeEnd {
 
     ghost Value = { TakeView };
 
-    ghost view = { λ s. record { line = record { table = s.pass.table_id; places = (role_of s.pass).places; quotas = (role_of s.pass).quotas }; list = (role_of s.pass).taken; empties = s.empties } };
+    ghost view = { λ s. record {
+      line = record { table = s.pass.table_id; places = (role_of s.pass).places; quotas = (role_of s.pass).quotas };
+      list = (role_of s.pass).taken;
+      empties = s.empties;
+    } };
 
-    ghost invariant = { λ s. (s.pass.me.1 ≡ []) × (role_of s.pass ≡ with_list (taker (role_of s.pass).places (role_of s.pass).quotas (length (role_of s.pass).quotas)) (role_of s.pass).taken)
+    ghost invariant = { λ s. (s.pass.me.1 ≡ [])
+        × (role_of s.pass ≡ with_list (taker (role_of s.pass).places (role_of s.pass).quotas (length (role_of s.pass).quotas)) (role_of s.pass).taken)
         × (s.total ≡ sum (role_of s.pass).quotas) × (length (role_of s.pass).taken ≤ sum (role_of s.pass).quotas) };
 }
 

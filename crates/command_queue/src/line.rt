@@ -5,7 +5,8 @@ ghost use Rattle.command_set.specs.Command.{content, IsInRange};
 ghost use Rattle.command_set.specs.Entries.{entry_data};
 ghost use Rattle.command_queue.specs.Entries.{quota_at, IsNextOf};
 ghost use Rattle.command_queue.specs.Rule.{role_of, root, taker, Took, TakerSees};
-ghost use Rattle.command_queue.specs.Ends.{line_at, new_end, new_taker, AreNewEnds, quota_of, others_of, total_of, entry_of, accepted, refused, took, found_empty, WasFull, WasEmpty};
+ghost use Rattle.command_queue.specs.Ends.{line_at, new_end, new_taker, AreNewEnds, quota_of, others_of, total_of, entry_of};
+ghost use Rattle.command_queue.specs.Ends.{accepted, refused, took, found_empty, WasFull, WasEmpty};
 
 use crate::ends::{Full, SendEnd, TakeEnd};
 use crate::rule::{Ends, Opening, Plan, Queue, Seat, Sends, Takes};
@@ -121,7 +122,8 @@ impl Line {
         self.queue.capacity()
     }
 
-    /// The entry goes to the back, and its number among the end's is answered; or no place was left at a moment of this call, and the command is given back.
+    /// The entry goes to the back, and its number among the end's is answered; or no place was left at a moment of this call, and the command is
+    /// given back.
     pub fn send<R: Wait>(
         &self,
         rt: &R,
@@ -163,7 +165,8 @@ impl Line {
     pub fn take<R: Wait>(&self, rt: &R, end: &mut TakeEnd) -> Option<Entry>
         requires { end.old.line ≡ self.now }
         ensures same { end.new.line ≡ end.old.line }
-        ensures some { IfSome result (λ x. (end.new ≡ took end.old (entry_data x)) × (x.script < length self.now.quotas) × IsInRange (content x.command) × (length end.new.list ≤ total_of end.old)) }
+        ensures some { IfSome result (λ x. (end.new ≡ took end.old (entry_data x)) × (x.script < length self.now.quotas)
+            × IsInRange (content x.command) × (length end.new.list ≤ total_of end.old)) }
         ensures next { IfSome result (λ x. IsNextOf self.now.quotas end.old.list (entry_data x)) }
         ensures none { IfNone result ((end.new ≡ found_empty end.old) × WasEmpty end.old) }
     {

@@ -29,16 +29,24 @@ impl Model for Rest {
 
     ghost Value = { RestView };
 
-    ghost view = { λ s. record { line = record { table = s.queue.table.shared.table_id; places = s.queue.cap; quotas = (role_of s.pass).quotas }; list = (role_of s.pass).taken; sent = (role_of s.pass).known } };
+    ghost view = { λ s. record {
+      line = record { table = s.queue.table.shared.table_id; places = s.queue.cap; quotas = (role_of s.pass).quotas };
+      list = (role_of s.pass).taken;
+      sent = (role_of s.pass).known;
+    } };
 
-    ghost invariant = { λ s. IsPassOf s.queue s.pass × (role_of s.pass ≡ settler s.queue.cap (role_of s.pass).quotas (role_of s.pass).taken (role_of s.pass).known) × (length (role_of s.pass).known ≡ length (role_of s.pass).quotas) };
+    ghost invariant = { λ s. IsPassOf s.queue s.pass
+        × (role_of s.pass ≡ settler s.queue.cap (role_of s.pass).quotas (role_of s.pass).taken (role_of s.pass).known)
+        × (length (role_of s.pass).known ≡ length (role_of s.pass).quotas) };
 }
 
 // The taker's pass takes in an end's.
 fn join_end(queue: &Queue, pass: &mut Seat, end: SendEnd)
-    requires pass { IsPassOf queue.now pass.old × (role_of pass.old ≡ settler queue.now.cap (role_of pass.old).quotas (role_of pass.old).taken (role_of pass.old).known) }
+    requires pass { IsPassOf queue.now pass.old
+        × (role_of pass.old ≡ settler queue.now.cap (role_of pass.old).quotas (role_of pass.old).taken (role_of pass.old).known) }
     requires end { (end.line.table ≡ queue.now.table.shared.table_id) × (end.number ≡ length (role_of pass.old).known) }
-    ensures { IsPassOf queue.now pass.new × (role_of pass.new ≡ settler queue.now.cap (role_of pass.old).quotas (role_of pass.old).taken ((role_of pass.old).known ++ end.list ∷ [])) }
+    ensures { IsPassOf queue.now pass.new
+        × (role_of pass.new ≡ settler queue.now.cap (role_of pass.old).quotas (role_of pass.old).taken ((role_of pass.old).known ++ end.list ∷ [])) }
 {
     queue.absorb::<Ends>(pass, end.pass);
 }
@@ -66,7 +74,8 @@ impl Rest {
     /// The entry at the front of what waits; `None` exactly where nothing does.
     pub fn next<R: Wait>(&mut self, rt: &R) -> Option<Entry>
         ensures same { (self.new.line ≡ self.old.line) × (self.new.sent ≡ self.old.sent) }
-        ensures some { IfSome result (λ x. (self.new ≡ rest_took self.old (entry_data x)) × (x.script < length self.old.line.quotas) × IsInRange (content x.command) × (length self.new.list ≤ sum self.old.line.quotas)) }
+        ensures some { IfSome result (λ x. (self.new ≡ rest_took self.old (entry_data x)) × (x.script < length self.old.line.quotas)
+            × IsInRange (content x.command) × (length self.new.list ≤ sum self.old.line.quotas)) }
         ensures next { IfSome result (λ x. IsNextOf self.old.line.quotas self.old.list (entry_data x)) }
         ensures more { IfSome result (λ _. ¬ (HoldsAll self.old)) }
         ensures none { IfNone result ((self.new ≡ self.old) × HoldsAll self.old × IsSettled self.old []) }

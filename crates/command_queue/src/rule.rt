@@ -1,4 +1,4 @@
-//! The rule of the queue of a line, and what each step tells the pass that makes it.
+//! The rule of the queue that a line is made of, and what each step lets the pass know that makes it.
 ghost use Rattle.std.specs.Prelude.{ℕ, List};
 
 use command_set::Entry;
@@ -22,17 +22,25 @@ impl Model for Noted {
 
 /// What a pass knows. No value of it is made. The taker's pass has number 0, and the end n's has number n + 2.
 pub struct Role {
+    /// Whether the pass takes entries.
     pub takes: bool,
+    /// Whether it sends them.
     pub sends: bool,
+    /// How many entries may wait.
     pub places: usize,
+    /// The quotas of all ends.
     pub quotas: LinkedList<u32>,
-    // Of an end: its number and the entries that were accepted of it.
+    /// Of an end: its number.
     pub number: u32,
+    /// Of an end: the entries that were accepted of it.
     pub sent: LinkedList<Noted>,
-    // Of the taker: whether the quotas are fixed (0 or 1), how many ends were made, what it took, and what the ends that it joined had sent.
+    /// Of the taker: whether the quotas are fixed, 0 or 1.
     pub opened: u32,
+    /// Of the taker: how many ends were made.
     pub made: u32,
+    /// Of the taker: what it took.
     pub taken: LinkedList<Noted>,
+    /// Of the taker: what the ends that it joined had sent.
     pub known: LinkedList<LinkedList<Noted>>,
 }
 
@@ -94,7 +102,7 @@ impl Join<Role> for Ends {
     ghost spent = { nobody };
 }
 
-/// What a push tells its end, accepted or refused.
+/// What a push lets its end know, accepted or refused.
 pub struct Sends;
 
 impl Outcome<Entry, Role> for Sends {
@@ -110,7 +118,7 @@ impl Lesson<Entry, Role> for Sends {
     ghost fact = { λ v items. SenderSees v (plain items) };
 }
 
-/// What a pop tells the taker, with an entry or without.
+/// What a pop lets the taker know, with an entry or without.
 pub struct Takes;
 
 impl Outcome<Entry, Role> for Takes {

@@ -1,3 +1,5 @@
+//! A line on one thread, step by step, and with four threads that send.
+
 ghost use Rattle.std.specs.Prelude.{◌≡◌, ◌<◌, ◌≤◌, length};
 ghost use Rattle.command_queue.specs.Ends.{AreEnds};
 

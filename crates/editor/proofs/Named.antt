@@ -36,14 +36,14 @@ none_high name k e l =
 
 named_within : (voice name : List ℕ) (n : ℕ) → IsVoice voice → length name ≡ 10 → first_high name ≡ None → n < 155 → get_or (take 145 voice ++ name) n 0 ≤ greatest_value n
 named_within voice name n v ten low l =
-    let front : length (take 145 voice) ≡ 145 = length-take-le 145 voice (omega (arith, v.count)) in
+    let prefix : length (take 145 voice) ≡ 145 = length-take-le 145 voice (omega (arith, v.count)) in
     elim (cases_lt n 145) [
       | inl below ↦ (rw (get_or_append_left (take 145 voice) name 0 n (omega arith), get_or-take 145 voice n 0 below) (v.within n l))
       | inr above ↦ (
           let place : n ≡ 145 + (n - 145) = omega arith in
           let bound : get_or name (n - 145) 0 ≤ 127 = none_high name (n - 145) low (omega arith) in
           let room : 127 ≤ greatest_value n = rw place (name_greatest (n - 145) (omega arith)) in
-          rw (get_or-append_right (take 145 voice) name 145 n 0 front above) (omega arith))
+          rw (get_or-append_right (take 145 voice) name 145 n 0 prefix above) (omega arith))
     ]
 
 pub renamed_is_voice : (voice name : List ℕ) → IsVoice voice → length name ≡ 10 → first_high name ≡ None → IsVoice (renamed voice name)

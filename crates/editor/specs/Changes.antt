@@ -25,7 +25,7 @@ abbrev pub left_by : List ℕ → List Change → List Left
 left_by voice [] = []
 left_by voice (c ∷ cs) = left (other_voice voice c) (kind_of c) ∷ left_by (other_voice voice c) cs
 
--- the history of a voice with the changes before and after it
+-- the history of a voice with the changes that lead back and those that lead on
 abbrev pub history_of : List ℕ → Buffer Change → Buffer Change → History
 history_of voice past future = record {
   depth = past.capacity;

@@ -35,7 +35,7 @@ acted h kind voice = record {
   future = [];
 }
 
--- the command that says what has become of the voice: the number that was changed, or the whole voice
+-- the command that makes the voice what it has become: the number that was changed, or the whole voice
 abbrev pub answer : Kind → List ℕ → CommandData
 answer (OneNumber number) voice = SetsNumber number (slice_index voice number)
 answer WholeVoice voice = TakesVoice voice

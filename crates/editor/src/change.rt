@@ -12,7 +12,9 @@ use voice_record::Voice;
 /// A value of a number of a voice.
 #[derive(Clone, Copy)]
 pub struct Setting {
+    /// The number, 0 to 154.
     pub number: u8,
+    /// The value, at most the number's greatest.
     pub value: u8,
     ghost within: { (number ≤ 154) × (value ≤ greatest_value number) },
 }
@@ -20,7 +22,9 @@ pub struct Setting {
 /// A change of a voice: of one number, or of all at once.
 #[derive(Drop)]
 pub enum Change {
+    /// One number gets a value.
     Number(Setting),
+    /// Another voice takes its place.
     Whole(Box<Voice>),
 }
 

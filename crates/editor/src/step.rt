@@ -34,10 +34,17 @@ pub(crate) fn turn(
     to: &mut Changes,
 ) -> Result<Option<Command>, AllocError>
     requires { 0 < length from.old.items → length to.old.items < to.old.capacity }
-    ensures turned { IfOk result (λ o. step voice.old (left_by voice.old from.old.items) (left_by voice.old to.old.items) ≡ option_map (λ command. record { voice = voice.new; from = left_by voice.new from.new.items; to = left_by voice.new to.new.items; command = content command }) o) }
+    ensures turned { IfOk result (λ o. step voice.old (left_by voice.old from.old.items) (left_by voice.old to.old.items)
+        ≡ option_map (λ command. record {
+          voice = voice.new;
+          from = left_by voice.new from.new.items;
+          to = left_by voice.new to.new.items;
+          command = content command;
+        }) o) }
     ensures follows { IfOk result (λ o. IfSome o (λ command. Turns voice.old (content command) voice.new)) }
     ensures range { IfOk result (λ o. IfSome o (λ command. IsInRange (content command))) }
-    ensures rings { (from.new.capacity ≡ from.old.capacity) × (to.new.capacity ≡ to.old.capacity) × (length from.new.items + length to.new.items ≡ length from.old.items + length to.old.items) }
+    ensures rings { (from.new.capacity ≡ from.old.capacity) × (to.new.capacity ≡ to.old.capacity)
+        × (length from.new.items + length to.new.items ≡ length from.old.items + length to.old.items) }
     ensures none { IfOk result (λ o. IfNone o (IsSame voice.old voice.new from.old from.new to.old to.new)) }
     ensures memory { OnErr result (IsWholeNext (left_by voice.old from.old.items) × IsSame voice.old voice.new from.old from.new to.old to.new) }
 {

@@ -18,26 +18,26 @@ enum Call {
     Redo,
 }
 
-/// What it says.
+/// What it answers.
 #[derive(Clone, Copy, Debug, PartialEq, Eq)]
-enum Told {
+enum Answer {
     Param(u8, u8),
     Whole(Voice),
     Refused(EditFault),
     Other,
 }
 
-fn said(outcome: Result<Command, EditFault>) -> Told {
+fn answer_of(outcome: Result<Command, EditFault>) -> Answer {
     match outcome {
-        Ok(Command::Param { number, value }) => Told::Param(number, value),
-        Ok(Command::Voice(voice)) => Told::Whole(*voice),
-        Ok(_) => Told::Other,
-        Err(fault) => Told::Refused(fault),
+        Ok(Command::Param { number, value }) => Answer::Param(number, value),
+        Ok(Command::Voice(voice)) => Answer::Whole(*voice),
+        Ok(_) => Answer::Other,
+        Err(fault) => Answer::Refused(fault),
     }
 }
 
-fn ask(alloc: Global, editor: &mut Editor, call: &Call) -> Told {
-    said(match call {
+fn ask(alloc: Global, editor: &mut Editor, call: &Call) -> Answer {
+    answer_of(match call {
         Call::Set(number, value) => editor.set(*number % 155, *value),
         Call::Rename(name) => editor.rename(alloc, name),
         Call::Load(voice) => editor.load(alloc, voice),
@@ -58,63 +58,63 @@ struct Plain {
     future: Vec<Left>,
 }
 
-fn answer(voice: &Voice, kind: Option<u8>) -> Told {
+fn expected(voice: &Voice, kind: Option<u8>) -> Answer {
     match kind {
-        Some(number) => Told::Param(number, voice.get(number % 155)),
-        None => Told::Whole(*voice),
+        Some(number) => Answer::Param(number, voice.get(number % 155)),
+        None => Answer::Whole(*voice),
     }
 }
 
 impl Plain {
-    fn act(&mut self, voice: Voice, kind: Option<u8>) -> Result<Told, AllocError> {
+    fn act(&mut self, voice: Voice, kind: Option<u8>) -> Result<Answer, AllocError> {
         self.past.push((self.voice, kind))?;
         if self.past.len() > self.depth {
             self.past.remove(0);
         }
         self.future.clear();
         self.voice = voice;
-        Ok(answer(&voice, kind))
+        Ok(expected(&voice, kind))
     }
 
-    fn undo(&mut self) -> Result<Told, AllocError> {
+    fn undo(&mut self) -> Result<Answer, AllocError> {
         let Some((voice, kind)) = self.past.pop() else {
-            return Ok(Told::Refused(EditFault::NothingToUndo));
+            return Ok(Answer::Refused(EditFault::NothingToUndo));
         };
         self.future.push((self.voice, kind))?;
         self.voice = voice;
-        Ok(answer(&voice, kind))
+        Ok(expected(&voice, kind))
     }
 
-    fn redo(&mut self) -> Result<Told, AllocError> {
+    fn redo(&mut self) -> Result<Answer, AllocError> {
         let Some((voice, kind)) = self.future.pop() else {
-            return Ok(Told::Refused(EditFault::NothingToRedo));
+            return Ok(Answer::Refused(EditFault::NothingToRedo));
         };
         self.past.push((self.voice, kind))?;
         self.voice = voice;
-        Ok(answer(&voice, kind))
+        Ok(expected(&voice, kind))
     }
 
-    fn set(&mut self, number: u8, value: u8) -> Result<Told, AllocError>
+    fn set(&mut self, number: u8, value: u8) -> Result<Answer, AllocError>
         requires { number ≤ 154 }
     {
         let mut voice = self.voice;
         match voice.set(number, value) {
             Ok(_) => self.act(voice, Some(number)),
-            Err(high) => Ok(Told::Refused(EditFault::from(high))),
+            Err(high) => Ok(Answer::Refused(EditFault::from(high))),
         }
     }
 
-    fn rename(&mut self, name: &[u8; 10]) -> Result<Told, AllocError> {
+    fn rename(&mut self, name: &[u8; 10]) -> Result<Answer, AllocError> {
         let mut voice = self.voice;
         for place in 0..10u8 {
             if voice.set(145 + place, name[place as usize]).is_err() {
-                return Ok(Told::Refused(EditFault::NameByte { place }));
+                return Ok(Answer::Refused(EditFault::NameByte { place }));
             }
         }
         self.act(voice, None)
     }
 
-    fn ask(&mut self, call: &Call) -> Result<Told, AllocError> {
+    fn ask(&mut self, call: &Call) -> Result<Answer, AllocError> {
         match call {
             Call::Set(number, value) => self.set(*number % 155, *value),
             Call::Rename(name) => self.rename(name),
@@ -167,14 +167,14 @@ fn draw_call(state: &mut u64) -> Call {
 }
 
 /// What a voice becomes that takes only the answered commands.
-fn follow(voice: Voice, said: &Told) -> Voice {
+fn follow(voice: Voice, answer: &Answer) -> Voice {
     let mut voice = voice;
-    match said {
-        Told::Param(number, value) => {
+    match answer {
+        Answer::Param(number, value) => {
             let _ = voice.set(*number % 155, *value);
             voice
         }
-        Told::Whole(other) => *other,
+        Answer::Whole(other) => *other,
         _ => voice,
     }
 }
@@ -189,33 +189,33 @@ fn an_editor_of_depth_1(rt: HostRuntime) -> Result<(), Fail> {
     }
     let mut editor = Editor::new(rt.alloc(), &voice, 1)?;
     let high = |number, value, greatest| {
-        Told::Refused(EditFault::ValueHigh {
+        Answer::Refused(EditFault::ValueHigh {
             number,
             value,
             greatest,
         })
     };
     for (call, want, algorithm) in [
-        (Call::Undo, Told::Refused(EditFault::NothingToUndo), 0),
-        (Call::Redo, Told::Refused(EditFault::NothingToRedo), 0),
-        (Call::Set(134, 5), Told::Param(134, 5), 5),
-        (Call::Set(134, 6), Told::Param(134, 6), 6),
-        (Call::Undo, Told::Param(134, 5), 5),
-        (Call::Undo, Told::Refused(EditFault::NothingToUndo), 5),
-        (Call::Redo, Told::Param(134, 6), 6),
+        (Call::Undo, Answer::Refused(EditFault::NothingToUndo), 0),
+        (Call::Redo, Answer::Refused(EditFault::NothingToRedo), 0),
+        (Call::Set(134, 5), Answer::Param(134, 5), 5),
+        (Call::Set(134, 6), Answer::Param(134, 6), 6),
+        (Call::Undo, Answer::Param(134, 5), 5),
+        (Call::Undo, Answer::Refused(EditFault::NothingToUndo), 5),
+        (Call::Redo, Answer::Param(134, 6), 6),
         (Call::Set(134, 32), high(134, 32, 31), 6),
-        (Call::Load(voice), Told::Whole(voice), 0),
-        (Call::Rename(name), Told::Whole(named), 0),
+        (Call::Load(voice), Answer::Whole(voice), 0),
+        (Call::Rename(name), Answer::Whole(named), 0),
         (
             Call::Rename(*b"BRASS  \x80\xff1"),
-            Told::Refused(EditFault::NameByte { place: 7 }),
+            Answer::Refused(EditFault::NameByte { place: 7 }),
             0,
         ),
-        (Call::Undo, Told::Whole(voice), 0),
-        (Call::Redo, Told::Whole(named), 0),
-        (Call::Set(134, 0), Told::Param(134, 0), 0),
-        (Call::Redo, Told::Refused(EditFault::NothingToRedo), 0),
-        (Call::Undo, Told::Param(134, 0), 0),
+        (Call::Undo, Answer::Whole(voice), 0),
+        (Call::Redo, Answer::Whole(named), 0),
+        (Call::Set(134, 0), Answer::Param(134, 0), 0),
+        (Call::Redo, Answer::Refused(EditFault::NothingToRedo), 0),
+        (Call::Undo, Answer::Param(134, 0), 0),
     ] {
         assert_eq!(rt; ask(rt.alloc(), &mut editor, &call), want, "{call:?}");
         assert_eq!(rt; editor.voice().get(134), algorithm, "{call:?}");
@@ -228,15 +228,15 @@ fn an_editor_of_depth_1000(rt: HostRuntime) -> Result<(), Fail> {
     let mut editor = Editor::new(rt.alloc(), &Voice::init(), 1000)?;
     for act in 0..1001u32 {
         let value = (act % 100) as u8;
-        assert_eq!(rt; said(editor.set(0, value)), Told::Param(0, value));
+        assert_eq!(rt; answer_of(editor.set(0, value)), Answer::Param(0, value));
     }
     for act in (0..1000u32).rev() {
         let value = (act % 100) as u8;
-        assert_eq!(rt; said(editor.undo(rt.alloc())), Told::Param(0, value));
+        assert_eq!(rt; answer_of(editor.undo(rt.alloc())), Answer::Param(0, value));
     }
     assert_eq!(rt;
-        said(editor.undo(rt.alloc())),
-        Told::Refused(EditFault::NothingToUndo)
+        answer_of(editor.undo(rt.alloc())),
+        Answer::Refused(EditFault::NothingToUndo)
     );
     Ok(())
 }

@@ -12,6 +12,7 @@ use Rattle.note_voice.proofs.Blocks.{state_after_block, sample_is}
 use Rattle.instrument.specs.Groups.{AreOutputs, sum_to}
 use Rattle.instrument.specs.declared.slot.Slot.{Slot}
 use Rattle.instrument.specs.State.{SlotData, mix_of, slot_later, slot_sample}
+use Rattle.instrument.specs.declared.slot.Key.TheVariants.{Up}
 use Rattle.instrument.specs.Running.{IsSlot, IsSlotBegun, AreSlots, AreSlotsBegun}
 
 pub record AreBegunUpTo (i : ℕ) (m : Modulation) (ws : ℕ → Option SlotData) (vs : List Slot) (bs : List NoteBlock) : Type 0 where
@@ -51,14 +52,13 @@ pub ended_all : (i : ℕ) (m : Modulation) (ws : ℕ → Option SlotData) (bs : 
 ended_all i m ws bs vs le a = λ k d lt. a.done k d (omega arith)
 
 -- a slot whose block was run
-pub slot_ended : (v : Slot) (note' : Note) (b : NoteBlock) (m : Modulation) (memory : List ℤ) (w : Option SlotData) → (IsNote v.note None → IsNote note' None) → ((n : NoteData) → IsNoteBegun v.note n → feedback_state_of memory ≡ feedback_state_before n (length n.past) → IsNote note' (Some n)) → IsSlotBegun v b m w → feedback_state_of memory ≡ feedback_state_left (block_patch b) → IsSlot (record { channel = v.channel; key = v.key; note = note'; is_down = v.is_down; is_held = v.is_held }) (slot_later m w)
-slot_ended v note' b m memory None idle ended h q = record { note_is = idle h.empty.note_is; is_down_is = h.empty.is_down_is; is_held_is = h.empty.is_held_is }
-slot_ended v note' b m memory (Some w) idle ended h q = record {
+pub slot_ended : (v : Slot) (note' : Note) (b : NoteBlock) (m : Modulation) (kept : List ℤ) (w : Option SlotData) → (IsNote v.note None → IsNote note' None) → ((n : NoteData) → IsNoteBegun v.note n → feedback_state_of kept ≡ feedback_state_before n (length n.past) → IsNote note' (Some n)) → IsSlotBegun v b m w → feedback_state_of kept ≡ feedback_state_left (block_patch b) → IsSlot (record { channel = v.channel; key = v.key; note = note'; key_state = v.key_state }) (slot_later m w)
+slot_ended v note' b m kept None idle ended h q = record { note_is = idle h.empty.note_is; key_state_is = h.empty.key_state_is }
+slot_ended v note' b m kept (Some w) idle ended h q = record {
   channel_is = h.channel_is;
   key_is = h.key_is;
-  note_is = ended (after_block w.note m) h.note_is (state_after_block w.note m (block_patch b) memory h.block_is q);
-  is_down_is = h.is_down_is;
-  is_held_is = h.is_held_is;
+  note_is = ended (after_block w.note m) h.note_is (state_after_block w.note m (block_patch b) kept h.block_is q);
+  key_state_is = h.key_state_is;
 }
 
 -- what is run of a slot is what it sounds like
@@ -67,7 +67,7 @@ slot_output v b m None j h = h.silent j
 slot_output v b m (Some w) j h = sample_is (after_block w.note m) (length w.note.past) j (block_patch b) h.block_is
 
 no_slot : Slot
-no_slot = record { channel = 0; key = 0; note = record { sounding = None }; is_down = false; is_held = false }
+no_slot = record { channel = 0; key = 0; note = record { sounding = None }; key_state = Up }
 
 pub slot_outputs : (vs : List Slot) (bs : List NoteBlock) (m : Modulation) (ws : ℕ → Option SlotData) → AreSlotsBegun vs bs m ws → AreOutputs bs (λ i j. slot_sample m (ws i) j)
 slot_outputs vs bs m ws h = λ i d lt j. slot_output (get_or vs i no_slot) (get_or bs i d) m (ws i) j (h i no_slot d lt)

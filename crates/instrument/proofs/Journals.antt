@@ -103,11 +103,11 @@ order_by : (present : ℕ) (journal : List LoggedData) (es : List EntryData) (i 
     → i ≤ j → j < length (journal ++ map (logged_at present) es) → (j < length journal) ⊎ (length journal ≤ j)
     → (get_or (journal ++ map (logged_at present) es) i d).block ≤ (get_or (journal ++ map (logged_at present) es) j d).block
 order_by present journal es i j d h up below (inl inside) =
-    let front : i < length journal = omega (arith, up, inside) in
-    rw (get_or_append_left journal (map (logged_at present) es) d i front, get_or_append_left journal (map (logged_at present) es) d j inside) (h.order i j d up inside)
-order_by present journal es i j d h up below (inr behind) =
+    let early : i < length journal = omega (arith, up, inside) in
+    rw (get_or_append_left journal (map (logged_at present) es) d i early, get_or_append_left journal (map (logged_at present) es) d j inside) (h.order i j d up inside)
+order_by present journal es i j d h up below (inr after) =
     let at : get_or (journal ++ map (logged_at present) es) j d ≡ get_or (map (logged_at present) es) (j - length journal) d =
-    get_or-append_right journal (map (logged_at present) es) (length journal) j d refl behind in
+    get_or-append_right journal (map (logged_at present) es) (length journal) j d refl after in
     let inside : j - length journal < length (map (logged_at present) es) = omega (arith, length-append journal (map (logged_at present) es)) in
     let last : (get_or (map (logged_at present) es) (j - length journal) d).block ≡ present = All-map (IsAt present) (logged_at present) es (λ k d below. refl) (j - length journal) d inside in
     let same : (get_or (journal ++ map (logged_at present) es) j d).block ≡ present = ap (λ (l : LoggedData). l.block) at ∙ last in

@@ -10,6 +10,7 @@ use Rattle.note_voice.specs.Note.{begun}
 use Rattle.instrument.specs.declared.slot.Slot.{Slot}
 use Rattle.instrument.specs.Running.{AreSlots}
 use Rattle.instrument.specs.State.{State, free_slot, fresh, taken, apply}
+use Rattle.instrument.specs.declared.slot.Key.TheVariants.{Down}
 
 pub apply_free : (s : State) (channel key velocity f : ℕ) → free_slot s ≡ Some f → apply s (StartsNote channel key velocity) ≡ taken s (fresh s channel key velocity) f
 unfolding apply
@@ -20,10 +21,10 @@ unfolding apply
 apply_full s channel key velocity e = rw e
 
 -- a note of the voice whose key goes down
-pub fresh_slots : (vs : List Slot) (s : State) (voice : List ℕ) (switch channel key velocity f : ℕ) → voice ≡ s.voice → switch ≡ s.switch → AreSlots vs (λ i. cond (eqb i f) (Some (record { channel = channel; note = begun voice switch key velocity; is_down = true; is_held = false })) (s.slots i)) → AreSlots vs (λ i. cond (eqb i f) (Some (fresh s channel key velocity)) (s.slots i))
+pub fresh_slots : (vs : List Slot) (s : State) (voice : List ℕ) (switch channel key velocity f : ℕ) → voice ≡ s.voice → switch ≡ s.switch → AreSlots vs (λ i. cond (eqb i f) (Some (record { channel = channel; note = begun voice switch key velocity; key_state = Down })) (s.slots i)) → AreSlots vs (λ i. cond (eqb i f) (Some (fresh s channel key velocity)) (s.slots i))
 fresh_slots vs s voice switch channel key velocity f vo sw h =
-    let P : List ℕ → Type 0 = λ v. AreSlots vs (λ i. cond (eqb i f) (Some (record { channel = channel; note = begun v s.switch key velocity; is_down = true; is_held = false })) (s.slots i)) in
-    let Q : ℕ → Type 0 = λ t. AreSlots vs (λ i. cond (eqb i f) (Some (record { channel = channel; note = begun voice t key velocity; is_down = true; is_held = false })) (s.slots i)) in
+    let P : List ℕ → Type 0 = λ v. AreSlots vs (λ i. cond (eqb i f) (Some (record { channel = channel; note = begun v s.switch key velocity; key_state = Down })) (s.slots i)) in
+    let Q : ℕ → Type 0 = λ t. AreSlots vs (λ i. cond (eqb i f) (Some (record { channel = channel; note = begun voice t key velocity; key_state = Down })) (s.slots i)) in
     subst P vo (subst Q sw h)
 
 -- the LFO takes the settings of the voice, and a key goes down

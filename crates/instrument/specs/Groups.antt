@@ -1,5 +1,6 @@
 -- The blocks of sixteen slots before and after they are run, in whatever order.
-use Rattle.std.specs.Prelude.{ℕ, zero, suc, ◌≡◌, ◌≤◌, ◌<◌, ◌+◌, Bool, true, false, if◌then◌else◌, List, length, slice_index_or, ℤ, pos, ◌+ℤ◌}
+use Rattle.std.specs.Prelude.{ℕ, zero, suc, ◌≡◌, ◌≤◌, ◌<◌, ◌+◌, Bool, true, false, if◌then◌else◌}
+use Rattle.std.specs.Prelude.{List, length, slice_index_or, ℤ, pos, ◌+ℤ◌}
 use Rattle.operator_kernel.specs.Operator.{feedback_state_of}
 use Rattle.algorithm_bus.specs.declared.note_block.NoteBlock.{NoteBlock}
 use Rattle.algorithm_bus.specs.Signals.{feedback_state_left, note_output}
@@ -25,14 +26,17 @@ AreOutputs bs y = (i : ℕ) (d : NoteBlock) → i < 16 → (j : ℕ) → note_ou
 
 -- what the blocks left are the last two samples of the operators with feedback
 abbrev pub AreLeft : List NoteBlock → List NoteBlock → Type 0
-AreLeft bs new = (i : ℕ) (d e : NoteBlock) → i < 16 → feedback_state_of (slice_index_or new i d).feedback_state ≡ feedback_state_left (block_patch (slice_index_or bs i e))
+AreLeft bs new = (i : ℕ) (d e : NoteBlock) → i < 16
+    → feedback_state_of (slice_index_or new i d).feedback_state ≡ feedback_state_left (block_patch (slice_index_or bs i e))
 
 -- of the blocks those were run that are marked, and the others are as before
 pub record AreMarked (done : List Bool) (bs new : List NoteBlock) : Type 0 where
   pub done_len : length done ≡ 16
   pub len : length new ≡ 16
-  pub run : (i : ℕ) (d e : NoteBlock) → i < 16 → is_done done i ≡ true → feedback_state_of (slice_index_or new i d).feedback_state ≡ feedback_state_left (block_patch (slice_index_or bs i e))
-  pub same : (i : ℕ) (d e : NoteBlock) → i < 16 → is_done done i ≡ false → block_patch (slice_index_or new i d) ≡ block_patch (slice_index_or bs i e)
+  pub run : (i : ℕ) (d e : NoteBlock) → i < 16 → is_done done i ≡ true
+      → feedback_state_of (slice_index_or new i d).feedback_state ≡ feedback_state_left (block_patch (slice_index_or bs i e))
+  pub same : (i : ℕ) (d e : NoteBlock) → i < 16 → is_done done i ≡ false
+      → block_patch (slice_index_or new i d) ≡ block_patch (slice_index_or bs i e)
 
 -- the same, and the samples of those that were run were added to a sum
 pub record AreRun (done : List Bool) (bs new : List NoteBlock) (from mix : List ℤ) : Type 0 where

@@ -8,5 +8,6 @@ logged_at block e = record { block = block; entry = e }
 
 -- the blocks at which entries were taken don't fall, and none is above the present one
 pub record AreTakenUpTo (present : ℕ) (journal : List LoggedData) : Type 0 where
-  pub order : (i j : ℕ) (d : LoggedData) → i ≤ j → j < length journal → (slice_index_or journal i d).block ≤ (slice_index_or journal j d).block
+  pub order : (i j : ℕ) (d : LoggedData) → i ≤ j → j < length journal
+      → (slice_index_or journal i d).block ≤ (slice_index_or journal j d).block
   pub past : All (λ l. l.block ≤ present) journal

@@ -1,24 +1,37 @@
 -- The instrument as plain data: what a command does to it, and what its next block sounds like.
-use Rattle.std.specs.Prelude.{ℕ, zero, suc, ◌+◌, ◌-◌, ◌%◌, ◌^◌, Bool, true, false, ◌&&◌, ◌||◌, ◌==◌, nat_lt, not, if◌then◌else◌, List, length, map, replicate, slice_set, Option, Some, None, option_map, ℤ, pos, neg_ℤ, ◌+ℤ◌}
+use Rattle.std.specs.Prelude.{ℕ, zero, suc, ◌+◌, ◌-◌, ◌%◌, ◌^◌, Bool, true, false, ◌&&◌, ◌||◌, ◌==◌, nat_lt, not, if◌then◌else◌}
+use Rattle.std.specs.Prelude.{List, length, map, replicate, slice_set, Option, Some, None, option_map, ℤ, pos, neg_ℤ, ◌+ℤ◌}
 use Rattle.std.specs.Int.{int_shr, int_min, int_max}
 use Rattle.std.specs.List.{range_with_len}
 use Rattle.std.specs.Option.{option_map_or}
 use Rattle.voice_record.specs.Voice.{opening_voice}
 use Rattle.cartridge.specs.Cartridge.{voice_at}
-use Rattle.command_set.specs.Command.{CommandData, StartsNote, EndsNote, Bends, Controls, PicksProgram, SetsNumber, StoresVoice, TakesVoice, TakesCartridge}
+use Rattle.command_set.specs.Command.{CommandData, StartsNote, EndsNote, Bends, Controls, PicksProgram}
+use Rattle.command_set.specs.Command.{SetsNumber, StoresVoice, TakesVoice, TakesCartridge}
 use Rattle.block_rates.specs.Lfos.{LfoState, opening_lfo, lfo_settings, assigned, key_pressed, lfo_value, lfo_depth}
 use Rattle.note_voice.specs.Modulation.{Modulation}
 use Rattle.note_voice.specs.Note.{NoteData, begun, note_released, after_block, note_sample}
+use Rattle.instrument.specs.declared.slot.Key.{Key}
+use Rattle.instrument.specs.declared.slot.Key.TheVariants.{Down, Held, Up}
 
--- a note that has a slot, with its channel, whether its key is down, and whether the pedal holds it
+-- a note that has a slot, with its channel, and how its key stands: it is down, up and held by the pedal, or up
 pub record SlotData : Type 0 where
   pub channel : ℕ
   pub note : NoteData
-  pub is_down : Bool
-  pub is_held : Bool
+  pub key_state : Key
 
--- The cartridge's 32 voices, the voice and its operator switch, bend, wheel and pedal of all channels, the slot that the next note is looked for from,
--- the LFO with its steps since it took settings or a key went down, and what is in each slot from 0 to 15.
+abbrev pub is_down : Key → Bool
+is_down Down = true
+is_down Held = false
+is_down Up = false
+
+abbrev pub is_held : Key → Bool
+is_held Down = false
+is_held Held = true
+is_held Up = false
+
+-- The cartridge's 32 voices, the voice and its operator switch, bend, wheel and pedal of all channels, the slot from which the next note looks for
+-- a free one, the LFO with its steps since it took settings or a key went down, and what is in each slot from 0 to 15.
 pub record State : Type 0 where
   pub bank : List (List ℕ)
   pub voice : List ℕ
@@ -48,7 +61,7 @@ opening = record {
 
 abbrev pub is_up : Option SlotData → Bool
 is_up None = true
-is_up (Some w) = not w.is_down
+is_up (Some w) = not (is_down w.key_state)
 
 -- the first of c numbers from m on that passes
 unfoldable pub first_that : (ℕ → Bool) → ℕ → ℕ → Option ℕ
@@ -65,9 +78,9 @@ free_slot s = option_map (round_from s.next) (first_that (λ k. is_up (s.slots (
 
 -- a note of the voice whose key goes down
 abbrev pub fresh : State → ℕ → ℕ → ℕ → SlotData
-fresh s channel key velocity = record { channel = channel; note = begun s.voice s.switch key velocity; is_down = true; is_held = false }
+fresh s channel key velocity = record { channel = channel; note = begun s.voice s.switch key velocity; key_state = Down }
 
--- The note takes the slot, and the round goes on behind it. The LFO takes the settings of the voice, and a key goes down.
+-- The note takes the slot, and the round goes on after it. The LFO takes the settings of the voice, and a key goes down.
 abbrev pub taken : State → SlotData → ℕ → State
 taken s w f = record s {
   next = (f + 1) % 16;
@@ -78,27 +91,27 @@ taken s w f = record s {
 
 -- the slot with its key released, and no pedal that holds it
 abbrev pub released : SlotData → SlotData
-released w = record { channel = w.channel; note = note_released w.note; is_down = false; is_held = false }
+released w = record { channel = w.channel; note = note_released w.note; key_state = Up }
 
 -- the slot with its key up, held by the pedal
 abbrev pub held : SlotData → SlotData
-held w = record { channel = w.channel; note = w.note; is_down = false; is_held = true }
+held w = record { channel = w.channel; note = w.note; key_state = Held }
 
 -- a slot whose key is down with this channel and key: its key goes up
 abbrev pub key_up : Bool → ℕ → ℕ → Option SlotData → Option SlotData
 key_up is_pedal_down channel key None = None
 key_up is_pedal_down channel key (Some w) =
-    if w.is_down && (w.channel == channel && w.note.key == key) then Some (if is_pedal_down then held w else released w) else Some w
+    if is_down w.key_state && (w.channel == channel && w.note.key == key) then Some (if is_pedal_down then held w else released w) else Some w
 
 -- a slot that the pedal held
 abbrev pub pedal_up : Option SlotData → Option SlotData
 pedal_up None = None
-pedal_up (Some w) = if w.is_held then Some (released w) else Some w
+pedal_up (Some w) = if is_held w.key_state then Some (released w) else Some w
 
 -- a slot whose key was down or that the pedal held
 abbrev pub silenced : Option SlotData → Option SlotData
 silenced None = None
-silenced (Some w) = if w.is_down || w.is_held then Some (released w) else Some w
+silenced (Some w) = if is_down w.key_state || is_held w.key_state then Some (released w) else Some w
 
 -- the pedal, which is down from 64 on
 abbrev pub pedal : State → ℕ → State
@@ -143,7 +156,7 @@ modulation s = record {
 -- a slot one block later
 abbrev pub slot_later : Modulation → Option SlotData → Option SlotData
 slot_later m None = None
-slot_later m (Some w) = Some (record { channel = w.channel; note = after_block w.note m; is_down = w.is_down; is_held = w.is_held })
+slot_later m (Some w) = Some (record { channel = w.channel; note = after_block w.note m; key_state = w.key_state })
 
 -- the state one block later
 unfoldable pub passed : State → State

@@ -1,6 +1,7 @@
 //! The blocks of sixteen slots are run: notes of one algorithm and feedback in fours, and the rest alone.
 
-ghost use Rattle.std.specs.Prelude.{◌≡◌, ◌≤◌, ◌<◌, ◌+◌, ◌*◌, ◌^◌, ℕ, ℤ, List, true, false, slice_index_or, length, IfSome};
+ghost use Rattle.std.specs.Prelude.{◌≡◌, ◌≤◌, ◌<◌, ◌+◌, ◌*◌, ◌^◌, ℕ, ℤ, true, false, IfSome};
+ghost use Rattle.std.specs.Prelude.{List, length, slice_index_or};
 ghost use Rattle.algorithm_bus.specs.declared.note_block.NoteBlock.{NoteBlock};
 ghost use Rattle.note_voice.specs.Mix.{IsAdded, IsSmall};
 ghost use Rattle.instrument.specs.Groups.{AreLeft, AreOutputs, AreRun, IsAlike, IsGroup, sum_to};
@@ -9,7 +10,7 @@ use algorithm_bus::NoteBlock;
 use dx_tables::Tables;
 use note_voice::{sound_alone, sound_four};
 
-/// The first slot from a place on that is heard, was not run, and has this algorithm and feedback.
+/// The first slot from a place on that is audible, was not run, and has this algorithm and feedback.
 fn next_alike(
     blocks: &[NoteBlock; 16],
     done: &[bool; 16],
@@ -57,7 +58,8 @@ fn run_one(
     requires i { i < 16 }
     requires mix { IsSmall (2 ^ 39) mix.old }
     requires left { slice_index_or done.old i false ≡ false }
-    ensures run { (bs : List NoteBlock) (from : List ℤ) → AreRun done.old bs blocks.old from mix.old → AreRun done.new bs blocks.new from mix.new }
+    ensures run { (bs : List NoteBlock) (from : List ℤ) →
+        AreRun done.old bs blocks.old from mix.old → AreRun done.new bs blocks.new from mix.new }
     ensures small { (bound : ℕ) → IsSmall bound mix.old → IsSmall (bound + 4 * 2 ^ 31) mix.new }
     ensures here { slice_index_or done.new i false ≡ true }
     ensures others { (x : ℕ) → slice_index_or done.old x false ≡ true → slice_index_or done.new x false ≡ true }
@@ -83,7 +85,8 @@ fn run_group(
     requires mix { IsSmall (2 ^ 39) mix.old }
     requires left { slice_index_or done.old i false ≡ false }
     requires group { IsGroup blocks.old done.old i a b c }
-    ensures run { (bs : List NoteBlock) (from : List ℤ) → AreRun done.old bs blocks.old from mix.old → AreRun done.new bs blocks.new from mix.new }
+    ensures run { (bs : List NoteBlock) (from : List ℤ) →
+        AreRun done.old bs blocks.old from mix.old → AreRun done.new bs blocks.new from mix.new }
     ensures small { (bound : ℕ) → IsSmall bound mix.old → IsSmall (bound + 4 * 2 ^ 31) mix.new }
     ensures here { slice_index_or done.new i false ≡ true }
     ensures others { (x : ℕ) → slice_index_or done.old x false ≡ true → slice_index_or done.new x false ≡ true }
@@ -120,7 +123,8 @@ fn run_from(
 )
     requires i { i < 16 }
     requires mix { IsSmall (2 ^ 39) mix.old }
-    ensures run { (bs : List NoteBlock) (from : List ℤ) → AreRun done.old bs blocks.old from mix.old → AreRun done.new bs blocks.new from mix.new }
+    ensures run { (bs : List NoteBlock) (from : List ℤ) →
+        AreRun done.old bs blocks.old from mix.old → AreRun done.new bs blocks.new from mix.new }
     ensures small { (bound : ℕ) → IsSmall bound mix.old → IsSmall (bound + 4 * 2 ^ 31) mix.new }
     ensures here { slice_index_or done.new i false ≡ true }
     ensures others { (x : ℕ) → slice_index_or done.old x false ≡ true → slice_index_or done.new x false ≡ true }

@@ -1,10 +1,12 @@
+//! The instrument: commands act on it between blocks, and each block is the sum of its slots.
+
 ghost use Rattle.std.specs.Prelude.{◌≡◌, ◌<◌, ◌≤◌, ◌+◌, ◌%◌, ℕ, Option, IfOk, IfSome};
 ghost use Rattle.voice_record.specs.Voice.{greatest_value};
 ghost use Rattle.cartridge.specs.Cartridge.{voice_at};
 ghost use Rattle.command_set.specs.Command.{IsInRange, StartsNote, EndsNote, SetsNumber, StoresVoice, TakesCartridge, content};
 ghost use Rattle.instrument.specs.State.{State, apply, controlled, free_slot, modulation, opening, passed, pedal, samples, voiced};
 
-use crate::mix::{output, silence};
+use crate::mix::{empty_mix, output};
 use crate::modulation::BlockModulation;
 use crate::slot::Slot;
 use crate::slots::{key_up_all, pedal_up_all, silence_all, sound_all, start_at};
@@ -72,7 +74,7 @@ impl Instrument {
                 velocity,
             } => self.note_on(*channel, *key, *velocity),
             Command::NoteOff { channel, key } => self.note_off(*channel, *key),
-            Command::Bend { channel: _, value } => self.take_bend(*value),
+            Command::Bend { channel: _, value } => self.set_bend(*value),
             Command::Control {
                 channel: _,
                 number,
@@ -81,8 +83,8 @@ impl Instrument {
             Command::Program { channel: _, number } => self.pick(*number),
             Command::Param { number, value } => self.set_number(*number, *value),
             Command::Store { slot } => self.store(*slot),
-            Command::Voice(voice) => self.take_voice(voice),
-            Command::Cartridge(cartridge) => self.take_cartridge(cartridge),
+            Command::Voice(voice) => self.load_voice(voice),
+            Command::Cartridge(cartridge) => self.load_cartridge(cartridge),
         }
     }
 
@@ -92,7 +94,7 @@ impl Instrument {
         ensures passed { (s : State) → IsIn self.old s → IsIn self.new (passed s) }
     {
         let modulation = self.next_modulation();
-        let mut mix = silence();
+        let mut mix = empty_mix();
         sound_all(&mut self.slots, &self.tables, &modulation, &mut mix);
         for j in 0..64usize {
             out[j] = output(mix[j]);
@@ -151,8 +153,8 @@ impl Instrument {
         key_up_all(&mut self.slots, self.is_pedal_down, channel, key);
     }
 
-    /// The pitch bend, 0 to 16383.
-    fn take_bend(&mut self, value: u16)
+    /// Sets the pitch bend, 0 to 16383.
+    fn set_bend(&mut self, value: u16)
         requires { value ≤ 16383 }
         ensures { (s : State) → IsIn self.old s → IsIn self.new (record s { bend = value }) }
     {
@@ -184,12 +186,12 @@ impl Instrument {
         }
     }
 
-    /// Takes the voice of a slot of the cartridge, the number modulo 32, with all operators on.
+    /// Loads the voice of a slot of the cartridge, the number modulo 32, with all operators on.
     fn pick(&mut self, number: u8)
         ensures { (s : State) → IsIn self.old s → IsIn self.new (voiced s (voice_at s.bank (number % 32))) }
     {
         let voice = self.bank.voice(number % 32);
-        self.take_voice(&voice);
+        self.load_voice(&voice);
     }
 
     /// Sets a number of the voice, 0 to 154, or the operator switch, 155.
@@ -214,16 +216,16 @@ impl Instrument {
         self.bank.store(slot, &self.voice);
     }
 
-    /// Takes another cartridge. The voice stays.
+    /// Loads another cartridge. The voice stays.
     #[tactic(auto, unfolding(crate::specs::State::apply))]
-    fn take_cartridge(&mut self, cartridge: &Cartridge)
+    fn load_cartridge(&mut self, cartridge: &Cartridge)
         ensures { (s : State) → IsIn self.old s → IsIn self.new (apply s (TakesCartridge cartridge.now)) }
     {
         self.bank.assign(cartridge);
     }
 
-    /// Takes another voice, with all operators on.
-    fn take_voice(&mut self, voice: &Voice)
+    /// Loads another voice, with all operators on.
+    fn load_voice(&mut self, voice: &Voice)
         ensures { (s : State) → IsIn self.old s → IsIn self.new (voiced s voice.now) }
     {
         self.voice = *voice;
@@ -244,7 +246,7 @@ impl Instrument {
         None
     }
 
-    /// What moves the notes in the next block, for which the LFO steps.
+    /// What moves the notes in the next block, for which the LFO goes one block on.
     fn next_modulation(&mut self) -> BlockModulation
         ensures value { (s : State) → IsIn self.old s → modulation_of result ≡ modulation s }
         ensures stepped { (s : State) → IsIn self.old s → IsIn self.new (record s { steps = s.steps + 1 }) }

@@ -1,9 +1,11 @@
+//! The sum of all notes, and a sample of it as 16 bits.
+
 ghost use Rattle.std.specs.Prelude.{◌≡◌};
 ghost use Rattle.instrument.specs.Mix.{AreZeros};
 ghost use Rattle.instrument.specs.State.{output_of};
 
 /// The sum of no notes.
-pub(crate) fn silence() -> [i64; 64]
+pub(crate) fn empty_mix() -> [i64; 64]
     ensures { AreZeros result }
 {
     [0; 64]

@@ -1,3 +1,5 @@
+//! What moves all notes in a block.
+
 ghost use Rattle.std.specs.Prelude.{◌≤◌, ◌^◌, pos, ◌≤ℤ◌};
 
 /// What moves all notes in a block: the LFO's value and delay, 2^24 for the greatest of both, the bend, 0 to 16383

@@ -1,4 +1,5 @@
-//! The instrument as a plain program: voices as bytes, and what a key does as one of three.
+//! The instrument as a plain program: voices as bytes, and a key in one of three states. Its notes, its LFO and its tables are the product's own
+//! (`Note`, `Lfo`, `Tables`).
 
 ghost use Rattle.std.specs.Prelude.{◌^◌};
 ghost use Rattle.note_voice.specs.Mix.{IsSmall};
@@ -10,6 +11,7 @@ use dx_tables::Tables;
 use note_voice::Note;
 use voice_record::Voice;
 
+/// How the key of a slot stands.
 #[derive(Clone, Copy, PartialEq, Eq)]
 enum Key {
     Down,
@@ -26,10 +28,14 @@ struct PlainSlot {
     note: Note,
 }
 
+/// The instrument, with counts of what happened in it.
 #[derive(Drop)]
 pub struct PlainInstrument {
+    /// The voices of the cartridge.
     pub bank: [[u8; 155]; 32],
+    /// The voice of the notes that begin.
     pub voice: [u8; 155],
+    /// The operator switch.
     pub switch: u8,
     bend: u16,
     wheel: u8,
@@ -54,6 +60,7 @@ fn nothing() -> [i64; 64]
 }
 
 impl PlainInstrument {
+    /// The opening state.
     pub fn new() -> PlainInstrument {
         let voice = Voice::init().bytes();
         PlainInstrument {
@@ -77,6 +84,7 @@ impl PlainInstrument {
         }
     }
 
+    /// Carries out a command.
     pub fn apply(&mut self, tables: &Tables, command: &Command) {
         match command {
             Command::NoteOn {

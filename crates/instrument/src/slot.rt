@@ -1,11 +1,14 @@
-ghost use Rattle.std.specs.Prelude.{◌≡◌, ◌≤◌, ◌+◌, ◌^◌, ℕ, true, false, Option, Some, None};
+//! A slot: a place for one note, with the state of its key.
+
+ghost use Rattle.std.specs.Prelude.{◌≡◌, ◌≤◌, ◌+◌, ◌^◌, ℕ, Option, Some, None};
 ghost use Rattle.operator_kernel.specs.Operator.{feedback_state_of};
 ghost use Rattle.algorithm_bus.specs.declared.note_block.NoteBlock.{NoteBlock};
 ghost use Rattle.algorithm_bus.specs.Signals.{feedback_state_left};
 ghost use Rattle.algorithm_bus.specs.NoteBlocks.{block_patch};
 ghost use Rattle.note_voice.specs.Modulation.{Modulation};
 ghost use Rattle.note_voice.specs.Note.{begun};
-ghost use Rattle.instrument.specs.State.{SlotData, held, is_up, key_up, released, silenced, slot_later, pedal_up};
+ghost use Rattle.instrument.specs.State.{SlotData, held, is_down, is_held, is_up, key_up, released, silenced, slot_later, pedal_up};
+ghost use Rattle.instrument.specs.declared.slot.Key.TheVariants.{Down};
 
 use crate::modulation::BlockModulation;
 use algorithm_bus::NoteBlock;
@@ -13,14 +16,38 @@ use dx_tables::Tables;
 use note_voice::Note;
 use voice_record::Voice;
 
+/// How the key of a slot's note stands.
+#[derive(Clone, Copy)]
+pub(crate) enum Key {
+    /// It is down.
+    Down,
+    /// It went up while the pedal was down, which holds the note.
+    Held,
+    /// It is up, and the note released; or there was none.
+    Up,
+}
+
+impl Key {
+    fn is_down(self) -> bool
+        ensures { result ≡ is_down self }
+    {
+        matches!(self, Key::Down)
+    }
+
+    fn is_held(self) -> bool
+        ensures { result ≡ is_held self }
+    {
+        matches!(self, Key::Held)
+    }
+}
+
 /// A place for a note. A note keeps its slot after its key was released, until another note takes it.
 #[derive(Clone, Copy)]
 pub(crate) struct Slot {
     channel: u8,
     key: u8,
     note: Note,
-    is_down: bool,
-    is_held: bool,
+    key_state: Key,
 }
 
 impl Slot {
@@ -34,8 +61,7 @@ impl Slot {
             channel: 0,
             key: 0,
             note: Note::idle(),
-            is_down: false,
-            is_held: false,
+            key_state: Key::Up,
         }
     }
 
@@ -52,20 +78,19 @@ impl Slot {
         requires switch { switch ≤ 63 }
         requires key { key ≤ 127 }
         requires velocity { (1 ≤ velocity) × (velocity ≤ 127) }
-        ensures { IsSlot self.new (Some (record { channel = channel; note = begun voice.now switch key velocity; is_down = true; is_held = false })) }
+        ensures { IsSlot self.new (Some (record { channel = channel; note = begun voice.now switch key velocity; key_state = Down })) }
     {
         self.note.start(tables, voice, switch, key, velocity);
         self.channel = channel;
         self.key = key;
-        self.is_down = true;
-        self.is_held = false;
+        self.key_state = Key::Down;
     }
 
     /// Whether no key is down here.
     pub(crate) fn is_up(&self) -> bool
         ensures { (w : Option SlotData) → IsSlot self.now w → result ≡ is_up w }
     {
-        !self.is_down
+        !self.key_state.is_down()
     }
 
     /// Releases the note.
@@ -73,18 +98,16 @@ impl Slot {
         ensures { (w : SlotData) → IsSlot self.old (Some w) → IsSlot self.new (Some (released w)) }
     {
         self.note.release();
-        self.is_down = false;
-        self.is_held = false;
+        self.key_state = Key::Up;
     }
 
     /// Where this key is down, it goes up; the note is released, or held by a pedal that is down.
     pub(crate) fn key_up(&mut self, is_pedal_down: bool, channel: u8, key: u8)
         ensures { (w : Option SlotData) → IsSlot self.old w → IsSlot self.new (key_up is_pedal_down channel key w) }
     {
-        if self.is_down && self.channel == channel && self.key == key {
+        if self.key_state.is_down() && self.channel == channel && self.key == key {
             if is_pedal_down {
-                self.is_down = false;
-                self.is_held = true;
+                self.key_state = Key::Held;
             } else {
                 self.release();
             }
@@ -95,7 +118,7 @@ impl Slot {
     pub(crate) fn pedal_up(&mut self)
         ensures { (w : Option SlotData) → IsSlot self.old w → IsSlot self.new (pedal_up w) }
     {
-        if self.is_held {
+        if self.key_state.is_held() {
             self.release();
         }
     }
@@ -104,7 +127,7 @@ impl Slot {
     pub(crate) fn silence(&mut self)
         ensures { (w : Option SlotData) → IsSlot self.old w → IsSlot self.new (silenced w) }
     {
-        if self.is_down || self.is_held {
+        if self.key_state.is_down() || self.key_state.is_held() {
             self.release();
         }
     }
@@ -123,9 +146,10 @@ impl Slot {
     }
 
     /// Ends a block that was run, with the two samples that it left.
-    pub(crate) fn end_block(&mut self, memory: [i32; 2])
-        ensures { (b : NoteBlock) (m : Modulation) (w : Option SlotData) → IsSlotBegun self.old b m w → feedback_state_of memory ≡ feedback_state_left (block_patch b) → IsSlot self.new (slot_later m w) }
+    pub(crate) fn end_block(&mut self, feedback_state: [i32; 2])
+        ensures { (b : NoteBlock) (m : Modulation) (w : Option SlotData) → IsSlotBegun self.old b m w
+            → feedback_state_of feedback_state ≡ feedback_state_left (block_patch b) → IsSlot self.new (slot_later m w) }
     {
-        self.note.end_block(memory);
+        self.note.end_block(feedback_state);
     }
 }

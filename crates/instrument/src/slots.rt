@@ -9,6 +9,7 @@ ghost use Rattle.instrument.specs.Mix.{AreZeros};
 ghost use Rattle.instrument.specs.Running.{AreSlots, AreSlotsBegun, modulation_of};
 ghost use Rattle.instrument.specs.Groups.{AreLeft};
 ghost use Rattle.instrument.specs.State.{SlotData, key_up, mix_of, silenced, slot_later, pedal_up};
+ghost use Rattle.instrument.specs.declared.slot.Key.TheVariants.{Down};
 
 use crate::groups::run_all;
 use crate::modulation::BlockModulation;
@@ -32,7 +33,8 @@ pub(crate) fn start_at(
     requires switch { switch ≤ 63 }
     requires key { key ≤ 127 }
     requires velocity { (1 ≤ velocity) × (velocity ≤ 127) }
-    ensures { (ws : ℕ → Option SlotData) → AreSlots slots.old ws → AreSlots slots.new (λ i. if i == at then Some (record { channel = channel; note = begun voice.now switch key velocity; is_down = true; is_held = false }) else ws i) }
+    ensures { (ws : ℕ → Option SlotData) → AreSlots slots.old ws → AreSlots slots.new (λ i. if i == at
+        then Some (record { channel = channel; note = begun voice.now switch key velocity; key_state = Down }) else ws i) }
 {
     slots[at].start(tables, voice, switch, channel, key, velocity);
 }
@@ -81,11 +83,12 @@ fn begin_all(
 
 /// Ends the blocks that were run.
 fn end_all(slots: &mut [Slot; 16], blocks: &[NoteBlock; 16])
-    ensures { (bs : List NoteBlock) (m : Modulation) (ws : ℕ → Option SlotData) → AreSlotsBegun slots.old bs m ws → AreLeft bs blocks.now → AreSlots slots.new (λ i. slot_later m (ws i)) }
+    ensures { (bs : List NoteBlock) (m : Modulation) (ws : ℕ → Option SlotData) → AreSlotsBegun slots.old bs m ws
+        → AreLeft bs blocks.now → AreSlots slots.new (λ i. slot_later m (ws i)) }
 {
     for i in 0..16usize {
-        let memory = blocks[i].feedback_state;
-        slots[i].end_block(memory);
+        let feedback_state = blocks[i].feedback_state;
+        slots[i].end_block(feedback_state);
     }
 }
 
@@ -97,8 +100,10 @@ pub(crate) fn sound_all(
     mix: &mut [i64; 64],
 )
     requires { AreZeros mix.old }
-    ensures samples { (ws : ℕ → Option SlotData) → AreSlots slots.old ws → IsAdded (mix_of (modulation_of modulation.now) ws 16) mix.old mix.new }
-    ensures passed { (ws : ℕ → Option SlotData) → AreSlots slots.old ws → AreSlots slots.new (λ i. slot_later (modulation_of modulation.now) (ws i)) }
+    ensures samples { (ws : ℕ → Option SlotData) → AreSlots slots.old ws
+        → IsAdded (mix_of (modulation_of modulation.now) ws 16) mix.old mix.new }
+    ensures passed { (ws : ℕ → Option SlotData) → AreSlots slots.old ws
+        → AreSlots slots.new (λ i. slot_later (modulation_of modulation.now) (ws i)) }
 {
     let mut blocks = begin_all(slots, tables, modulation);
     run_all(tables, &mut blocks, mix);

@@ -1,3 +1,5 @@
+//! The instrument beside a plain program.
+
 ghost use Rattle.std.specs.Prelude.{◌≤◌};
 
 use super::*;
@@ -91,8 +93,8 @@ fn a_note_sounds_and_dies_away(rt: HostRuntime) -> Result<(), Fail> {
     let mut pair = Pair::new(rt.alloc())?;
     pair.apply(&rt, &note_on(69));
     let out = pair.block(&rt, 0);
-    let front: [i16; 8] = [0, 8, 24, 47, 79, 118, 164, 217];
-    assert!(rt; out.as_slice().starts_with(&front));
+    let prefix: [i16; 8] = [0, 8, 24, 47, 79, 118, 164, 217];
+    assert!(rt; out.as_slice().starts_with(&prefix));
     for b in 1..100u32 {
         if b == 50 {
             pair.apply(&rt, &note_off(69));
@@ -203,13 +205,13 @@ fn pick(random: u32, place: u32, bound: u32) -> u8
     ((mixed >> 8) % bound.max(1)) as u8
 }
 
-/// A voice whose numbers look random, with levels that are heard.
+/// A voice whose numbers look random, each modulo its greatest value and one, with audible levels.
 fn voice_of(seed: u32) -> Voice {
     let mut numbers = [0u8; 155];
     let mut random = seed;
     for i in 0..155usize {
         random = random.wrapping_mul(1_664_525).wrapping_add(1_013_904_223);
-        numbers[i] = (random >> 24) as u8;
+        numbers[i] = ((random >> 16) % (u32::from(greatest(i as u8)) + 1)) as u8;
         if i < 126 && i % 21 == 16 {
             numbers[i] = 90 + numbers[i] % 10;
         }

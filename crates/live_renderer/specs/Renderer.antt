@@ -22,7 +22,8 @@ pub record RendererView : Type 0 where
 abbrev pub new_renderer : TakeView → ℕ → RendererView
 new_renderer taker spare = record { taker = taker; journal = []; blocks = 0; spare = spare }
 
--- The journal's entries are those that the taker took. Their blocks don't fall, and none is above the present one. Each is of an end of the line, and its command is in range.
+-- The journal's entries are those that the taker took. Their blocks don't fall, and none is above the present one. Each is of an end of the line,
+-- and its command is in range.
 pub record IsLive (v : RendererView) : Type 0 where
   pub list : entries_of v.journal ≡ v.taker.list
   pub order : AreTakenUpTo v.blocks v.journal

@@ -1,5 +1,6 @@
 //! The renderer.
-ghost use Rattle.std.specs.Prelude.{◌≡◌, ◌+◌, ◌<◌, ◌≤◌, ◌++◌, ◌∷◌, [], MatchBool, IfOk, IfErr, OnOk, OnErr, length, vec_len, vec_capacity};
+ghost use Rattle.std.specs.Prelude.{◌≡◌, ◌+◌, ◌<◌, ◌≤◌, ◌++◌, ◌∷◌, [], MatchBool, IfOk, IfErr, OnOk, OnErr};
+ghost use Rattle.std.specs.Prelude.{length, vec_len, vec_capacity};
 ghost use Rattle.command_set.specs.Command.{IsInRange};
 ghost use Rattle.command_set.specs.Entries.{EntryData, journal_data};
 ghost use Rattle.command_queue.specs.Ends.{took, found_empty, WasEmpty};
@@ -17,8 +18,8 @@ use std::alloc::{AllocError, Global};
 use std::marker::Model;
 use std::sync::Wait;
 
-/// The end of a line that takes, with a running instrument and the journal of what it took. Contracts see the end, the journal, the blocks rendered, and how many more entries find room
-/// without memory.
+/// The end of a line that takes, with a running instrument and the journal of what it took. Contracts see the end, the journal, the blocks rendered,
+/// and how many more entries find room without memory.
 #[derive(Drop)]
 pub struct LiveRenderer {
     taker: TakeEnd,
@@ -39,13 +40,15 @@ impl Model for LiveRenderer {
 
     ghost view = { λ s. record { taker = s.taker; journal = journal_data s.journal.items; blocks = s.blocks; spare = s.spare } };
 
-    ghost invariant = { λ s. IsLive (record { taker = s.taker; journal = journal_data s.journal.items; blocks = s.blocks; spare = s.spare }) × IsIn s.instrument (state_at (journal_data s.journal.items) s.blocks)
+    ghost invariant = { λ s. IsLive (record { taker = s.taker; journal = journal_data s.journal.items; blocks = s.blocks; spare = s.spare })
+        × IsIn s.instrument (state_at (journal_data s.journal.items) s.blocks)
         × (vec_len s.journal + s.spare ≤ vec_capacity s.journal) };
 }
 
 /// Want of memory, with the end that was given.
 #[derive(Drop)]
 pub struct NoRenderer {
+    /// The end.
     pub taker: TakeEnd,
 }
 
@@ -61,7 +64,8 @@ fn log_next<R: Wait>(
     requires line { taker.old.line ≡ line.now }
     requires room { vec_len journal.old < vec_capacity journal.old }
     ensures capacity { vec_capacity journal.new ≡ vec_capacity journal.old }
-    ensures got { MatchBool result ((x : EntryData) × (taker.new ≡ took taker.old x) × (journal_data journal.new.items ≡ journal_data journal.old.items ++ logged_at block x ∷ [])
+    ensures got { MatchBool result ((x : EntryData) × (taker.new ≡ took taker.old x)
+        × (journal_data journal.new.items ≡ journal_data journal.old.items ++ logged_at block x ∷ [])
         × (vec_len journal.new ≡ vec_len journal.old + 1) × (x.script < length line.now.quotas) × IsInRange x.command
         × ((s : State) → IsIn instrument.old s → IsIn instrument.new (apply s x.command)))
         ((taker.new ≡ found_empty taker.old) × WasEmpty taker.old × (journal.new ≡ journal.old) × (instrument.new ≡ instrument.old)) }

@@ -30,11 +30,14 @@ impl Model for Player {
     ghost invariant = { λ p. IsNext p.refused p.script };
 }
 
-// What a step did.
+/// What the try to send the first command that is left came to.
 #[derive(Clone, Copy, PartialEq, Eq, Drop)]
 pub enum Step {
+    /// The line accepted it.
     Sent,
+    /// The line was full, and the command is kept.
     Refused,
+    /// No command that is left is due.
     NotDue,
 }
 
