@@ -1,16 +1,17 @@
 //! The text of what is wrong with a SysEx message.
 #![tactic(auto)]
 
-ghost use Rattle.std.specs.Prelude.{◌≡◌, ◌+◌, ◌≤◌, ◌++◌, decimal, length};
+ghost use Rattle.std.specs.Prelude.{◌≡◌, ◌+◌, ◌≤◌, ◌++◌, length};
 ghost use Rattle.fault_text.specs.Text.{frame_text};
 
-use plain_text::{LineText, push_number, push_text};
+use arrayvec::ArrayVec;
+use plain_text::{push_one, push_text, push_two};
 use sysex_frame::FrameFault;
 
 /// Adds the text of a fault to a line that has 40 places left.
 #[tactic(auto, unfolding(crate::specs::Text::frame_text))]
-pub fn push_frame_text(fault: &FrameFault, into: &mut LineText)
-    requires { length into.old.items ≤ 8216 }
+pub fn push_frame_text<const N: usize>(fault: &FrameFault, into: &mut ArrayVec<u8, N>)
+    requires { length into.old.items + 40 ≤ N }
     ensures text { into.new.items ≡ into.old.items ++ frame_text fault.now }
     ensures room { length into.new.items ≤ length into.old.items + 40 }
 {
@@ -46,26 +47,6 @@ pub fn push_frame_text(fault: &FrameFault, into: &mut LineText)
             );
         }
     }
-}
-
-/// Adds a word and a number after it.
-fn push_one(into: &mut LineText, word: &[u8], number: u32)
-    requires { length into.old.items + length word.now ≤ 8246 }
-    ensures text { into.new.items ≡ into.old.items ++ (word.now ++ decimal number) }
-    ensures room { length into.new.items ≤ length into.old.items + length word.now + 10 }
-{
-    push_text(into, word);
-    push_number(into, number);
-}
-
-/// Adds two numbers, with words before and between them.
-fn push_two(into: &mut LineText, word: &[u8], first: u32, between: &[u8], second: u32)
-    requires { length into.old.items + length word.now + length between.now ≤ 8236 }
-    ensures text { into.new.items ≡ into.old.items ++ (word.now ++ (decimal first ++ (between.now ++ decimal second))) }
-    ensures room { length into.new.items ≤ length into.old.items + length word.now + length between.now + 20 }
-{
-    push_one(into, word, first);
-    push_one(into, between, second);
 }
 
 #[cfg(test)]

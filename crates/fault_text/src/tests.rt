@@ -1,6 +1,7 @@
 //! The text of each fault.
 
 use super::*;
+use plain_text::LineText;
 
 #[test]
 fn faults_have_their_texts(rt: HostRuntime) {

@@ -5,8 +5,8 @@ mod line;
 mod number;
 mod split;
 
-pub use line::{LineText, push_number, push_text};
-pub use number::{numbers_are_decimal, parse_number};
+pub use line::{LineText, push_number, push_one, push_text, push_two};
+pub use number::{has_padding, is_digit, numbers_are_decimal, parse_number};
 pub use split::{is_word, split_once};
 
 #[cfg(test)]

@@ -25,7 +25,8 @@ pub fn parse_number(text: &[u8], least: u32, most: u32) -> Option<u32>
     kept(value as u32, least, most)
 }
 
-fn is_digit(byte: u8) -> bool
+/// Whether the byte is one of the ten digits.
+pub fn is_digit(byte: u8) -> bool
     ensures { IsTrue result ↔ IsInRange 48 57 byte }
 {
     b'0' <= byte && byte <= b'9'
@@ -42,7 +43,8 @@ fn kept(value: u32, least: u32, most: u32) -> Option<u32>
     }
 }
 
-fn has_padding(text: &[u8]) -> bool
+/// Whether a zero stands in front of other digits.
+pub fn has_padding(text: &[u8]) -> bool
     ensures { result ≡ is_padded text.now }
 {
     text.len() > 1 && text[0] == b'0'
