@@ -5,7 +5,7 @@ use Rattle.std.specs.Prelude.{Option, Some, None}
 use Rattle.midi_stream.specs.declared.message.MidiMessage.{MidiMessage}
 use Rattle.midi_stream.specs.Segments.{Segment, last_segment}
 use Rattle.midi_stream.specs.Growth.{grown, extended, begun, with_status}
-use Rattle.midi_stream.specs.Messages.{segment_messages, takes_one, messages_of, ended_by, sysex_at_end}
+use Rattle.midi_stream.specs.Messages.{segment_messages, has_one_data_byte, messages_of, ended_by, sysex_at_end}
 use Rattle.midi_stream.specs.Standing.{Answers}
 
 -- the messages before the last segment, as the later ones leave them
@@ -74,7 +74,7 @@ none_begun_by false one xs e = e
 
 -- a status byte alone gives no message
 pub none_begun : (b : ℕ) → segment_messages (begun b) 0 ≡ []
-none_begun b = none_begun_by (nat_lt b 240) (takes_one b) _ (none_by_none (nat_eq b 240) false _ refl)
+none_begun b = none_begun_by (nat_lt b 240) (has_one_data_byte b) _ (none_by_none (nat_eq b 240) false _ refl)
 
 joined : (prefix before now : List MidiMessage) (answer : Option MidiMessage) → Answers answer before now → Answers answer (prefix ++ before) (prefix ++ now)
 joined prefix before now None h = ap (λ (l : List MidiMessage). prefix ++ l) h

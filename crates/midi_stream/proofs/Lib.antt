@@ -4,3 +4,4 @@ pub mod Groups
 pub mod Steps
 pub mod Rests
 pub mod Answered
+pub mod Ended

@@ -8,7 +8,7 @@ use Rattle.midi_stream.specs.declared.state.ParserState.{ParserState}
 use Rattle.midi_stream.specs.declared.state.ParserState.TheVariants.{Between, Begun, Running, Half, InSysEx}
 use Rattle.midi_stream.specs.Segments.{Segment, last_segment}
 use Rattle.midi_stream.specs.Growth.{grown, extended, begun, with_status}
-use Rattle.midi_stream.specs.Messages.{message_of_one, message_of_two, takes_one, by_twos, after_twos, channel_messages, unused_data, sysex_message, segment_messages, messages_of, ended_by, sysex_at_end}
+use Rattle.midi_stream.specs.Messages.{message_of_one, message_of_two, has_one_data_byte, by_twos, after_twos, channel_messages, unused_data, sysex_message, segment_messages, messages_of, ended_by, sysex_at_end}
 use Rattle.midi_stream.specs.declared.step.Step.{Step}
 use Rattle.midi_stream.specs.Steps.{Advances}
 use Rattle.midi_stream.specs.Standing.{Answers, HasBytes, IsBetween, IsChannel, IsBegun, IsRunning, IsHalf, IsSysEx, EndsNone, StandsAt, kept_with}
@@ -22,21 +22,21 @@ channel_status : (status : ℕ) (segment : Segment) → IsChannel status segment
 channel_status status segment h = let e = h.same in let l = h.low in omega arith
 
 -- a data byte of a channel status that takes one
-pub running_one : (status : ℕ) (parts : List Segment) (b : ℕ) → takes_one status ≡ true → IsChannel status (last_segment parts) → IsRunning status (last_segment (extended parts b))
+pub running_one : (status : ℕ) (parts : List Segment) (b : ℕ) → has_one_data_byte status ≡ true → IsChannel status (last_segment parts) → IsRunning status (last_segment (extended parts b))
 running_one status parts b t h =
     subst (IsRunning status) (sym (last_extended parts b (channel_status _ _ h)))
     (record { channel = channel_grown _ _ b h; some = not_empty (last_segment parts).data_bytes b; unused = rw t })
 
-ones : (status : ℕ) (bytes : List ℕ) → takes_one status ≡ true → channel_messages status bytes ≡ map (message_of_one status) bytes
+ones : (status : ℕ) (bytes : List ℕ) → has_one_data_byte status ≡ true → channel_messages status bytes ≡ map (message_of_one status) bytes
 ones status bytes t = rw t
 
-twos : (status : ℕ) (bytes : List ℕ) → takes_one status ≡ false → channel_messages status bytes ≡ by_twos status bytes
+twos : (status : ℕ) (bytes : List ℕ) → has_one_data_byte status ≡ false → channel_messages status bytes ≡ by_twos status bytes
 twos status bytes t = rw t
 
-unused_two : (status : ℕ) (bytes : List ℕ) → takes_one status ≡ false → unused_data status bytes ≡ after_twos bytes
+unused_two : (status : ℕ) (bytes : List ℕ) → has_one_data_byte status ≡ false → unused_data status bytes ≡ after_twos bytes
 unused_two status bytes t = rw t
 
-pub unused_begun : (status : ℕ) (parts : List Segment) → takes_one status ≡ false → IsBegun status (last_segment parts) → unused_data status (last_segment parts).data_bytes ≡ []
+pub unused_begun : (status : ℕ) (parts : List Segment) → has_one_data_byte status ≡ false → IsBegun status (last_segment parts) → unused_data status (last_segment parts).data_bytes ≡ []
 unused_begun status parts t h = unused_two status (last_segment parts).data_bytes t ∙ ap after_twos h.none
 
 -- what a channel segment gives where one more data byte comes
@@ -44,7 +44,7 @@ grown_messages : (status : ℕ) (parts : List Segment) (b : ℕ) → IsChannel s
 grown_messages status parts b h =
     ap (λ (s : Segment). segment_messages s 0) (last_extended parts b (channel_status _ _ h)) ∙ channel_segment status 0 (grown (last_segment parts) b) (channel_grown _ _ b h)
 
-pub answer_one : (status : ℕ) (parts : List Segment) (b : ℕ) → takes_one status ≡ true → IsChannel status (last_segment parts) → messages_of (extended parts b) ≡ messages_of parts ++ message_of_one status b ∷ []
+pub answer_one : (status : ℕ) (parts : List Segment) (b : ℕ) → has_one_data_byte status ≡ true → IsChannel status (last_segment parts) → messages_of (extended parts b) ≡ messages_of parts ++ message_of_one status b ∷ []
 answer_one status parts b t h =
     let bytes = (last_segment parts).data_bytes in
     let m : List MidiMessage = message_of_one status b ∷ [] in
@@ -53,14 +53,14 @@ answer_one status parts b t h =
     answer_data parts b (Some (message_of_one status b)) (now ∙ ap (λ (l : List MidiMessage). l ++ m) (sym before))
 
 -- a data byte that is the first of two
-pub half_first : (status : ℕ) (parts : List Segment) (b : ℕ) → takes_one status ≡ false → IsChannel status (last_segment parts) → unused_data status (last_segment parts).data_bytes ≡ [] → IsHalf status b (last_segment (extended parts b))
+pub half_first : (status : ℕ) (parts : List Segment) (b : ℕ) → has_one_data_byte status ≡ false → IsChannel status (last_segment parts) → unused_data status (last_segment parts).data_bytes ≡ [] → IsHalf status b (last_segment (extended parts b))
 half_first status parts b t h u =
     let bytes = (last_segment parts).data_bytes in
     let f = first_of_two status bytes b (sym (unused_two status bytes t) ∙ u) in
     subst (IsHalf status b) (sym (last_extended parts b (channel_status _ _ h)))
     (record { channel = channel_grown _ _ b h; two = t; unused = unused_two status (bytes ++ b ∷ []) t ∙ f.left })
 
-pub answer_first : (status : ℕ) (parts : List Segment) (b : ℕ) → takes_one status ≡ false → IsChannel status (last_segment parts) → unused_data status (last_segment parts).data_bytes ≡ [] → messages_of (extended parts b) ≡ messages_of parts
+pub answer_first : (status : ℕ) (parts : List Segment) (b : ℕ) → has_one_data_byte status ≡ false → IsChannel status (last_segment parts) → unused_data status (last_segment parts).data_bytes ≡ [] → messages_of (extended parts b) ≡ messages_of parts
 answer_first status parts b t h u =
     let bytes = (last_segment parts).data_bytes in
     let f = first_of_two status bytes b (sym (unused_two status bytes t) ∙ u) in

@@ -6,3 +6,4 @@ pub mod Standing
 pub mod Reading
 pub mod Growth
 pub mod Steps
+pub mod Ended

@@ -20,8 +20,8 @@ message_of_two status first second =
     else Bend (status % 16) (first + 128 * second)
 
 -- whether messages with this channel status have one data byte, and not two
-abbrev pub takes_one : ℕ → Bool
-takes_one status = nat_le 192 status && nat_lt status 224
+abbrev pub has_one_data_byte : ℕ → Bool
+has_one_data_byte status = nat_le 192 status && nat_lt status 224
 
 -- one message for each two data bytes
 abbrev pub by_twos : ℕ → List ℕ → List MidiMessage
@@ -37,11 +37,11 @@ after_twos (first ∷ second ∷ later) = after_twos later
 
 -- the messages of a channel status: as many as its data bytes fill
 abbrev pub channel_messages : ℕ → List ℕ → List MidiMessage
-channel_messages status bytes = if takes_one status then map (message_of_one status) bytes else by_twos status bytes
+channel_messages status bytes = if has_one_data_byte status then map (message_of_one status) bytes else by_twos status bytes
 
 -- the data bytes after the last whole message of a channel status
 abbrev pub unused_data : ℕ → List ℕ → List ℕ
-unused_data status bytes = if takes_one status then [] else after_twos bytes
+unused_data status bytes = if has_one_data_byte status then [] else after_twos bytes
 
 -- a SysEx message by the count of its bytes; above 5000 they are not kept
 abbrev pub sysex_message : ℕ → MidiMessage

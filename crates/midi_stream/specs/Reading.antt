@@ -6,4 +6,4 @@ use Rattle.midi_stream.specs.Standing.{StandsAt}
 
 -- the reader has been fed the stream
 unfoldable pub Reads : MidiReader → List ℕ → Type 0
-Reads reader stream = StandsAt reader.state reader.kept.items (segments (clean stream))
+Reads reader stream = StandsAt reader.state reader.kept.value.items (segments (clean stream))

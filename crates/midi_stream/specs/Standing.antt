@@ -7,7 +7,7 @@ use Rattle.midi_stream.specs.declared.message.MidiMessage.TheVariants.{Bend, Sys
 use Rattle.midi_stream.specs.declared.state.ParserState.{ParserState}
 use Rattle.midi_stream.specs.declared.state.ParserState.TheVariants.{Between, Begun, Running, Half, InSysEx}
 use Rattle.midi_stream.specs.Segments.{Segment, last_segment}
-use Rattle.midi_stream.specs.Messages.{takes_one, unused_data, sysex_at_end}
+use Rattle.midi_stream.specs.Messages.{has_one_data_byte, unused_data, sysex_at_end}
 
 -- no message has begun: the last segment is of a system status, if there is one
 pub record IsBetween (kept : List ℕ) (parts : List Segment) : Type 0 where
@@ -34,7 +34,7 @@ pub record IsRunning (status : ℕ) (segment : Segment) : Type 0 where
 -- its last data byte is the first of two
 pub record IsHalf (status first : ℕ) (segment : Segment) : Type 0 where
   pub channel : IsChannel status segment
-  pub two : takes_one status ≡ false
+  pub two : has_one_data_byte status ≡ false
   pub unused : unused_data status segment.data_bytes ≡ first ∷ []
 
 -- the last segment is of a SysEx message with so many bytes, of which the first 5000 are kept

@@ -1,22 +1,22 @@
 //! Channel messages by their status and data bytes.
 
 ghost use Rattle.std.specs.Prelude.{ℕ, List, Option, ◌≡◌, ◌<◌, ◌≤◌, ◌==◌, if◌then◌else◌};
-ghost use Rattle.midi_stream.specs.Messages.{message_of_one, message_of_two, takes_one};
+ghost use Rattle.midi_stream.specs.Messages.{message_of_one, message_of_two, has_one_data_byte};
 ghost use Rattle.midi_stream.specs.Ranges.{InRange};
 ghost use Rattle.midi_stream.specs.Standing.{HasBytes};
 
 use crate::message::MidiMessage;
 
-/// Whether a channel status takes one data byte, and not two.
-pub fn takes_one(status: u8) -> bool
-    ensures { result ≡ takes_one status }
+/// Whether the messages of a channel status have one data byte, and not two.
+pub fn has_one_data_byte(status: u8) -> bool
+    ensures { result ≡ has_one_data_byte status }
 {
     (0xC0..0xE0).contains(&status)
 }
 
 /// The message of a channel status with one data byte.
 #[tactic(auto, unfolding(crate::specs::Messages::message_of_one))]
-pub fn with_one(status: u8, value: u8) -> MidiMessage
+pub fn message_of_one(status: u8, value: u8) -> MidiMessage
     requires { value < 128 }
     ensures value { result ≡ message_of_one status value }
     ensures bytes { (kept : Option (List ℕ)) → HasBytes result kept }
@@ -55,7 +55,7 @@ fn note(channel: u8, key: u8, velocity: u8) -> MidiMessage
 
 /// The message of a channel status with two data bytes.
 #[tactic(auto, unfolding(crate::specs::Messages::message_of_two))]
-pub fn with_two(status: u8, first: u8, second: u8) -> MidiMessage
+pub fn message_of_two(status: u8, first: u8, second: u8) -> MidiMessage
     requires first { first < 128 }
     requires second { second < 128 }
     ensures value { result ≡ message_of_two status first second }

@@ -1,33 +1,29 @@
-//! The bytes that are kept of a SysEx message.
+//! The bytes that are kept of a SysEx message, in storage that can't grow.
 
-ghost use Rattle.std.specs.Prelude.{◌≡◌, ◌≤◌, ◌∷◌, ◌++◌, [], take, vec_len, vec_capacity};
+ghost use Rattle.std.specs.Prelude.{◌≡◌, ◌∷◌, ◌++◌, [], take};
 ghost use Rattle.midi_stream.specs.Standing.{kept_in, kept_with};
 
 use crate::state::ParserState;
+use arrayvec::ArrayVec;
 
 /// How many bytes of a SysEx message are kept.
-pub const KEPT: usize = 5000;
+const KEPT: usize = 5000;
+
+/// The bytes that are kept. It has its room from the start and takes no memory later.
+pub type KeptBytes = ArrayVec<u8, KEPT>;
 
 /// Puts a byte at the end, where there is room left.
-fn push(kept: &mut Vec<u8>, byte: u8)
-    requires room { 5000 ≤ vec_capacity kept.old }
-    requires short { vec_len kept.old ≤ 5000 }
-    ensures items { kept.new.items ≡ take 5000 (kept.old.items ++ byte ∷ []) }
-    ensures capacity { 5000 ≤ vec_capacity kept.new }
-    ensures len { vec_len kept.new ≤ 5000 }
+fn push(kept: &mut KeptBytes, byte: u8)
+    ensures { kept.new.items ≡ take 5000 (kept.old.items ++ byte ∷ []) }
 {
     if kept.len() < KEPT {
-        let _ = kept.push(byte);
+        kept.push(byte);
     }
 }
 
 /// Keeps the next byte of a stream, if it belongs to a SysEx message.
-pub fn keep(kept: &mut Vec<u8>, state: ParserState, byte: u8)
-    requires room { 5000 ≤ vec_capacity kept.old }
-    requires short { vec_len kept.old ≤ 5000 }
-    ensures items { kept.new.items ≡ kept_with state kept.old.items byte }
-    ensures capacity { 5000 ≤ vec_capacity kept.new }
-    ensures len { vec_len kept.new ≤ 5000 }
+pub fn keep(kept: &mut KeptBytes, state: ParserState, byte: u8)
+    ensures { kept.new.items ≡ kept_with state kept.old.items byte }
 {
     if byte == 0xF0 {
         kept.clear();
@@ -38,12 +34,8 @@ pub fn keep(kept: &mut Vec<u8>, state: ParserState, byte: u8)
 }
 
 /// Keeps the next byte of a SysEx message that has begun.
-fn keep_inside(kept: &mut Vec<u8>, state: ParserState, byte: u8)
-    requires room { 5000 ≤ vec_capacity kept.old }
-    requires short { vec_len kept.old ≤ 5000 }
-    ensures items { kept.new.items ≡ kept_in state kept.old.items byte }
-    ensures capacity { 5000 ≤ vec_capacity kept.new }
-    ensures len { vec_len kept.new ≤ 5000 }
+fn keep_inside(kept: &mut KeptBytes, state: ParserState, byte: u8)
+    ensures { kept.new.items ≡ kept_in state kept.old.items byte }
 {
     match state {
         ParserState::InSysEx { .. } => push(kept, byte),

@@ -8,6 +8,7 @@ mod reader;
 mod state;
 mod step;
 
+pub use channel::{has_one_data_byte, message_of_one, message_of_two};
 pub use message::MidiMessage;
 pub use reader::MidiReader;
 

@@ -1,9 +1,9 @@
 //! The reader of a stream of MIDI bytes.
 
-ghost use Rattle.std.specs.Prelude.{◌≡◌, ◌≤◌, true, vec_len, vec_capacity};
+ghost use Rattle.std.specs.Prelude.{◌≡◌, true};
 ghost use Rattle.midi_stream.specs.ParserState.{holds_data};
 
-use crate::kept::{KEPT, keep};
+use crate::kept::{KeptBytes, keep};
 use crate::message::MidiMessage;
 use crate::state::ParserState;
 use crate::step::next_step;
@@ -13,30 +13,27 @@ use std::alloc::{AllocError, Global};
 #[derive(Drop)]
 pub struct MidiReader {
     state: ParserState,
-    kept: Vec<u8>,
-    ghost room: { 5000 ≤ vec_capacity kept },
-    ghost short: { vec_len kept ≤ 5000 },
+    kept: Box<KeptBytes>,
     ghost holds: { holds_data state ≡ true },
 }
 
 impl MidiReader {
-    ghost use Rattle.std.specs.Prelude.{ℕ, List, [], ◌∷◌, ◌++◌, ◌<◌, ◌↔◌, length, not, IfOk, IfSome};
+    ghost use Rattle.std.specs.Prelude.{ℕ, List, [], ◌∷◌, ◌++◌, ◌≤◌, ◌↔◌, length, not, IfOk, IfSome};
     ghost use Rattle.midi_stream.specs.Messages.{messages, is_unfinished, last_sysex};
     ghost use Rattle.midi_stream.specs.declared.message.MidiMessage.{MidiMessage};
     ghost use Rattle.midi_stream.specs.Ranges.{InRange};
     ghost use Rattle.midi_stream.specs.Reading.{Reads};
     ghost use Rattle.midi_stream.specs.Standing.{Answers, HasBytes};
 
-    /// A reader of a new stream. It reserves all the memory that it needs, 5000 bytes.
+    /// A reader of a new stream. It takes all the memory that it needs, 5000 bytes in storage that can't grow.
     ///
     /// The one error is want of memory.
     pub fn new(alloc: Global) -> Result<MidiReader, AllocError>
         ensures { IfOk result (λ reader. Reads reader []) }
     {
-        let kept = Vec::with_capacity(alloc, KEPT)?;
         Ok(MidiReader {
             state: ParserState::Between,
-            kept,
+            kept: Box::new(alloc, KeptBytes::new())?,
         })
     }
 

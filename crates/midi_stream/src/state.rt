@@ -7,11 +7,11 @@ ghost use Rattle.std.specs.Prelude.{◌≡◌};
 pub enum ParserState {
     /// In none that counts.
     Between,
-    /// Behind a channel status.
+    /// After a channel status.
     Begun { status: u8 },
-    /// Behind a whole channel message, whose status still holds.
+    /// After a whole channel message, whose status still holds.
     Running { status: u8 },
-    /// Behind the first of two data bytes.
+    /// After the first of two data bytes.
     Half { status: u8, first: u8 },
     /// In a SysEx message, of which so many bytes came.
     InSysEx { count: u32 },

@@ -10,7 +10,7 @@ ghost use Rattle.midi_stream.specs.Ranges.{InRange};
 ghost use Rattle.midi_stream.specs.Standing.{StandsAt, EndsNone, HasBytes, kept_with};
 ghost use Rattle.midi_stream.specs.Steps.{Advances};
 
-use crate::channel;
+use crate::channel::{has_one_data_byte, message_of_one, message_of_two};
 use crate::message::MidiMessage;
 use crate::state::ParserState;
 
@@ -27,10 +27,10 @@ fn first_data(status: u8, byte: u8) -> Step
     ensures begun { Advances (ParserState.Begun status) byte extended result }
     ensures running { Advances (ParserState.Running status) byte extended result }
 {
-    if channel::takes_one(status) {
+    if has_one_data_byte(status) {
         Step {
             state: ParserState::Running { status },
-            message: Some(channel::with_one(status, byte)),
+            message: Some(message_of_one(status, byte)),
         }
     } else {
         Step {
@@ -51,7 +51,7 @@ fn second_data(status: u8, first: u8, byte: u8) -> Step
 {
     Step {
         state: ParserState::Running { status },
-        message: Some(channel::with_two(status, first, byte)),
+        message: Some(message_of_two(status, first, byte)),
     }
 }
 

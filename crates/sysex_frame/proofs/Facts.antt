@@ -1,4 +1,4 @@
--- What a text without a fault is like, place by place, and the other way round.
+-- What a message without a fault is like, place by place, and the other way round.
 use Rattle.std.proofs.Common.{◌≡◌, ℕ, ◌+◌, ◌-◌, ◌<◌, ◌≤◌, Bool, true, false, nat_le, List, length, get_or, arith, refl, subst, inl, inr, Some, None}
 use Rattle.std.specs.declared.option.Option.{Option}
 use Rattle.std.specs.Option.{option_or, option_map}
@@ -28,15 +28,15 @@ pub row_none : (b : Bool) (f : FrameFault) → b ≡ false → where_true b f �
 row_none b f h = rw h
 
 -- the first four rows and the others are the whole table
-pub by_parts : (text : List ℕ) → first_fault text ≡ option_or (early_fault text) (later_fault text)
+pub by_parts : (message : List ℕ) → first_fault message ≡ option_or (early_fault message) (later_fault message)
 unfolding first_fault
-by_parts text =
-    elim (not_framed text) as (λ a. option_or a (option_or (not_yamaha text) (option_or (data_byte text) (option_or (too_short text) (later_fault text))))
-    ≡ option_or (option_or a (option_or (not_yamaha text) (option_or (data_byte text) (option_or (too_short text) None)))) (later_fault text)) [
-      | None ↦ elim (not_yamaha text) as (λ a. option_or a (option_or (data_byte text) (option_or (too_short text) (later_fault text)))
-          ≡ option_or (option_or a (option_or (data_byte text) (option_or (too_short text) None))) (later_fault text)) [
-            | None ↦ elim (data_byte text) as (λ a. option_or a (option_or (too_short text) (later_fault text)) ≡ option_or (option_or a (option_or (too_short text) None)) (later_fault text)) [
-              | None ↦ elim (too_short text) as (λ a. option_or a (later_fault text) ≡ option_or (option_or a None) (later_fault text)) [ None ↦ refl | Some x ↦ refl ]
+by_parts message =
+    elim (not_framed message) as (λ a. option_or a (option_or (not_yamaha message) (option_or (data_byte message) (option_or (too_short message) (later_fault message))))
+    ≡ option_or (option_or a (option_or (not_yamaha message) (option_or (data_byte message) (option_or (too_short message) None)))) (later_fault message)) [
+      | None ↦ elim (not_yamaha message) as (λ a. option_or a (option_or (data_byte message) (option_or (too_short message) (later_fault message)))
+          ≡ option_or (option_or a (option_or (data_byte message) (option_or (too_short message) None))) (later_fault message)) [
+            | None ↦ elim (data_byte message) as (λ a. option_or a (option_or (too_short message) (later_fault message)) ≡ option_or (option_or a (option_or (too_short message) None)) (later_fault message)) [
+              | None ↦ elim (too_short message) as (λ a. option_or a (later_fault message) ≡ option_or (option_or a None) (later_fault message)) [ None ↦ refl | Some x ↦ refl ]
               | Some x ↦ refl
             ]
             | Some x ↦ refl
@@ -45,12 +45,12 @@ by_parts text =
     ]
 
 -- ---- the ends and the data bytes
-pub record IsPlain (text : List ℕ) : Type 0 where
-  pub long : 5 ≤ length text
-  pub first : get_or text 0 0 ≡ 0xF0
-  pub manufacturer : get_or text 1 0 ≡ 0x43
-  pub bytes : (k : ℕ) → 2 ≤ k → k + 1 < length text → get_or text k 0 < 128
-  pub ended : get_or text (length text - 1) 0 ≡ 0xF7
+pub record IsPlain (message : List ℕ) : Type 0 where
+  pub long : 5 ≤ length message
+  pub first : get_or message 0 0 ≡ 0xF0
+  pub manufacturer : get_or message 1 0 ≡ 0x43
+  pub bytes : (k : ℕ) → 2 ≤ k → k + 1 < length message → get_or message k 0 < 128
+  pub ended : get_or message (length message - 1) 0 ≡ 0xF7
 
 no_position : (xs : List ℕ) → option_map (λ k. DataByte (k + 2)) (position (λ b. nat_le 128 b) xs) ≡ None → (k : ℕ) → k < length xs → get_or xs k 0 < 128
 no_position xs h k l =
@@ -65,13 +65,13 @@ position_none xs h =
     position_or_len_is (λ b. nat_le 128 b) xs (length xs) 0 (omega arith) (λ k l. lt-leb _ _ (h k l)) (λ l. absurd (omega (arith, l))) in
     rw e (rw (le-ltb (length xs) (length xs) (omega arith)))
 
-pub plain_from_none : (text : List ℕ) → early_fault text ≡ None → IsPlain text
-plain_from_none text h =
-    let one = none_parts (not_framed text) _ h in
-    let two = none_parts (not_yamaha text) _ one.1 in
-    let three = none_parts (data_byte text) _ two.1 in
-    let four = none_parts (too_short text) None three.1 in
-    let long : 5 ≤ length text = ltb-false _ _ (row_free _ _ four.0) in
+pub plain_from_none : (message : List ℕ) → early_fault message ≡ None → IsPlain message
+plain_from_none message h =
+    let one = none_parts (not_framed message) _ h in
+    let two = none_parts (not_yamaha message) _ one.1 in
+    let three = none_parts (data_byte message) _ two.1 in
+    let four = none_parts (too_short message) None three.1 in
+    let long : 5 ≤ length message = ltb-false _ _ (row_free _ _ four.0) in
     let ends = or_parts _ _ (row_free _ _ one.0) in
     let both = or_parts _ _ ends.1 in
     record {
@@ -79,21 +79,21 @@ plain_from_none text h =
       first = eqb-true _ _ (not-false _ both.0);
       manufacturer = eqb-true _ _ (not-false _ (row_free _ _ two.0));
       bytes = λ k two_on below.
-          let size : length (slice_range text 2 (length text - 1)) ≡ length text - 1 - 2 = length-between text 2 (length text - 1) (omega arith) in
-          let there : get_or (slice_range text 2 (length text - 1)) (k - 2) 0 ≡ get_or text (2 + (k - 2)) 0 = get_or-between text 2 (length text - 1) (k - 2) 0 (omega arith) in
+          let size : length (slice_range message 2 (length message - 1)) ≡ length message - 1 - 2 = length-between message 2 (length message - 1) (omega arith) in
+          let there : get_or (slice_range message 2 (length message - 1)) (k - 2) 0 ≡ get_or message (2 + (k - 2)) 0 = get_or-between message 2 (length message - 1) (k - 2) 0 (omega arith) in
           let same : 2 + (k - 2) ≡ k = omega arith in
-          let small = no_position (slice_range text 2 (length text - 1)) three.0 (k - 2) (omega arith) in
-          subst (λ j. get_or text j 0 < 128) same (rw there at small);
+          let small = no_position (slice_range message 2 (length message - 1)) three.0 (k - 2) (omega arith) in
+          subst (λ j. get_or message j 0 < 128) same (rw there at small);
       ended = eqb-true _ _ (not-false _ both.1);
     }
 
-pub none_from_plain : (text : List ℕ) → IsPlain text → early_fault text ≡ None
-none_from_plain text p =
-    let framed : not_framed text ≡ None =
-    row_none _ _ (rw (le-ltb _ _ (let l = p.long in let m : 2 ≤ length text = omega arith in m), eq-eqb _ _ p.first, eq-eqb _ _ p.ended)) in
-    let made : not_yamaha text ≡ None = row_none _ _ (rw (eq-eqb _ _ p.manufacturer)) in
-    let size : length (slice_range text 2 (length text - 1)) ≡ length text - 1 - 2 = length-between text 2 (length text - 1) (omega arith) in
-    let clean : data_byte text ≡ None =
-    position_none (slice_range text 2 (length text - 1)) (λ k l. rw (get_or-between text 2 (length text - 1) k 0 (omega arith)) (p.bytes (2 + k) (omega arith) (omega arith))) in
-    let long : too_short text ≡ None = row_none _ _ (le-ltb _ _ p.long) in
+pub none_from_plain : (message : List ℕ) → IsPlain message → early_fault message ≡ None
+none_from_plain message p =
+    let framed : not_framed message ≡ None =
+    row_none _ _ (rw (le-ltb _ _ (let l = p.long in let m : 2 ≤ length message = omega arith in m), eq-eqb _ _ p.first, eq-eqb _ _ p.ended)) in
+    let made : not_yamaha message ≡ None = row_none _ _ (rw (eq-eqb _ _ p.manufacturer)) in
+    let size : length (slice_range message 2 (length message - 1)) ≡ length message - 1 - 2 = length-between message 2 (length message - 1) (omega arith) in
+    let clean : data_byte message ≡ None =
+    position_none (slice_range message 2 (length message - 1)) (λ k l. rw (get_or-between message 2 (length message - 1) k 0 (omega arith)) (p.bytes (2 + k) (omega arith) (omega arith))) in
+    let long : too_short message ≡ None = row_none _ _ (le-ltb _ _ p.long) in
     rw (framed, made, clean, long)

@@ -1,4 +1,4 @@
--- A list by its first places and its last, and texts that are spelled out.
+-- A list by its first places and its last, and messages that are spelled out.
 use Rattle.std.proofs.Common.{◌≡◌, ℕ, zero, suc, ◌+◌, ◌-◌, ◌<◌, ◌≤◌, List, [], ◌∷◌, ◌++◌, length, get_or, take, drop, ap, sym, ◌∙◌, arith, refl, length-append, append_assoc, inl, inr}
 use Rattle.std.specs.List.{slice_range}
 use Rattle.std.proofs.lemmas.Bool.{cases_lt}
@@ -74,10 +74,10 @@ data_append xs ys a b = λ k below.
       | inr r ↦ rw (get_or-append_right xs ys (length xs) k 0 refl r) (b (k - length xs) (omega (arith, length-append xs ys)))
     ]
 
--- a text with good ends and data bytes between them
-pub plain_text : (mid : List ℕ) → 2 ≤ length mid → IsData mid → IsPlain (0xF0 ∷ 0x43 ∷ (mid ++ 0xF7 ∷ []))
-plain_text mid l h =
-    let text : List ℕ = 0xF0 ∷ 0x43 ∷ (mid ++ 0xF7 ∷ []) in
+-- a message with good ends and data bytes between them
+pub plain_message : (mid : List ℕ) → 2 ≤ length mid → IsData mid → IsPlain (0xF0 ∷ 0x43 ∷ (mid ++ 0xF7 ∷ []))
+plain_message mid l h =
+    let message : List ℕ = 0xF0 ∷ 0x43 ∷ (mid ++ 0xF7 ∷ []) in
     let size : length (mid ++ 0xF7 ∷ []) ≡ length mid + 1 = length-append mid (0xF7 ∷ []) in
     record {
       long = omega arith;
@@ -88,6 +88,6 @@ plain_text mid l h =
           let small : k - 2 < length mid = omega arith in
           rw e (rw get_or_append_left (h (k - 2) small));
       ended =
-          (let e : length text - 1 ≡ suc (suc (length mid)) = omega arith in
-          ap (λ j. get_or text j 0) e ∙ get_or_at mid 0xF7 [] 0 (length mid) refl);
+          (let e : length message - 1 ≡ suc (suc (length mid)) = omega arith in
+          ap (λ j. get_or message j 0) e ∙ get_or_at mid 0xF7 [] 0 (length mid) refl);
     }

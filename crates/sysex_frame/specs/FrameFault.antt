@@ -1,4 +1,4 @@
--- The faults of a text that is no message, as a table of conditions on the whole text.
+-- The faults of bytes that are no message, as a table of conditions on all of them.
 use Rattle.std.specs.Prelude.{ℕ, ◌+◌, ◌-◌, ◌*◌, ◌/◌, ◌%◌, Bool, true, ◌&&◌, ◌||◌, not, nat_lt, nat_le, ◌==◌, if◌then◌else◌, List, []}
 use Rattle.std.specs.Prelude.{◌∷◌, length, slice_index, slice_range}
 use Rattle.std.specs.declared.option.Option.{Option}
@@ -11,101 +11,104 @@ use Rattle.sysex_frame.specs.declared.frame.FrameFault.{FrameFault}
 use Rattle.sysex_frame.specs.declared.frame.FrameFault.TheVariants.{NotFramed, NotYamaha, DataByte, Short, UnknownSubstatus}
 use Rattle.sysex_frame.specs.declared.frame.FrameFault.TheVariants.{UnknownFormat, CountBytes, Length, Checksum, ParamValue}
 
--- the parts of a text, by their places
+-- the parts of a message, by their places
 abbrev pub last : List ℕ → ℕ
-last text = slice_index text (length text - 1)
+last message = slice_index message (length message - 1)
 
 -- 0 a dump, 1 a parameter change, 2 a request
 abbrev pub substatus : List ℕ → ℕ
-substatus text = slice_index text 2 / 16
+substatus message = slice_index message 2 / 16
 
 abbrev pub device : List ℕ → ℕ
-device text = slice_index text 2 % 16
+device message = slice_index message 2 % 16
 
 -- of a dump: 0 one voice, 9 thirty-two voices
 abbrev pub format : List ℕ → ℕ
-format text = slice_index text 3
+format message = slice_index message 3
 
 -- of a parameter change
 abbrev pub group : List ℕ → ℕ
-group text = slice_index text 3 / 4 % 32
+group message = slice_index message 3 / 4 % 32
 
 abbrev pub number : List ℕ → ℕ
-number text = slice_index text 3 % 4 * 128 + slice_index text 4
+number message = slice_index message 3 % 4 * 128 + slice_index message 4
 
 -- of a dump: all between the count bytes and the checksum
 abbrev pub payload : List ℕ → List ℕ
-payload text = slice_range text 6 (length text - 2)
+payload message = slice_range message 6 (length message - 2)
 
 abbrev pub check : List ℕ → ℕ
-check text = slice_index text (length text - 2)
+check message = slice_index message (length message - 2)
 
 -- a row of the table: its fault where its condition holds
 abbrev pub where_true : Bool → FrameFault → Option FrameFault
 where_true condition fault = if condition then Some fault else None
 
--- the text is shorter than 2 bytes, doesn't begin with F0, or doesn't end with F7
+-- the message is shorter than 2 bytes, doesn't begin with F0, or doesn't end with F7
 abbrev pub not_framed : List ℕ → Option FrameFault
-not_framed text = where_true (nat_lt (length text) 2 || (not (slice_index text 0 == 0xF0) || not (last text == 0xF7))) NotFramed
+not_framed message = where_true (nat_lt (length message) 2 || (not (slice_index message 0 == 0xF0) || not (last message == 0xF7))) NotFramed
 
 -- its second byte isn't Yamaha's number
 abbrev pub not_yamaha : List ℕ → Option FrameFault
-not_yamaha text = where_true (not (slice_index text 1 == 0x43)) NotYamaha
+not_yamaha message = where_true (not (slice_index message 1 == 0x43)) NotYamaha
 
 -- a byte of 128 or more stands between its second byte and its last; the first such place
 abbrev pub data_byte : List ℕ → Option FrameFault
-data_byte text = option_map (λ k. DataByte (k + 2)) (position (λ b. nat_le 128 b) (slice_range text 2 (length text - 1)))
+data_byte message = option_map (λ k. DataByte (k + 2)) (position (λ b. nat_le 128 b) (slice_range message 2 (length message - 1)))
 
 -- it has fewer than 5 bytes
 abbrev pub too_short : List ℕ → Option FrameFault
-too_short text = where_true (nat_lt (length text) 5) (Short (length text))
+too_short message = where_true (nat_lt (length message) 5) (Short (length message))
 
 -- its substatus is 3 or more
 abbrev pub unknown_substatus : List ℕ → Option FrameFault
-unknown_substatus text = where_true (nat_le 3 (substatus text)) (UnknownSubstatus (substatus text))
+unknown_substatus message = where_true (nat_le 3 (substatus message)) (UnknownSubstatus (substatus message))
 
 -- it is a dump of an unknown format
 abbrev pub unknown_format : List ℕ → Option FrameFault
-unknown_format text =
-    where_true (substatus text == 0 && (not (format text == 0) && not (format text == 9))) (UnknownFormat (format text))
+unknown_format message =
+    where_true (substatus message == 0 && (not (format message == 0) && not (format message == 9))) (UnknownFormat (format message))
 
 -- the count bytes of a format are these two
 abbrev pub has_count : List ℕ → ℕ → ℕ → Bool
-has_count text high low = slice_index text 4 == high && slice_index text 5 == low
+has_count message high low = slice_index message 4 == high && slice_index message 5 == low
 
 -- it is a dump of 7 bytes or more whose count bytes aren't those of its format
 abbrev pub wrong_count : List ℕ → Option FrameFault
-wrong_count text =
+wrong_count message =
     where_true
-    (substatus text == 0
-    && (nat_le 7 (length text)
-    && ((format text == 0 && not (has_count text 0x01 0x1B)) || (format text == 9 && not (has_count text 0x20 0x00)))))
-    (CountBytes (slice_index text 4) (slice_index text 5))
+    (substatus message == 0
+    && (nat_le 7 (length message)
+    && ((format message == 0 && not (has_count message 0x01 0x1B)) || (format message == 9 && not (has_count message 0x20 0x00)))))
+    (CountBytes (slice_index message 4) (slice_index message 5))
 
--- the length that a text has to have, or at least
+-- the length that a message has to have, or at least
 abbrev pub wanted_length : List ℕ → ℕ
-wanted_length text = if substatus text == 0 then (if format text == 0 then 163 else 4104) else 7
+wanted_length message = if substatus message == 0 then (if format message == 0 then 163 else 4104) else 7
 
 abbrev pub has_length : List ℕ → Bool
-has_length text =
-    if substatus text == 0 then length text == wanted_length text
-    else (if substatus text == 1 then (if group text == 0 then length text == 7 else nat_le 7 (length text)) else true)
+has_length message =
+    if substatus message == 0 then length message == wanted_length message
+    else (if substatus message == 1 then (if group message == 0 then length message == 7 else nat_le 7 (length message)) else true)
 
 -- its length isn't that of its kind
 abbrev pub wrong_length : List ℕ → Option FrameFault
-wrong_length text = where_true (not (has_length text)) (Length (length text) (wanted_length text))
+wrong_length message = where_true (not (has_length message)) (Length (length message) (wanted_length message))
 
 -- it is a dump, and the byte before the last isn't the checksum of the payload
 abbrev pub wrong_checksum : List ℕ → Option FrameFault
-wrong_checksum text =
-    where_true (substatus text == 0 && not (check text == checksum_of (payload text))) (Checksum (check text) (checksum_of (payload text)))
+wrong_checksum message =
+    where_true
+    (substatus message == 0 && not (check message == checksum_of (payload message)))
+    (Checksum (check message) (checksum_of (payload message)))
 
 -- it changes a number of the voice or the operator switch to a value above its greatest
 abbrev pub high_value : List ℕ → Option FrameFault
-high_value text =
+high_value message =
     where_true
-    (substatus text == 1 && (group text == 0 && (nat_le (number text) 155 && nat_lt (greatest_value (number text)) (slice_index text 5))))
-    (ParamValue (number text) (slice_index text 5))
+    (substatus message == 1
+    && (group message == 0 && (nat_le (number message) 155 && nat_lt (greatest_value (number message)) (slice_index message 5))))
+    (ParamValue (number message) (slice_index message 5))
 
 -- the rows in their order
 abbrev pub fault_table : List (List ℕ → Option FrameFault)
@@ -124,9 +127,9 @@ fault_table =
 
 -- the first of some rows whose condition holds
 abbrev pub first_of : List (List ℕ → Option FrameFault) → List ℕ → Option FrameFault
-first_of [] text = None
-first_of (row ∷ rows) text = option_or (row text) (first_of rows text)
+first_of [] message = None
+first_of (row ∷ rows) message = option_or (row message) (first_of rows message)
 
--- the first fault of a text, or none
+-- the first fault, or none
 unfoldable pub first_fault : List ℕ → Option FrameFault
-first_fault text = first_of fault_table text
+first_fault message = first_of fault_table message

@@ -15,7 +15,7 @@ Answers result fault content = MatchResult result (λ frame. (fault ≡ None) ×
 
 -- the first fault of the first four rows, and of the others
 abbrev pub early_fault : List ℕ → Option FrameFault
-early_fault text = first_of (not_framed ∷ not_yamaha ∷ data_byte ∷ too_short ∷ []) text
+early_fault message = first_of (not_framed ∷ not_yamaha ∷ data_byte ∷ too_short ∷ []) message
 
 abbrev pub later_fault : List ℕ → Option FrameFault
-later_fault text = first_of (unknown_substatus ∷ unknown_format ∷ wrong_count ∷ wrong_length ∷ wrong_checksum ∷ high_value ∷ []) text
+later_fault message = first_of (unknown_substatus ∷ unknown_format ∷ wrong_count ∷ wrong_length ∷ wrong_checksum ∷ high_value ∷ []) message

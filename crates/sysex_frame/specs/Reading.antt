@@ -4,12 +4,12 @@ use Rattle.sysex_frame.specs.Frame.{Content, VoiceDump, CartridgeDump, ParamChan
 use Rattle.sysex_frame.specs.FrameFault.{device, format, group, number, payload, substatus}
 
 abbrev pub dump : List ℕ → Content
-dump text = if format text == 0 then VoiceDump (device text) (payload text) else CartridgeDump (device text) (payload text)
+dump message = if format message == 0 then VoiceDump (device message) (payload message) else CartridgeDump (device message) (payload message)
 
 abbrev pub change : List ℕ → Content
-change text =
-    if group text == 0 && nat_le (number text) 155 then ParamChange (device text) (number text) (slice_index text 5)
-    else OtherChange (device text) (group text) (number text)
+change message =
+    if group message == 0 && nat_le (number message) 155 then ParamChange (device message) (number message) (slice_index message 5)
+    else OtherChange (device message) (group message) (number message)
 
 abbrev pub reading : List ℕ → Content
-reading text = if substatus text == 0 then dump text else (if substatus text == 1 then change text else DumpRequest (device text))
+reading message = if substatus message == 0 then dump message else (if substatus message == 1 then change message else DumpRequest (device message))

@@ -1,4 +1,4 @@
-//! What a message holds, and why a text is none.
+//! What a message holds, and why bytes are no message.
 
 /// What a message holds. A device number is kept and not looked at.
 #[derive(Clone, Copy, Debug, PartialEq, Eq)]
@@ -15,7 +15,7 @@ pub enum Frame<'a> {
     Request { device: u8 },
 }
 
-/// The first fault of a text that is no message.
+/// The first fault of bytes that are no message.
 #[derive(Clone, Copy, Debug, PartialEq, Eq)]
 pub enum FrameFault {
     /// It is shorter than 2 bytes, doesn't begin with `F0` or doesn't end with `F7`.

@@ -1,6 +1,7 @@
 //! Reading one message.
 
-ghost use Rattle.std.specs.Prelude.{ℕ, ◌≡◌, ◌+◌, ◌-◌, ◌%◌, ◌<◌, ◌≤◌, ◌↔◌, ◌&&◌, ◌==◌, not, nat_le, length, slice_index, slice_range};
+ghost use Rattle.std.specs.Prelude.{ℕ, ◌≡◌, ◌+◌, ◌-◌, ◌%◌, ◌<◌, ◌≤◌, ◌↔◌, ◌&&◌, ◌==◌};
+ghost use Rattle.std.specs.Prelude.{not, nat_le, length, slice_index, slice_range};
 ghost use Rattle.std.specs.Prelude.{IsOk, IfOk, IfErr, OnOk, IsOkAnd};
 ghost use Rattle.std.specs.Option.{option_or};
 ghost use Rattle.std.specs.List.{position};
@@ -14,7 +15,7 @@ use crate::frame::{Frame, FrameFault};
 use crate::sums::checksum;
 use voice_record::greatest;
 
-/// The first fault of a text's ends and of its manufacturer ID.
+/// The first fault of a message's ends and of its manufacturer ID.
 fn end_fault(bytes: &[u8]) -> Option<FrameFault>
     ensures { result ≡ option_or (not_framed bytes.now) (not_yamaha bytes.now) }
 {
@@ -169,7 +170,7 @@ fn first_high_byte(bytes: &[u8]) -> Option<usize>
     bytes.iter().position(|byte| *byte >= 128)
 }
 
-/// Reads one message from `F0` to `F7`. Where the text is none, its first fault is answered.
+/// Reads one message from `F0` to `F7`. Where the bytes are none, their first fault is answered.
 pub fn read_frame(bytes: &[u8]) -> Result<Frame<'_>, FrameFault>
     requires { length bytes.now ≤ 536870912 }
     ensures fault { IfErr result (λ fault. first_fault bytes.now ≡ Some fault) }

@@ -7,7 +7,7 @@ use voice_record::{Voice, greatest};
 const GREATEST_LENGTH: usize = 536_870_912;
 
 #[test]
-fn short_texts(rt: HostRuntime) -> Result<(), Fail> {
+fn short_messages(rt: HostRuntime) -> Result<(), Fail> {
     let param = |number: u8, value: u8| Ok(Frame::Param {
         device: 0,
         number,
@@ -64,10 +64,10 @@ fn short_texts(rt: HostRuntime) -> Result<(), Fail> {
         ("f043100106f7", length(6, 7)),
         ("f0431001061000f7", length(8, 7)),
     ];
-    for (text, wanted) in table {
-        let bytes = hex::decode(rt.alloc(), text)?;
+    for (digits, wanted) in table {
+        let bytes = hex::decode(rt.alloc(), digits)?;
         assert!(rt; bytes.len() <= GREATEST_LENGTH);
-        assert_eq!(rt; read_frame(&bytes), wanted, "{text}");
+        assert_eq!(rt; read_frame(&bytes), wanted, "{digits}");
     }
     Ok(())
 }
@@ -120,14 +120,14 @@ fn dumps(rt: HostRuntime) -> Result<(), Fail> {
     let payload: &[u8] = &[0; 4096];
     let whole = Ok(Frame::Cartridge { device: 0, payload });
     for (count, wanted) in [(4095, length(4103)), (4096, whole), (4097, length(4105))] {
-        let mut text = Vec::new(rt.alloc());
-        text.extend_from_slice(&[0xf0, 0x43, 0, 9, 0x20, 0])?;
+        let mut message = Vec::new(rt.alloc());
+        message.extend_from_slice(&[0xf0, 0x43, 0, 9, 0x20, 0])?;
         for _ in 0..=count {
-            text.push(0u8)?;
+            message.push(0u8)?;
         }
-        text.push(0xf7)?;
-        assert!(rt; text.len() <= GREATEST_LENGTH);
-        assert_eq!(rt; read_frame(&text), wanted, "{count} bytes");
+        message.push(0xf7)?;
+        assert!(rt; message.len() <= GREATEST_LENGTH);
+        assert_eq!(rt; read_frame(&message), wanted, "{count} bytes");
     }
     Ok(())
 }

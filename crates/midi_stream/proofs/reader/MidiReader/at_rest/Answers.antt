@@ -7,4 +7,4 @@ use Rattle.midi_stream.proofs.reader.MidiReader.at_rest.Goals as goal
 
 pub returns : goal.returns
 unfolding Reads is_unfinished
-returns c stream h = c.is_at_rest.ensures ∙ rests_is c.args.self.now.state c.args.self.now.kept.items (segments (clean stream)) h
+returns c stream h = c.is_at_rest.ensures ∙ rests_is c.args.self.now.state c.args.self.now.kept.value.items (segments (clean stream)) h

@@ -23,9 +23,10 @@ unfolding Reads
 returns-clause-stands c stream h =
     let parts = segments (clean stream) in
     let e : segments (clean (stream ++ c.args.byte ∷ [])) ≡ with_byte parts c.args.byte = segments_byte stream c.args.byte (lt-ltb c.args.byte 248 (omega arith)) in
-    subst (λ (kept : List ℕ). StandsAt c.next_step-step.result.state kept (segments (clean (stream ++ c.args.byte ∷ [])))) (sym c.keep.ensures.items)
-    (subst (λ (now : List Segment). StandsAt c.next_step-step.result.state (kept_with c.args.self.now.state c.args.self.now.kept.items c.args.byte) now) (sym e)
-    (c.next_step-step.ensures.stands c.args.self.now.kept.items parts h))
+    let kept : c.keep.new.kept.items ≡ kept_with c.args.self.now.state c.args.self.now.kept.value.items c.args.byte = rw (sym c.deref_mut.ensures.value) c.keep.ensures in
+    subst (λ (bytes : List ℕ). StandsAt c.next_step-step.result.state bytes (segments (clean (stream ++ c.args.byte ∷ [])))) (sym kept)
+    (subst (λ (now : List Segment). StandsAt c.next_step-step.result.state (kept_with c.args.self.now.state c.args.self.now.kept.value.items c.args.byte) now) (sym e)
+    (c.next_step-step.ensures.stands c.args.self.now.kept.value.items parts h))
 
 pub returns-clause-answer : goal.returns-clause-answer
 unfolding Reads messages
@@ -33,7 +34,7 @@ returns-clause-answer c stream h =
     let parts = segments (clean stream) in
     let e : segments (clean (stream ++ c.args.byte ∷ [])) ≡ with_byte parts c.args.byte = segments_byte stream c.args.byte (lt-ltb c.args.byte 248 (omega arith)) in
     subst (λ (now : List Segment). Answers c.next_step-step.result.message (messages_of parts) (messages_of now)) (sym e)
-    (c.next_step-step.ensures.answer c.args.self.now.kept.items parts h)
+    (c.next_step-step.ensures.answer c.args.self.now.kept.value.items parts h)
 
 pub returns-then-byte-ge248-clause-none : goal.returns-then-byte-ge248-clause-none
 returns-then-byte-ge248-clause-none c stream h = none_exactly None _ _ (returns-then-byte-ge248-clause-answer c stream h)
@@ -53,4 +54,4 @@ returns-clause-bytes c stream h =
     let parts = segments (clean stream) in
     let e : segments (clean (stream ++ c.args.byte ∷ [])) ≡ with_byte parts c.args.byte = segments_byte stream c.args.byte (lt-ltb c.args.byte 248 (omega arith)) in
     subst (λ (now : List Segment). IfSome c.next_step-step.result.message (λ message. HasBytes message (sysex_at_end now))) (sym e)
-    (c.next_step-step.ensures.bytes c.args.self.now.kept.items parts h)
+    (c.next_step-step.ensures.bytes c.args.self.now.kept.value.items parts h)
