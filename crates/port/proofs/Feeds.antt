@@ -12,7 +12,7 @@ use Rattle.port.specs.declared.fed.Fed.{Fed}
 use Rattle.port.specs.declared.kept.Kept.{Kept}
 use Rattle.port.specs.declared.fed.PortStop.{PortStop}
 use Rattle.port.specs.declared.fed.PortStop.TheVariants.{All, Full, Memory}
-use Rattle.port.specs.Tellings.{commands_in, is_passed_over, is_refused}
+use Rattle.port.specs.Outcomes.{commands_in, is_passed_over, is_refused}
 use Rattle.port.specs.Feeding.{Handles, all_accepted, stopped}
 use Rattle.port.specs.Keeping.{HasUsed, KeepsAt}
 use Rattle.port.specs.Settling.{FullOnly, OneMore, refusals_after}
@@ -56,7 +56,7 @@ pub record Reached (was reader : MidiReader) (was_curve curve : Curve) (was_kept
   pub count : length new.list ≡ length old.list + fed.sent
   pub few : fed.sent + fed.passed_over + fed.refused ≤ index + 1
   pub refusals : new.refusals ≡ refusals_after fed.stop old.refusals
-  pub heard :
+  pub received :
       (done : List Told) (stream : List ℕ) → HasUsed was was_curve was_kept done stream
       → (now : List Told) × (HasUsed reader curve keeps (done ++ now) (stream ++ take index bytes) × Handles now old new fed)
 
@@ -86,14 +86,14 @@ pub reached_first :
     → OneMore old new 0 fed
     → ((done : List Told) (stream : List ℕ) → HasUsed was was_curve was_kept done stream → (now : List Told) × (HasUsed reader curve keeps (done ++ now) stream × Handles now old new fed))
     → Reached was reader was_curve curve was_kept keeps bytes 0 old new fed
-reached_first was reader was_curve curve was_kept keeps bytes old new fed one heard = record {
+reached_first was reader was_curve curve was_kept keeps bytes old new fed one received = record {
   used = one.used_is;
   line = one.line;
   number = one.number;
   count = one.count;
   few = omega (arith, one.few);
   refusals = one.refusals;
-  heard = λ done stream u. rw (append-nil stream) (heard done stream u);
+  received = λ done stream u. rw (append-nil stream) (received done stream u);
 }
 
 -- one byte later
@@ -105,7 +105,7 @@ pub reached_more :
     → ((done : List Told) (stream : List ℕ) → HasUsed reader curve keeps done stream → (now : List Told) × (HasUsed later later_curve later_kept (done ++ now) (stream ++ byte ∷ []) × Handles now new last two))
     → both ≡ record { used = fed.used + two.used; sent = fed.sent + two.sent; passed_over = fed.passed_over + two.passed_over; refused = fed.refused + two.refused; stop = two.stop }
     → Reached was later was_curve later_curve was_kept later_kept bytes (index + 1) old last both
-reached_more was reader later was_curve curve later_curve was_kept keeps later_kept bytes index byte old new last fed two both stop r taken one heard b = record {
+reached_more was reader later was_curve curve later_curve was_kept keeps later_kept bytes index byte old new last fed two both stop r taken one received b = record {
   used = (let u : both.used ≡ fed.used + two.used = ap (λ (f : Fed). f.used) b in omega (arith, u, r.used, one.used_is));
   line = one.line ∙ r.line;
   number = one.number ∙ r.number;
@@ -117,9 +117,9 @@ reached_more was reader later was_curve curve later_curve was_kept keeps later_k
   refusals = (
       let calm : new.refusals ≡ old.refusals = rw stop at r.refusals in
       one.refusals ∙ ap (refusals_after two.stop) calm ∙ ap (λ (s : PortStop). refusals_after s old.refusals) (sym (ap (λ (f : Fed). f.stop) b)));
-  heard = λ done stream u.
-      (let h = r.heard done stream u in
-      let k = heard (done ++ h.0) (stream ++ take index bytes) h.1.0 in
+  received = λ done stream u.
+      (let h = r.received done stream u in
+      let k = received (done ++ h.0) (stream ++ take index bytes) h.1.0 in
       let bytes_so_far : (stream ++ take index bytes) ++ byte ∷ [] ≡ stream ++ take (index + 1) bytes = append_assoc stream (take index bytes) (byte ∷ []) ∙ ap (λ (bs : List ℕ). stream ++ bs) (sym taken) in (
         h.0 ++ k.0,
         (
@@ -129,12 +129,12 @@ reached_more was reader later was_curve curve later_curve was_kept keeps later_k
       ));
 }
 
--- what was heard, by the count of bytes
-pub heard_to :
+-- what was received, by the count of bytes
+pub received_to :
     (was reader : MidiReader) (was_curve curve : Curve) (was_kept keeps : Option Kept) (bytes : List ℕ) (index : ℕ) (old new : SendView) (fed : Fed)
     → Reached was reader was_curve curve was_kept keeps bytes index old new fed
     → (done : List Told) (stream : List ℕ) → HasUsed was was_curve was_kept done stream
     → (now : List Told) × (HasUsed reader curve keeps (done ++ now) (stream ++ take fed.used bytes) × Handles now old new fed)
-heard_to was reader was_curve curve was_kept keeps bytes index old new fed r done stream u =
+received_to was reader was_curve curve was_kept keeps bytes index old new fed r done stream u =
     let P : ℕ → Type 0 = λ n. (now : List Told) × (HasUsed reader curve keeps (done ++ now) (stream ++ take n bytes) × Handles now old new fed) in
-    subst P (sym r.used) (r.heard done stream u)
+    subst P (sym r.used) (r.received done stream u)

@@ -1,3 +1,4 @@
 pub mod Settled
-pub mod Hearing
+pub mod Receiving
 pub mod Feeds
+pub mod Sending

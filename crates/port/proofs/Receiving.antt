@@ -19,7 +19,7 @@ use Rattle.port.specs.declared.kept.Kept.{Kept}
 use Rattle.port.specs.declared.kept.Kept.TheVariants as kept
 use Rattle.port.specs.declared.fed.Fed.{Fed}
 use Rattle.port.specs.declared.fed.PortStop.TheVariants.{All}
-use Rattle.port.specs.Tellings.{Heard, exclusive_of, one_heard, heard_with, heard_behind, heard_in, told_by_heard, tellings}
+use Rattle.port.specs.Outcomes.{Received, exclusive_of, one_received, received_with, received_after, received_in, told_by_received, outcomes}
 use Rattle.port.specs.Feeding.{Handles}
 use Rattle.port.specs.Keeping.{HasUsed, IsLast, KeepsLast, told_kept}
 use Rattle.port.specs.Settling.{Settles, KeepsThis, KeepsNoMessage}
@@ -31,12 +31,12 @@ answered (Some m) before now e =
     ∙ ap (λ (x : MidiMessage). Some x) (get_or-append_seam before m [] m))
 
 -- what one more byte gains is the reader's answer
-heard_answer : (r : Option MidiMessage) (before : List ℕ) (byte : ℕ) → Answers r (messages before) (messages (before ++ byte ∷ []))
-    → heard_with before byte ≡ one_heard (exclusive_of (before ++ byte ∷ [])) r
-unfolding heard_with
-heard_answer r before byte a = ap (one_heard (exclusive_of (before ++ byte ∷ []))) (answered r (messages before) (messages (before ++ byte ∷ [])) a)
+received_answer : (r : Option MidiMessage) (before : List ℕ) (byte : ℕ) → Answers r (messages before) (messages (before ++ byte ∷ []))
+    → received_with before byte ≡ one_received (exclusive_of (before ++ byte ∷ [])) r
+unfolding received_with
+received_answer r before byte a = ap (one_received (exclusive_of (before ++ byte ∷ []))) (answered r (messages before) (messages (before ++ byte ∷ [])) a)
 
--- the bytes that a reader keeps tell the same as those of the stream
+-- the same comes of the bytes that a reader keeps as of those of the stream
 pub told_same : (m : MidiMessage) (text : Option (List ℕ)) (sysex : List ℕ) (curve : Curve) → InRange m → HasBytes m text
     → IfSome text (λ bytes. length bytes ≤ 5000 → sysex ≡ bytes) → command_of m sysex curve ≡ command_of m (unwrap_or text []) curve
 unfolding command_of
@@ -51,50 +51,50 @@ told_same (SysEx count) None sysex curve range has same = absurd has
 told_same (SysEx count) (Some bytes) sysex curve range has same = ap (λ (b : List ℕ). command_of (SysEx count) b curve) (same (omega arith))
 told_same (SysExTooLong count) text sysex curve range has same = refl
 
-heard_behind_more : (before xs : List ℕ) (byte : ℕ) → heard_behind before (xs ++ byte ∷ []) ≡ heard_behind before xs ++ heard_with (before ++ xs) byte
-unfolding heard_behind
-heard_behind_more before [] byte = rw (append-nil before) (append-nil (heard_with before byte))
-heard_behind_more before (x ∷ xs) byte =
-    let first : List Heard = heard_with before x in
-    let later = heard_behind_more (before ++ x ∷ []) xs byte in
+received_after_more : (before xs : List ℕ) (byte : ℕ) → received_after before (xs ++ byte ∷ []) ≡ received_after before xs ++ received_with (before ++ xs) byte
+unfolding received_after
+received_after_more before [] byte = rw (append-nil before) (append-nil (received_with before byte))
+received_after_more before (x ∷ xs) byte =
+    let first : List Received = received_with before x in
+    let later = received_after_more (before ++ x ∷ []) xs byte in
     let join : (before ++ x ∷ []) ++ xs ≡ before ++ x ∷ xs = append_assoc before (x ∷ []) xs in
-    ap (λ (hs : List Heard). first ++ hs) (later ∙ ap (λ (s : List ℕ). heard_behind (before ++ x ∷ []) xs ++ heard_with s byte) join)
+    ap (λ (hs : List Received). first ++ hs) (later ∙ ap (λ (s : List ℕ). received_after (before ++ x ∷ []) xs ++ received_with s byte) join)
     ∙ sym (append_assoc first _ _)
 
 -- the messages of a stream with one more byte
-heard_more : (r : Option MidiMessage) (xs : List ℕ) (byte : ℕ) → Answers r (messages xs) (messages (xs ++ byte ∷ []))
-    → heard_in (xs ++ byte ∷ []) ≡ heard_in xs ++ one_heard (exclusive_of (xs ++ byte ∷ [])) r
-heard_more r xs byte a = heard_behind_more [] xs byte ∙ ap (λ (hs : List Heard). heard_in xs ++ hs) (heard_answer r xs byte a)
+received_more : (r : Option MidiMessage) (xs : List ℕ) (byte : ℕ) → Answers r (messages xs) (messages (xs ++ byte ∷ []))
+    → received_in (xs ++ byte ∷ []) ≡ received_in xs ++ one_received (exclusive_of (xs ++ byte ∷ [])) r
+received_more r xs byte a = received_after_more [] xs byte ∙ ap (λ (hs : List Received). received_in xs ++ hs) (received_answer r xs byte a)
 
--- what a stream tells with one more byte
-tellings_more : (curve : Curve) (r : Option MidiMessage) (xs : List ℕ) (byte : ℕ) → Answers r (messages xs) (messages (xs ++ byte ∷ []))
-    → tellings curve (xs ++ byte ∷ []) ≡ tellings curve xs ++ map (told_by_heard curve) (one_heard (exclusive_of (xs ++ byte ∷ [])) r)
-tellings_more curve r xs byte a = ap (map (told_by_heard curve)) (heard_more r xs byte a) ∙ map-append (told_by_heard curve) (heard_in xs) _
+-- what comes of a stream with one more byte
+outcomes_more : (curve : Curve) (r : Option MidiMessage) (xs : List ℕ) (byte : ℕ) → Answers r (messages xs) (messages (xs ++ byte ∷ []))
+    → outcomes curve (xs ++ byte ∷ []) ≡ outcomes curve xs ++ map (told_by_received curve) (one_received (exclusive_of (xs ++ byte ∷ [])) r)
+outcomes_more curve r xs byte a = ap (map (told_by_received curve)) (received_more r xs byte a) ∙ map-append (told_by_received curve) (received_in xs) _
 
 same_messages : (r : Option MidiMessage) (bytes : List ℕ) (before now : List MidiMessage) → Answers r before now
-    → before ++ map (λ h. h.message) (one_heard bytes r) ≡ now
+    → before ++ map (λ h. h.message) (one_received bytes r) ≡ now
 same_messages None bytes before now a = append-nil before ∙ sym a
 same_messages (Some m) bytes before now a = sym a
 
 -- the messages with their bytes are still the messages of the stream
-heard_still : (r : Option MidiMessage) (xs : List ℕ) (byte : ℕ) → Answers r (messages xs) (messages (xs ++ byte ∷ [])) → map (λ h. h.message) (heard_in xs) ≡ messages xs
-    → map (λ h. h.message) (heard_in (xs ++ byte ∷ [])) ≡ messages (xs ++ byte ∷ [])
-heard_still r xs byte a e =
-    ap (map (λ (h : Heard). h.message)) (heard_more r xs byte a) ∙ map-append (λ (h : Heard). h.message) (heard_in xs) _
-    ∙ ap (λ (ms : List MidiMessage). ms ++ map (λ (h : Heard). h.message) (one_heard (exclusive_of (xs ++ byte ∷ [])) r)) e
+received_still : (r : Option MidiMessage) (xs : List ℕ) (byte : ℕ) → Answers r (messages xs) (messages (xs ++ byte ∷ [])) → map (λ h. h.message) (received_in xs) ≡ messages xs
+    → map (λ h. h.message) (received_in (xs ++ byte ∷ [])) ≡ messages (xs ++ byte ∷ [])
+received_still r xs byte a e =
+    ap (map (λ (h : Received). h.message)) (received_more r xs byte a) ∙ map-append (λ (h : Received). h.message) (received_in xs) _
+    ∙ ap (λ (ms : List MidiMessage). ms ++ map (λ (h : Received). h.message) (one_received (exclusive_of (xs ++ byte ∷ [])) r)) e
     ∙ same_messages r (exclusive_of (xs ++ byte ∷ [])) (messages xs) (messages (xs ++ byte ∷ [])) a
 
-no_tellings : (curve : Curve) → tellings curve [] ≡ []
-unfolding heard_behind
-no_tellings curve = refl
+no_outcomes : (curve : Curve) → outcomes curve [] ≡ []
+unfolding received_after
+no_outcomes curve = refl
 
-no_messages : map (λ (h : Heard). h.message) (heard_in []) ≡ messages []
-unfolding heard_behind messages
+no_messages : map (λ (h : Received). h.message) (received_in []) ≡ messages []
+unfolding received_after messages
 no_messages = refl
 
 -- a port that has used nothing
 pub new_used : (reader : MidiReader) (curve : Curve) → Reads reader [] → HasUsed reader curve None [] []
-new_used reader curve r = record { reads = r; heard = no_messages; tells = no_tellings curve; last = tt }
+new_used reader curve r = record { reads = r; received = no_messages; tells = no_outcomes curve; last = tt }
 
 kept_same : (curve : Curve) (keeps : Option Kept) (m : MidiMessage) (sysex bytes : List ℕ) → KeepsThis keeps m → command_of m sysex curve ≡ command_of m bytes curve
     → told_kept curve sysex keeps ≡ told_kept curve bytes keeps
@@ -113,18 +113,18 @@ none_last (Some (kept.Command command)) stream k = tt
 none_last (Some (kept.Message held)) stream k = absurd k
 
 -- what comes of what is told last
-heard_by :
+received_by :
     (reader : MidiReader) (curve : Curve) (keeps : Option Kept) (done : List Told) (stream sysex : List ℕ) (t : Told) (old new : SendView) (fed : Fed)
-    → Reads reader stream → map (λ h. h.message) (heard_in stream) ≡ messages stream
-    → tellings curve stream ≡ done ++ t ∷ [] → Settles curve sysex t keeps old new fed
+    → Reads reader stream → map (λ h. h.message) (received_in stream) ≡ messages stream
+    → outcomes curve stream ≡ done ++ t ∷ [] → Settles curve sysex t keeps old new fed
     → told_kept curve sysex keeps ≡ told_kept curve (exclusive_of stream) keeps → KeepsLast keeps stream
     → (now : List Told) × (HasUsed reader curve keeps (done ++ now) stream × Handles now old new fed)
-heard_by reader curve keeps done stream sysex t old new fed r ms e s same l = (
+received_by reader curve keeps done stream sysex t old new fed r ms e s same l = (
   s.now,
   (
     record {
       reads = r;
-      heard = ms;
+      received = ms;
       tells = e ∙ ap (λ ts. done ++ ts) (s.splits ∙ ap (λ ts. s.now ++ ts) same) ∙ sym (append_assoc done s.now _);
       last = l;
     },
@@ -142,10 +142,10 @@ pub byte_told :
     → (now : List Told) × (HasUsed reader curve keeps (done ++ now) (stream ++ byte ∷ []) × Handles now old new fed)
 byte_told was reader curve keeps done stream sysex byte m old new fed u r a range has text s k =
     let same = told_same m (last_sysex (stream ++ byte ∷ [])) sysex curve range has text in
-    let tells : tellings curve (stream ++ byte ∷ []) ≡ done ++ command_of m sysex curve ∷ [] =
-    tellings_more curve (Some m) stream byte a ∙ ap (λ (ts : List Told). ts ++ command_of m (exclusive_of (stream ++ byte ∷ [])) curve ∷ []) (u.tells ∙ append-nil done)
+    let tells : outcomes curve (stream ++ byte ∷ []) ≡ done ++ command_of m sysex curve ∷ [] =
+    outcomes_more curve (Some m) stream byte a ∙ ap (λ (ts : List Told). ts ++ command_of m (exclusive_of (stream ++ byte ∷ [])) curve ∷ []) (u.tells ∙ append-nil done)
     ∙ ap (λ (t : Told). done ++ t ∷ []) (sym same) in
-    heard_by reader curve keeps done (stream ++ byte ∷ []) sysex (command_of m sysex curve) old new fed r (heard_still (Some m) stream byte a u.heard) tells s (kept_same curve keeps m sysex _ k same)
+    received_by reader curve keeps done (stream ++ byte ∷ []) sysex (command_of m sysex curve) old new fed r (received_still (Some m) stream byte a u.received) tells s (kept_same curve keeps m sysex _ k same)
     (keeps_last keeps m (stream ++ byte ∷ []) k (record { earlier = messages stream; last = a; bytes = has }))
 
 -- a byte that ends no message
@@ -155,9 +155,9 @@ pub byte_silent :
     → (now : List Told) × (HasUsed reader curve keeps (done ++ now) (stream ++ byte ∷ []) × Handles now end end (record { used = used; sent = 0; passed_over = 0; refused = 0; stop = All }))
 byte_silent was reader curve keeps done stream byte used end e u r a =
     let clear : HasUsed was curve None done stream = rw (← e) u in
-    let more : tellings curve (stream ++ byte ∷ []) ≡ (done ++ []) ++ [] =
-    tellings_more curve None stream byte a ∙ ap (λ (ts : List Told). ts ++ []) clear.tells in
-    ([], (rw e (record { reads = r; heard = heard_still None stream byte a clear.heard; tells = more; last = tt }), record { end_is = refl; sent_is = refl; passed_over_is = refl; refused_is = refl }))
+    let more : outcomes curve (stream ++ byte ∷ []) ≡ (done ++ []) ++ [] =
+    outcomes_more curve None stream byte a ∙ ap (λ (ts : List Told). ts ++ []) clear.tells in
+    ([], (rw e (record { reads = r; received = received_still None stream byte a clear.received; tells = more; last = tt }), record { end_is = refl; sent_is = refl; passed_over_is = refl; refused_is = refl }))
 
 -- the same, with another count of bytes
 pub with_used : (now : List Told) (old new : SendView) (fed : Fed) (used : ℕ) → Handles now old new fed
@@ -173,7 +173,7 @@ pub kept_command_told :
 kept_command_told reader curve was keeps done stream held waiting command old new fed u w h e s k =
     let is : was ≡ Some (kept.Command command) = sym w ∙ ap (λ (x : Kept). Some x) (h ∙ ap (λ (d : CommandData). kept.Command d) (sym e)) in
     let v : HasUsed reader curve (Some (kept.Command command)) done stream = rw (← is) u in
-    heard_by reader curve keeps done stream (exclusive_of stream) (Tells command) old new fed v.reads v.heard v.tells (s curve (exclusive_of stream)) refl (none_last keeps stream k)
+    received_by reader curve keeps done stream (exclusive_of stream) (Tells command) old new fed v.reads v.received v.tells (s curve (exclusive_of stream)) refl (none_last keeps stream k)
 
 -- a message that was kept
 pub kept_message_told :
@@ -186,5 +186,5 @@ kept_message_told reader curve was keeps done stream sysex held ended m old new 
     let is : was ≡ Some (kept.Message m) = sym w ∙ ap (λ (x : Kept). Some x) (h ∙ ap (λ (x : MidiMessage). kept.Message x) (sym e)) in
     let v : HasUsed reader curve (Some (kept.Message m)) done stream = rw (← is) u in
     let same = told_same m (last_sysex stream) sysex curve range v.last.bytes text in
-    heard_by reader curve keeps done stream sysex (command_of m sysex curve) old new fed v.reads v.heard (v.tells ∙ ap (λ (t : Told). done ++ t ∷ []) (sym same)) s
+    received_by reader curve keeps done stream sysex (command_of m sysex curve) old new fed v.reads v.received (v.tells ∙ ap (λ (t : Told). done ++ t ∷ []) (sym same)) s
     (kept_same curve keeps m sysex _ k same) (keeps_last keeps m stream k v.last)

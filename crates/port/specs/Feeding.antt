@@ -7,7 +7,7 @@ use Rattle.command_queue.specs.Ends.{SendView, accepted, refused, entry_of}
 use Rattle.port.specs.declared.fed.Fed.{Fed}
 use Rattle.port.specs.declared.fed.PortStop.{PortStop}
 use Rattle.port.specs.declared.fed.PortStop.TheVariants.{All, Full, Memory}
-use Rattle.port.specs.Tellings.{commands_in, is_passed_over, is_refused}
+use Rattle.port.specs.Outcomes.{commands_in, is_passed_over, is_refused}
 
 -- an end after commands were accepted of it, one after the other, sent at block 0
 abbrev pub all_accepted : SendView → List CommandData → SendView
@@ -20,7 +20,7 @@ stopped All e = e
 stopped Full e = refused e
 stopped Memory e = e
 
--- Of the messages that tell this in order, the commands were accepted, and the others counted.
+-- Of what comes of the messages, in order, the commands were accepted, and the others counted.
 pub record Handles (now : List Told) (old new : SendView) (fed : Fed) : Type 0 where
   pub end_is : new ≡ stopped fed.stop (all_accepted old (commands_in now))
   pub sent_is : fed.sent ≡ length (commands_in now)

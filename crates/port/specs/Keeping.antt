@@ -11,7 +11,7 @@ use Rattle.port.specs.declared.kept.Kept.{Kept}
 use Rattle.port.specs.declared.kept.Kept.TheVariants as kept
 use Rattle.port.specs.declared.fed.PortStop.{PortStop}
 use Rattle.port.specs.declared.fed.PortStop.TheVariants.{All, Full, Memory}
-use Rattle.port.specs.Tellings.{exclusive_of, heard_in, tellings}
+use Rattle.port.specs.Outcomes.{exclusive_of, received_in, outcomes}
 
 -- what is told by what a port keeps, with the bytes of the last system exclusive message
 abbrev pub told_kept : Curve → List ℕ → Option Kept → List Told
@@ -42,10 +42,10 @@ KeepsAt Memory None = ⊥
 KeepsAt Memory (Some (kept.Command command)) = ⊥
 KeepsAt Memory (Some (kept.Message message)) = Unit {0}
 
--- A port with this reader and this curve has used the bytes of the stream: what its messages tell was done, but for what is kept.
+-- A port with this reader and this curve has used the bytes of the stream: what comes of its messages was done, but for what is kept.
 -- The messages with their bytes are the messages of the stream.
 pub record HasUsed (reader : MidiReader) (curve : Curve) (keeps : Option Kept) (done : List Told) (stream : List ℕ) : Type 0 where
   pub reads : Reads reader stream
-  pub heard : map (λ h. h.message) (heard_in stream) ≡ messages stream
-  pub tells : tellings curve stream ≡ done ++ told_kept curve (exclusive_of stream) keeps
+  pub received : map (λ h. h.message) (received_in stream) ≡ messages stream
+  pub tells : outcomes curve stream ≡ done ++ told_kept curve (exclusive_of stream) keeps
   pub last : KeepsLast keeps stream

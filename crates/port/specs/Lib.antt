@@ -1,5 +1,6 @@
-pub mod Tellings
+pub mod Outcomes
 pub mod Feeding
 pub mod Keeping
 pub mod Settling
 pub mod Used
+pub mod Ranges

@@ -1,4 +1,4 @@
--- What the messages of a stream of MIDI bytes tell an instrument, in order.
+-- What comes of the messages of a stream of MIDI bytes, in order.
 use Rattle.std.specs.Prelude.{ℕ, Bool, true, false, List, [], ◌∷◌, ◌++◌, length, map, Option, Some, None, slice_get, unwrap_or}
 use Rattle.midi_stream.specs.declared.message.MidiMessage.{MidiMessage}
 use Rattle.midi_stream.specs.Messages.{messages, last_sysex}
@@ -11,34 +11,34 @@ abbrev pub exclusive_of : List ℕ → List ℕ
 exclusive_of stream = unwrap_or (last_sysex stream) []
 
 -- a message of a stream, with the bytes of the last system exclusive message at its end
-pub record Heard : Type 0 where
+pub record Received : Type 0 where
   pub message : MidiMessage
   pub bytes : List ℕ
 
-abbrev pub one_heard : List ℕ → Option MidiMessage → List Heard
-one_heard bytes None = []
-one_heard bytes (Some message) = record { message = message; bytes = bytes } ∷ []
+abbrev pub one_received : List ℕ → Option MidiMessage → List Received
+one_received bytes None = []
+one_received bytes (Some message) = record { message = message; bytes = bytes } ∷ []
 
 -- the message that a stream gains with one more byte, if it gains one
-unfoldable pub heard_with : List ℕ → ℕ → List Heard
-heard_with before byte = one_heard (exclusive_of (before ++ byte ∷ [])) (slice_get (messages (before ++ byte ∷ [])) (length (messages before)))
+unfoldable pub received_with : List ℕ → ℕ → List Received
+received_with before byte = one_received (exclusive_of (before ++ byte ∷ [])) (slice_get (messages (before ++ byte ∷ [])) (length (messages before)))
 
 -- the messages that a stream gains with more bytes
-unfoldable pub heard_behind : List ℕ → List ℕ → List Heard
-heard_behind before [] = []
-heard_behind before (byte ∷ bytes) = heard_with before byte ++ heard_behind (before ++ byte ∷ []) bytes
+unfoldable pub received_after : List ℕ → List ℕ → List Received
+received_after before [] = []
+received_after before (byte ∷ bytes) = received_with before byte ++ received_after (before ++ byte ∷ []) bytes
 
 -- the messages of a stream, each with its bytes where it is a system exclusive one
-abbrev pub heard_in : List ℕ → List Heard
-heard_in stream = heard_behind [] stream
+abbrev pub received_in : List ℕ → List Received
+received_in stream = received_after [] stream
 
--- what a message with its bytes tells
-abbrev pub told_by_heard : Curve → Heard → Told
-told_by_heard curve heard = command_of heard.message heard.bytes curve
+-- what comes of a message with its bytes
+abbrev pub told_by_received : Curve → Received → Told
+told_by_received curve received = command_of received.message received.bytes curve
 
--- what the messages of a stream tell
-abbrev pub tellings : Curve → List ℕ → List Told
-tellings curve stream = map (told_by_heard curve) (heard_in stream)
+-- what comes of the messages of a stream
+abbrev pub outcomes : Curve → List ℕ → List Told
+outcomes curve stream = map (told_by_received curve) (received_in stream)
 
 -- the commands among what is told
 abbrev pub commands_in : List Told → List CommandData

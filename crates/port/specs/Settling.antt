@@ -12,7 +12,7 @@ use Rattle.port.specs.declared.fed.PortStop.TheVariants.{All, Full, Memory}
 use Rattle.port.specs.Feeding.{Handles}
 use Rattle.port.specs.Keeping.{told_kept, KeepsAt}
 
--- what a message tells was done or is kept
+-- what comes of a message was done or is kept
 pub record Settles (curve : Curve) (bytes : List ℕ) (told : Told) (keeps : Option Kept) (old new : SendView) (fed : Fed) : Type 0 where
   pub now : List Told
   pub splits : told ∷ [] ≡ now ++ told_kept curve bytes keeps
@@ -31,7 +31,8 @@ KeepsNoMessage None = Unit {0}
 KeepsNoMessage (Some (kept.Command command)) = Unit {0}
 KeepsNoMessage (Some (kept.Message held)) = ⊥
 
--- no place was left at a moment: the state was legal then with this end's list, and so the places are at most its entries and the quotas of the others
+-- no place was left at a moment: the state was legal then with this end's list, and so the places are at most its entries and the quotas of the
+-- others
 pub record MetFull (e : SendView) : Type 0 where
   pub full : WasFull e
   pub room : e.line.places ≤ length e.list + others_of e

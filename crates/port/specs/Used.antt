@@ -14,7 +14,7 @@ use Rattle.port.specs.Keeping.{HasUsed, KeepsAt}
 abbrev pub port_curve : {g : _} {f : _} {m : _} → Port g f m → Curve
 port_curve port = curve_of port.map
 
--- the port has used the bytes of the stream, and what their messages tell was done, but for what is kept
+-- the port has used the bytes of the stream, and what comes of their messages was done, but for what is kept
 abbrev pub Used : {g : _} {f : _} {m : _} → Port g f m → List Told → List ℕ → Type 0
 Used port done stream = HasUsed port.reader (port_curve port) port.kept done stream
 
@@ -22,10 +22,10 @@ Used port done stream = HasUsed port.reader (port_curve port) port.kept done str
 abbrev pub IsClear : {g : _} {f : _} {m : _} → Port g f m → Type 0
 IsClear port = port.kept ≡ None
 
--- what is kept is as the feed says by why it stopped
+-- what is kept fits why the feed stopped
 abbrev pub KeepsAs : {g : _} {f : _} {m : _} → Port g f m → PortStop → Type 0
 KeepsAs port stop = KeepsAt stop port.kept
 
--- the port has used the bytes of the stream, and more was done of what their messages tell
-abbrev pub Hears : {g : _} {f : _} {m : _} → Port g f m → List Told → List ℕ → SendView → SendView → Fed → Type 0
-Hears port done stream old new fed = (now : List Told) × (Used port (done ++ now) stream × Handles now old new fed)
+-- the port has used the bytes of the stream, and more was done of what comes of their messages
+abbrev pub Receives : {g : _} {f : _} {m : _} → Port g f m → List Told → List ℕ → SendView → SendView → Fed → Type 0
+Receives port done stream old new fed = (now : List Told) × (Used port (done ++ now) stream × Handles now old new fed)

@@ -13,14 +13,18 @@ pub enum PortStop {
     Memory,
 }
 
-/// What came of one feed: how many bytes were used, how many commands the line accepted, how many messages
-/// were passed over and how many were refused, and why it stopped.
+/// What came of one feed.
 #[derive(Clone, Copy, Debug, PartialEq, Eq)]
 pub struct Fed {
+    /// How many bytes were used.
     pub used: usize,
+    /// How many commands the line accepted.
     pub sent: u32,
+    /// How many messages have no command.
     pub passed_over: u32,
+    /// How many system exclusive messages are too long or have a fault.
     pub refused: u32,
+    /// Why the feed stopped.
     pub stop: PortStop,
 }
 
@@ -85,7 +89,13 @@ impl Fed {
         requires sent { self.sent + next.sent < 2 ^ 32 }
         requires passed_over { self.passed_over + next.passed_over < 2 ^ 32 }
         requires refused { self.refused + next.refused < 2 ^ 32 }
-        ensures { result ≡ record { used = self.used + next.used; sent = self.sent + next.sent; passed_over = self.passed_over + next.passed_over; refused = self.refused + next.refused; stop = next.stop } }
+        ensures { result ≡ record {
+          used = self.used + next.used;
+          sent = self.sent + next.sent;
+          passed_over = self.passed_over + next.passed_over;
+          refused = self.refused + next.refused;
+          stop = next.stop;
+        } }
     {
         Fed {
             used: self.used + next.used,

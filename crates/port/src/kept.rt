@@ -40,7 +40,7 @@ impl Waiting {
     }
 }
 
-/// A message as a reader answers it, for which memory was wanted.
+/// A message as a reader answers it, for whose command memory had run out.
 #[derive(Drop)]
 pub struct Ended {
     message: MidiMessage,
@@ -76,6 +76,8 @@ impl Ended {
 /// What is tried first at the next feed.
 #[derive(Drop)]
 pub enum Kept {
+    /// A command that found the line full.
     Command(Waiting),
+    /// A message for whose command memory had run out.
     Message(Ended),
 }

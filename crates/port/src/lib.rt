@@ -3,8 +3,8 @@
 
 mod fed;
 mod kept;
+mod message;
 mod port;
-mod telling;
 
 pub use fed::{Fed, PortStop};
 pub use port::Port;

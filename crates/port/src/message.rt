@@ -7,6 +7,7 @@ ghost use Rattle.velocity_map.specs.Map.{curve_of};
 ghost use Rattle.command_set.specs.Command.{IsInRange, content};
 ghost use Rattle.command_set.specs.Message.{Told, Tells, command_of};
 ghost use Rattle.command_queue.specs.Ends.{quota_of};
+ghost use Rattle.port.specs.Ranges.{SendsInRange};
 ghost use Rattle.port.specs.Settling.{Settles, KeepsThis, KeepsNoMessage, OneMore};
 
 use crate::fed::Fed;
@@ -33,6 +34,7 @@ pub(crate) fn send<R: Wait>(
     ensures settles { (curve : Curve) (bytes : List ℕ) → Settles curve bytes (Tells (content command)) kept.new end.old end.new result }
     ensures keeps { KeepsNoMessage kept.new }
     ensures one { OneMore end.old end.new 0 result }
+    ensures ranges { SendsInRange end.old end.new }
 {
     match line.send(rt, end, 0, command) {
         Ok(_) => Fed::SENT,
@@ -44,7 +46,7 @@ pub(crate) fn send<R: Wait>(
 }
 
 /// Sends the command of a message with its bytes, if it has one, or keeps it where it can't be made now.
-pub(crate) fn tell<R: Wait>(
+pub(crate) fn handle<R: Wait>(
     rt: &R,
     alloc: Global,
     line: &Line,
@@ -62,6 +64,7 @@ pub(crate) fn tell<R: Wait>(
     ensures settles { Settles (curve_of map.now) sysex.now (command_of message sysex.now (curve_of map.now)) kept.new end.old end.new result }
     ensures message { KeepsThis kept.new message }
     ensures one { OneMore end.old end.new 0 result }
+    ensures ranges { SendsInRange end.old end.new }
 {
     match from_message(alloc, message, sysex, map) {
         Ok(Some(command)) => send(rt, line, end, kept, command),

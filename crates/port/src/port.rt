@@ -1,16 +1,18 @@
 //! The port.
 
-ghost use Rattle.std.specs.Prelude.{ℕ, List, ◌≡◌, ◌≢◌, ◌+◌, ◌-◌, ◌<◌, ◌≤◌, ◌⊎◌, [], ◌∷◌, ◌++◌, None, take, length, slice_index, IfOk, IfErr};
+ghost use Rattle.std.specs.Prelude.{ℕ, List, ◌≡◌, ◌≢◌, ◌+◌, ◌-◌, ◌<◌, ◌≤◌, ◌⊎◌, [], ◌∷◌, ◌++◌, None, take, length};
+ghost use Rattle.std.specs.Prelude.{slice_index, IfOk, IfErr};
 ghost use Rattle.velocity_map.specs.Map.{curve_of};
 ghost use Rattle.command_set.specs.Message.{Told};
 ghost use Rattle.command_queue.specs.Ends.{quota_of};
 ghost use Rattle.port.specs.Feeding.{Handles};
 ghost use Rattle.port.specs.Keeping.{KeepsAt};
+ghost use Rattle.port.specs.Ranges.{SendsInRange};
 ghost use Rattle.port.specs.Settling.{FullOnly, OneMore, refusals_after};
 
 use crate::fed::{Fed, PortStop};
 use crate::kept::Kept;
-use crate::telling::{send, tell};
+use crate::message::{handle, send};
 use command_queue::{Line, SendEnd};
 use midi_stream::MidiReader;
 use std::alloc::Global;
@@ -26,7 +28,7 @@ pub struct Port {
 }
 
 impl Port {
-    ghost use Rattle.port.specs.Used.{Used, port_curve, IsClear, KeepsAs, Hears};
+    ghost use Rattle.port.specs.Used.{Used, port_curve, IsClear, KeepsAs, Receives};
 
     /// A port with a map, which has used no byte. Where memory is wanted, the map is given back.
     pub fn new(alloc: Global, map: VelocityMap) -> Result<Port, VelocityMap>
@@ -48,10 +50,11 @@ impl Port {
     fn retry<R: Wait>(&mut self, rt: &R, alloc: Global, line: &Line, end: &mut SendEnd) -> Fed
         requires line { end.old.line ≡ line.now }
         requires quota { length end.old.list < quota_of end.old }
-        ensures heard { (done : List Told) (stream : List ℕ) → Used self.old done stream → Hears self.new done stream end.old end.new result }
+        ensures received { (done : List Told) (stream : List ℕ) → Used self.old done stream → Receives self.new done stream end.old end.new result }
         ensures curve { port_curve self.new ≡ port_curve self.old }
         ensures keeps { KeepsAs self.new result.stop }
         ensures one { OneMore end.old end.new 0 result }
+        ensures ranges { SendsInRange end.old end.new }
     {
         match self.kept.take() {
             None => Fed::NOTHING,
@@ -62,7 +65,7 @@ impl Port {
                 &mut self.kept,
                 waiting.into_command(),
             ),
-            Some(Kept::Message(ended)) => tell(
+            Some(Kept::Message(ended)) => handle(
                 rt,
                 alloc,
                 line,
@@ -76,7 +79,7 @@ impl Port {
     }
 
     // Uses the next byte.
-    fn hear<R: Wait>(
+    fn use_byte<R: Wait>(
         &mut self,
         rt: &R,
         alloc: Global,
@@ -87,14 +90,16 @@ impl Port {
         requires line { end.old.line ≡ line.now }
         requires quota { length end.old.list < quota_of end.old }
         requires clear { IsClear self.old }
-        ensures heard { (done : List Told) (stream : List ℕ) → Used self.old done stream → Hears self.new done (stream ++ byte ∷ []) end.old end.new result }
+        ensures received { (done : List Told) (stream : List ℕ) → Used self.old done stream
+            → Receives self.new done (stream ++ byte ∷ []) end.old end.new result }
         ensures curve { port_curve self.new ≡ port_curve self.old }
         ensures keeps { KeepsAs self.new result.stop }
         ensures one { OneMore end.old end.new 1 result }
+        ensures ranges { SendsInRange end.old end.new }
     {
-        let told = match self.reader.feed(byte) {
+        let fed = match self.reader.feed(byte) {
             None => Fed::NOTHING,
-            Some(message) => tell(
+            Some(message) => handle(
                 rt,
                 alloc,
                 line,
@@ -105,7 +110,7 @@ impl Port {
                 self.reader.sysex(),
             ),
         };
-        Fed { used: 1, ..told }
+        Fed { used: 1, ..fed }
     }
 
     /// Sends what was kept, and then the commands of the messages of the next bytes, each with `sent_at` 0. It stops where the line is full or
@@ -120,7 +125,9 @@ impl Port {
     ) -> Fed
         requires line { end.old.line ≡ line.now }
         requires quota { length end.old.list + length bytes.now + 1 ≤ quota_of end.old }
-        ensures fed { (done : List Told) (stream : List ℕ) → Used self.old done stream → Hears self.new done (stream ++ take result.used bytes.now) end.old end.new result }
+        ensures fed { (done : List Told) (stream : List ℕ) → Used self.old done stream
+            → Receives self.new done (stream ++ take result.used bytes.now) end.old end.new result }
+        ensures ranges { SendsInRange end.old end.new }
         ensures curve { port_curve self.new ≡ port_curve self.old }
         ensures keeps { KeepsAs self.new result.stop }
         ensures used { result.used ≤ length bytes.now }
@@ -138,7 +145,7 @@ impl Port {
             return fed;
         }
         for byte in bytes {
-            fed = fed.and(self.hear(rt, alloc, line, end, *byte));
+            fed = fed.and(self.use_byte(rt, alloc, line, end, *byte));
             if fed.stop != PortStop::All {
                 return fed;
             }

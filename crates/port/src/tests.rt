@@ -23,7 +23,7 @@ fn feed<R: Wait>(
     bytes: &[u8],
 ) -> Option<Fed>
     requires ends { AreEnds line.now ends.old × (0 < length ends.old) }
-    requires bytes { length bytes.now ≤ 100 }
+    requires bytes { length bytes.now ≤ 200 }
     ensures { AreEnds line.now ends.new }
 {
     let end = &mut ends[0];
@@ -57,6 +57,21 @@ fn taken<R: Wait>(rt: &R, line: &Line, taker: &mut TakeEnd) -> (u32, u32, u8, u8
         },
         None => (0, 0, 0, 0),
     }
+}
+
+/// A voice of zeros goes through as one message.
+fn whole_voice<R: Abort + Wait>(rt: &R, alloc: Global, port: &mut Port) -> Result<(), Fail> {
+    let (line, mut taker, mut ends) = Line::new(alloc, 1, &[200])?;
+    let mut message = [0u8; 163];
+    message[..6].copy_from_slice(b"\xF0\x43\x00\x00\x01\x1B");
+    message[162] = 0xF7;
+    assert_eq!(rt;
+        feed(rt, alloc, port, &line, ends.as_mut_slice(), &message),
+        fed(163, 1, 0, 0, PortStop::All)
+    );
+    let entry = line.take(rt, &mut taker).ok_or("nothing waits")?;
+    assert!(rt; matches!(entry.command, Command::Voice(_)));
+    Ok(())
 }
 
 fn worked_row<R: Abort + Wait>(
@@ -94,7 +109,7 @@ fn worked_row<R: Abort + Wait>(
         fed(7, 1, 0, 0, PortStop::All)
     );
     assert_eq!(rt; taken(rt, &line, &mut taker), (2, 0, 134, 4));
-    Ok(())
+    whole_voice(rt, alloc, &mut port)
 }
 
 #[test]

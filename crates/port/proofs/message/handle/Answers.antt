@@ -1,9 +1,10 @@
-use Rattle.std.proofs.Common.{◌∙◌, ap}
+use Rattle.std.proofs.Common.{◌∙◌, ap, refl}
 use Rattle.command_set.specs.Command.{content}
 use Rattle.command_set.specs.Message.{told}
 use Rattle.std.specs.Prelude.{option_map}
 use Rattle.port.proofs.Settled.{passed_settles, overlong_settles, faulty_settles, this_if_none}
-use Rattle.port.proofs.telling.tell.Goals as goal
+use Rattle.port.proofs.Sending.{sends_same}
+use Rattle.port.proofs.message.handle.Goals as goal
 
 pub returns-in-Ok-None-clause-settles : goal.returns-in-Ok-None-clause-settles
 returns-in-Ok-None-clause-settles g c =
@@ -17,3 +18,15 @@ returns-in-Err-TooLong-clause-settles g c = overlong_settles _ _ _ _ _ _ c.requi
 
 pub returns-in-Err-Frame-clause-settles : goal.returns-in-Err-Frame-clause-settles
 returns-in-Err-Frame-clause-settles g c = faulty_settles _ _ _ _ _ _ c.requires.clear (rw c.in-Err-Frame.field-0-is at c.in-Err-Frame.ensures.refused)
+
+pub returns-in-Ok-None-clause-ranges : goal.returns-in-Ok-None-clause-ranges
+returns-in-Ok-None-clause-ranges g c = sends_same _ _ refl
+
+pub returns-in-Err-Memory-clause-ranges : goal.returns-in-Err-Memory-clause-ranges
+returns-in-Err-Memory-clause-ranges g c = sends_same _ _ refl
+
+pub returns-in-Err-TooLong-clause-ranges : goal.returns-in-Err-TooLong-clause-ranges
+returns-in-Err-TooLong-clause-ranges g c = sends_same _ _ refl
+
+pub returns-in-Err-Frame-clause-ranges : goal.returns-in-Err-Frame-clause-ranges
+returns-in-Err-Frame-clause-ranges g c = sends_same _ _ refl

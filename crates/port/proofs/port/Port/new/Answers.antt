@@ -1,4 +1,4 @@
-use Rattle.port.proofs.Hearing.{new_used}
+use Rattle.port.proofs.Receiving.{new_used}
 use Rattle.port.proofs.port.Port.new.Goals as goal
 
 pub returns-in-Ok-clause-used : goal.returns-in-Ok-clause-used
