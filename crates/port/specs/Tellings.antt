@@ -1,7 +1,7 @@
 -- What the messages of a stream of MIDI bytes tell an instrument, in order.
-use Rattle.std.specs.Prelude.{ℕ, Bool, true, false, List, [], ◌∷◌, ◌++◌, length, map, Option, Some, None, slice_get, unwrap_or}
-use Rattle.midi_stream.specs.declared.message.MidiMessage.{MidiMessage}
-use Rattle.midi_stream.specs.Messages.{messages, last_sysex}
+use Rattle.std.specs.Prelude.{ℕ, Bool, true, false, List, [], ◌∷◌, ◌++◌, map, Option, Some, None, unwrap_or}
+use Rattle.midi_stream.specs.Messages.{last_sysex}
+use Rattle.midi_stream.specs.Ended.{EndedMessage, ended_message}
 use Rattle.velocity_map.specs.declared.curve.Curve.{Curve}
 use Rattle.command_set.specs.Command.{CommandData}
 use Rattle.command_set.specs.Message.{Told, Tells, PassedOver, Overlong, Faulty, command_of}
@@ -10,35 +10,27 @@ use Rattle.command_set.specs.Message.{Told, Tells, PassedOver, Overlong, Faulty,
 abbrev pub exclusive_of : List ℕ → List ℕ
 exclusive_of stream = unwrap_or (last_sysex stream) []
 
--- a message of a stream, with the bytes of the last system exclusive message at its end
-pub record Heard : Type 0 where
-  pub message : MidiMessage
-  pub bytes : List ℕ
-
-abbrev pub one_heard : List ℕ → Option MidiMessage → List Heard
-one_heard bytes None = []
-one_heard bytes (Some message) = record { message = message; bytes = bytes } ∷ []
-
--- the message that a stream gains with one more byte, if it gains one
-unfoldable pub heard_with : List ℕ → ℕ → List Heard
-heard_with before byte = one_heard (exclusive_of (before ++ byte ∷ [])) (slice_get (messages (before ++ byte ∷ [])) (length (messages before)))
+-- a message as a list
+abbrev pub listed : Option EndedMessage → List EndedMessage
+listed None = []
+listed (Some m) = m ∷ []
 
 -- the messages that a stream gains with more bytes
-unfoldable pub heard_behind : List ℕ → List ℕ → List Heard
-heard_behind before [] = []
-heard_behind before (byte ∷ bytes) = heard_with before byte ++ heard_behind (before ++ byte ∷ []) bytes
+unfoldable pub ended_after : List ℕ → List ℕ → List EndedMessage
+ended_after before [] = []
+ended_after before (byte ∷ bytes) = listed (ended_message before byte) ++ ended_after (before ++ byte ∷ []) bytes
 
 -- the messages of a stream, each with its bytes where it is a system exclusive one
-abbrev pub heard_in : List ℕ → List Heard
-heard_in stream = heard_behind [] stream
+abbrev pub ended_messages : List ℕ → List EndedMessage
+ended_messages stream = ended_after [] stream
 
 -- what a message with its bytes tells
-abbrev pub told_by_heard : Curve → Heard → Told
-told_by_heard curve heard = command_of heard.message heard.bytes curve
+abbrev pub told_by : Curve → EndedMessage → Told
+told_by curve ended = command_of ended.message ended.bytes curve
 
 -- what the messages of a stream tell
 abbrev pub tellings : Curve → List ℕ → List Told
-tellings curve stream = map (told_by_heard curve) (heard_in stream)
+tellings curve stream = map (told_by curve) (ended_messages stream)
 
 -- the commands among what is told
 abbrev pub commands_in : List Told → List CommandData
