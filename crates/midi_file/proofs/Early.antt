@@ -7,8 +7,8 @@ use Rattle.script_outcome.specs.declared.fault.Place.TheVariants as place
 use Rattle.script_outcome.specs.declared.fault.ScriptKind.TheVariants as kind
 use Rattle.script_outcome.specs.Outcomes.{Outcome, Gives, Fails}
 use Rattle.script_outcome.proofs.Early.{AllEarly, both_early, below_all}
-use Rattle.midi_file.specs.Track.{ActData, Sets, Plays, TimedData, Happening, Comes, Breaks}
-use Rattle.midi_file.specs.Chunks.{division_of, file_happens}
+use Rattle.midi_file.specs.Track.{ActData, Sets, Plays, TimedData, TrackOutcome, Comes, Breaks}
+use Rattle.midi_file.specs.Chunks.{division_of, file_outcomes}
 use Rattle.midi_file.specs.Time.{Change, block_of, changes_in, time_of}
 use Rattle.midi_file.specs.File.{act_outcomes, acts_in, first_fault, in_order, midi_outcomes, ordered_outcomes, timed_outcomes, timed_plan, unless_refused}
 
@@ -17,7 +17,7 @@ unless_early blocks [] ys a b = b
 unless_early blocks (Gives c ∷ xs) ys a b = (a.0, tt)
 unless_early blocks (Fails at why ∷ xs) ys a b = tt
 
-fault_early : (blocks : ℕ) (happened : List Happening) → AllEarly blocks (first_fault happened)
+fault_early : (blocks : ℕ) (acts : List TrackOutcome) → AllEarly blocks (first_fault acts)
 fault_early blocks [] = tt
 fault_early blocks (Comes e ∷ later) = fault_early blocks later
 fault_early blocks (Breaks at why ∷ later) = tt
@@ -42,6 +42,6 @@ acts_early blocks division changes (e ∷ later) =
 pub midi_early : (blocks : ℕ) (bytes : List ℕ) → AllEarly blocks (midi_outcomes (Some blocks) bytes)
 unfolding midi_outcomes
 midi_early blocks bytes =
-    let events : List TimedData = in_order (acts_in (file_happens bytes)) in
-    unless_early blocks (first_fault (file_happens bytes)) (timed_plan (Some blocks) (division_of bytes) events)
-    (fault_early blocks (file_happens bytes)) (acts_early blocks (division_of bytes) (changes_in events) events)
+    let events : List TimedData = in_order (acts_in (file_outcomes bytes)) in
+    unless_early blocks (first_fault (file_outcomes bytes)) (timed_plan (Some blocks) (division_of bytes) events)
+    (fault_early blocks (file_outcomes bytes)) (acts_early blocks (division_of bytes) (changes_in events) events)

@@ -1,7 +1,7 @@
 pub mod Quantities
 pub mod Order
 pub mod Times
-pub mod Feeding
+pub mod EndedMessages
 pub mod Tracks
 pub mod Files
 pub mod Plans

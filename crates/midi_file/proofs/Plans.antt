@@ -11,13 +11,13 @@ use Rattle.script_outcome.specs.Plan.{plan_of}
 use Rattle.script_outcome.specs.Reading.{Stops, all_given}
 use Rattle.command_set.specs.Command.{CommandData}
 use Rattle.midi_file.specs.Track.{ActData, Sets, Plays, TimedData, timed_at}
-use Rattle.midi_file.specs.Chunks.{division_of, file_happens}
+use Rattle.midi_file.specs.Chunks.{division_of, file_outcomes}
 use Rattle.midi_file.specs.Time.{Change, block_of, changes_in, change_at, first_tempo, time_between, time_of}
 use Rattle.midi_file.specs.File.{IsInTime, act_outcomes, acts_in, first_fault, in_order, midi_outcomes, ordered_outcomes, timed_outcomes, timed_plan, unless_refused}
-use Rattle.midi_file.specs.Says.{Faults, all_come}
+use Rattle.midi_file.specs.Values.{Faults, all_come}
 use Rattle.midi_file.specs.declared.time.Clock.{Clock}
 use Rattle.script_outcome.proofs.Plans.{fails, stops_more}
-use Rattle.midi_file.proofs.Times.{IsBehindTick, changes_behind, time_on, no_time, time_changed}
+use Rattle.midi_file.proofs.Times.{IsBehindTick, changes_after, time_on, no_time, time_changed}
 
 -- ---- blocks
 
@@ -63,21 +63,21 @@ outcomes_first blocks division changes e later = refl
 pub next_time : (clock : Clock) (blocks : Option ℕ) (division : ℕ) (changes : List Change) (e : TimedData) (later : List TimedData) (given : List PlannedData) (all : List Outcome)
     → IsPlanned clock blocks division changes (e ∷ later) given all → time_of changes e.tick ≡ clock.time + (e.tick - clock.tick) * clock.tempo
 next_time clock blocks division changes e later given all p =
-    let behind : IsBehindTick e.tick (changes_in (e ∷ later)) = changes_behind e.tick (e ∷ later) (omega arith, p.order.1) in
+    let after : IsBehindTick e.tick (changes_in (e ∷ later)) = changes_after e.tick (e ∷ later) (omega arith, p.order.1) in
     p.times e.tick p.order.0
-    ∙ ap (λ (n : ℕ). clock.time + n) (time_on clock.tempo clock.tick e.tick e.tick (changes_in (e ∷ later)) p.order.0 (omega arith) behind
-    ∙ ap (λ (n : ℕ). (e.tick - clock.tick) * clock.tempo + n) (no_time clock.tempo e.tick (changes_in (e ∷ later)) behind) ∙ (omega arith))
+    ∙ ap (λ (n : ℕ). clock.time + n) (time_on clock.tempo clock.tick e.tick e.tick (changes_in (e ∷ later)) p.order.0 (omega arith) after
+    ∙ ap (λ (n : ℕ). (e.tick - clock.tick) * clock.tempo + n) (no_time clock.tempo e.tick (changes_in (e ∷ later)) after) ∙ (omega arith))
 
--- the times behind the next act
+-- the times after the next act
 times_on : (clock : Clock) (changes : List Change) (e : TimedData) (later : List TimedData) → IsInTime clock.tick (e ∷ later)
     → ((tick : ℕ) → clock.tick ≤ tick → time_of changes tick ≡ clock.time + time_between clock.tempo clock.tick (changes_in (e ∷ later)) tick)
     → (tick : ℕ) → e.tick ≤ tick → time_of changes tick ≡ (clock.time + (e.tick - clock.tick) * clock.tempo) + time_between clock.tempo e.tick (changes_in (e ∷ later)) tick
 times_on clock changes e later order times tick le =
     times tick (let low : clock.tick ≤ e.tick = order.0 in omega arith)
-    ∙ ap (λ (n : ℕ). clock.time + n) (time_on clock.tempo clock.tick e.tick tick (changes_in (e ∷ later)) order.0 le (changes_behind e.tick (e ∷ later) (omega arith, order.1)))
+    ∙ ap (λ (n : ℕ). clock.time + n) (time_on clock.tempo clock.tick e.tick tick (changes_in (e ∷ later)) order.0 le (changes_after e.tick (e ∷ later) (omega arith, order.1)))
     ∙ sym (add_assoc clock.time ((e.tick - clock.tick) * clock.tempo) _)
 
--- behind a new tempo
+-- after a new tempo
 pub planned_tempo : (clock next : Clock) (blocks : Option ℕ) (division : ℕ) (changes : List Change) (e : TimedData) (later : List TimedData) (given : List PlannedData) (all : List Outcome) (tempo : ℕ)
     → IsPlanned clock blocks division changes (e ∷ later) given all → e.act ≡ Sets tempo
     → next.time ≡ clock.time + (e.tick - clock.tick) * clock.tempo → next.tick ≡ e.tick → next.tempo ≡ tempo
@@ -89,7 +89,7 @@ planned_tempo clock next blocks division changes e later given all tempo p is ti
       let first : changes_in (e ∷ later) ≡ record { tick = e.tick; tempo = tempo } ∷ changes_in later = changes_first e later ∙ ap (λ (a : ActData). change_at e.tick a ++ changes_in later) is in
       times_on clock changes e later p.order p.times t low
       ∙ ap (λ (cs : List Change). (clock.time + (e.tick - clock.tick) * clock.tempo) + time_between clock.tempo e.tick cs t) first
-      ∙ ap (λ (n : ℕ). (clock.time + (e.tick - clock.tick) * clock.tempo) + n) (time_changed clock.tempo tempo e.tick t (changes_in later) low (changes_behind e.tick later p.order.1))
+      ∙ ap (λ (n : ℕ). (clock.time + (e.tick - clock.tick) * clock.tempo) + n) (time_changed clock.tempo tempo e.tick t (changes_in later) low (changes_after e.tick later p.order.1))
       ∙ ap (λ (n : ℕ). n + time_between tempo e.tick (changes_in later) t) (sym time)
       ∙ ap (λ (n : ℕ). next.time + time_between n e.tick (changes_in later) t) (sym new)
       ∙ ap (λ (n : ℕ). next.time + time_between next.tempo n (changes_in later) t) (sym tick);
@@ -98,7 +98,7 @@ planned_tempo clock next blocks division changes e later given all tempo p is ti
       ∙ ap (λ (a : ActData). act_outcomes blocks e.place (block_of division (time_of changes e.tick)) a ++ ordered_outcomes blocks division changes later) is)) ∙ p.left;
 }
 
--- what comes of a command, and of the acts behind it
+-- what comes of a command, and of the acts after it
 command_first : (clock next : Clock) (blocks : Option ℕ) (division : ℕ) (changes : List Change) (e : TimedData) (later : List TimedData) (given : List PlannedData) (all : List Outcome)
     → IsPlanned clock blocks division changes (e ∷ later) given all → next.time ≡ clock.time + (e.tick - clock.tick) * clock.tempo
     → (all_given given ++ act_outcomes blocks e.place (block_of division next.time) e.act) ++ ordered_outcomes blocks division changes later ≡ all
@@ -115,7 +115,7 @@ pub stopped_command : (clock next : Clock) (blocks : Option ℕ) (division room 
 stopped_command clock next blocks division room changes e later given all why p time stops =
     subst (λ (os : List Outcome). Stops why room os) (command_first clock next blocks division changes e later given all p time) (stops_more why room _ _ stops)
 
--- behind a command
+-- after a command
 pub planned_command : (clock next : Clock) (blocks : Option ℕ) (division : ℕ) (changes : List Change) (e : TimedData) (later : List TimedData) (given given' : List PlannedData) (all : List Outcome) (a : ActData)
     → IsPlanned clock blocks division changes (e ∷ later) given all → e.act ≡ a → change_at e.tick a ≡ []
     → next.time ≡ clock.time + (e.tick - clock.tick) * clock.tempo → next.tick ≡ e.tick → next.tempo ≡ clock.tempo
@@ -191,23 +191,23 @@ no_fault [] = refl
 no_fault (e ∷ es) = no_fault es
 
 -- a file with no fault
-pub whole_file : (blocks : Option ℕ) (bytes : List ℕ) (es sorted : List TimedData) (division : ℕ) → all_come es ≡ file_happens bytes → sorted ≡ in_order es → division ≡ division_of bytes
+pub whole_file : (blocks : Option ℕ) (bytes : List ℕ) (es sorted : List TimedData) (division : ℕ) → all_come es ≡ file_outcomes bytes → sorted ≡ in_order es → division ≡ division_of bytes
     → timed_plan blocks division sorted ≡ midi_outcomes blocks bytes
 unfolding midi_outcomes
 whole_file blocks bytes es sorted division come order is =
-    let none : first_fault (file_happens bytes) ≡ [] = ap first_fault (sym come) ∙ no_fault es in
-    let acts : acts_in (file_happens bytes) ≡ es = ap acts_in (sym come) ∙ acts_of_all es in
+    let none : first_fault (file_outcomes bytes) ≡ [] = ap first_fault (sym come) ∙ no_fault es in
+    let acts : acts_in (file_outcomes bytes) ≡ es = ap acts_in (sym come) ∙ acts_of_all es in
     ap (timed_plan blocks division) order
     ∙ ap (λ (fs : List TimedData). timed_plan blocks division (in_order fs)) (sym acts)
-    ∙ ap (λ (n : ℕ). timed_plan blocks n (in_order (acts_in (file_happens bytes)))) is
-    ∙ sym (ap (λ (os : List Outcome). unless_refused os (timed_plan blocks (division_of bytes) (in_order (acts_in (file_happens bytes))))) none)
+    ∙ ap (λ (n : ℕ). timed_plan blocks n (in_order (acts_in (file_outcomes bytes)))) is
+    ∙ sym (ap (λ (os : List Outcome). unless_refused os (timed_plan blocks (division_of bytes) (in_order (acts_in (file_outcomes bytes))))) none)
 
 -- a file with a fault
-pub faulty_file : (why : ScriptFault) (blocks : Option ℕ) (room : ℕ) (bytes : List ℕ) → Faults why (file_happens bytes) → Stops why room (midi_outcomes blocks bytes)
+pub faulty_file : (why : ScriptFault) (blocks : Option ℕ) (room : ℕ) (bytes : List ℕ) → Faults why (file_outcomes bytes) → Stops why room (midi_outcomes blocks bytes)
 unfolding midi_outcomes
 faulty_file (faults.Refused at why) blocks room bytes fault = λ more.
-    let is : first_fault (file_happens bytes) ≡ Fails at why ∷ [] = ap first_fault (sym (append-nil (file_happens bytes))) ∙ fault [] in
-    ap (λ (os : List Outcome). plan_of room (unless_refused os (timed_plan blocks (division_of bytes) (in_order (acts_in (file_happens bytes)))) ++ more)) is
+    let is : first_fault (file_outcomes bytes) ≡ Fails at why ∷ [] = ap first_fault (sym (append-nil (file_outcomes bytes))) ∙ fault [] in
+    ap (λ (os : List Outcome). plan_of room (unless_refused os (timed_plan blocks (division_of bytes) (in_order (acts_in (file_outcomes bytes)))) ++ more)) is
     ∙ fails room [] at why more (omega arith)
 faulty_file faults.TooMany blocks room bytes fault = absurd fault
 faulty_file faults.Memory blocks room bytes fault = tt

@@ -3,29 +3,29 @@ use Rattle.std.proofs.Common.{◌≡◌, ℕ, zero, suc, ◌+◌, ◌-◌, ◌*�
 use Rattle.std.proofs.lemmas.Bool.{le-ltb}
 use Rattle.std.proofs.Math.Nat.{one-le-pow}
 use Rattle.script_outcome.specs.declared.fault.ScriptKind.TheVariants as kind
-use Rattle.midi_file.specs.Bytes.{Got, Lacks, quantity_behind}
+use Rattle.midi_file.specs.Bytes.{Got, Lacks, quantity_after}
 
-pub no_more : (more so_far : ℕ) (bytes : List ℕ) → more ≡ 0 → quantity_behind more so_far bytes ≡ Lacks kind.Event
-unfolding quantity_behind
+pub no_more : (more so_far : ℕ) (bytes : List ℕ) → more ≡ 0 → quantity_after more so_far bytes ≡ Lacks kind.Event
+unfolding quantity_after
 no_more zero so_far bytes e = refl
 no_more (suc more) so_far bytes e = absurd (omega arith)
 
-pub none_left : (more so_far : ℕ) (bytes : List ℕ) → 0 < more → bytes ≡ [] → quantity_behind more so_far bytes ≡ Lacks kind.Cut
-unfolding quantity_behind
+pub none_left : (more so_far : ℕ) (bytes : List ℕ) → 0 < more → bytes ≡ [] → quantity_after more so_far bytes ≡ Lacks kind.Cut
+unfolding quantity_after
 none_left zero so_far bytes some e = absurd (omega arith)
 none_left (suc more) so_far bytes some e = rw e refl
 
 pub last_byte : (more so_far : ℕ) (bytes : List ℕ) (byte : ℕ) (rest : List ℕ) → 0 < more → bytes ≡ byte ∷ rest → byte < 128
-    → quantity_behind more so_far bytes ≡ Got (so_far * 128 + byte % 128) rest
-unfolding quantity_behind
+    → quantity_after more so_far bytes ≡ Got (so_far * 128 + byte % 128) rest
+unfolding quantity_after
 last_byte zero so_far bytes byte rest some e low = absurd (omega arith)
 last_byte (suc more) so_far bytes byte rest some e low =
     let same : byte % 128 ≡ byte = omega arith in
     rw (e, same, lt-ltb byte 128 low) refl
 
 pub more_bytes : (more so_far : ℕ) (bytes : List ℕ) (byte : ℕ) (rest : List ℕ) → 0 < more → bytes ≡ byte ∷ rest → 128 ≤ byte → byte < 256
-    → quantity_behind more so_far bytes ≡ quantity_behind (more - 1) (so_far * 128 + byte % 128) rest
-unfolding quantity_behind
+    → quantity_after more so_far bytes ≡ quantity_after (more - 1) (so_far * 128 + byte % 128) rest
+unfolding quantity_after
 more_bytes zero so_far bytes byte rest some e high fits = absurd (omega arith)
 more_bytes (suc more) so_far bytes byte rest some e high fits =
     let same : byte % 128 ≡ byte - 128 = omega arith in

@@ -19,10 +19,10 @@ by_act tick e (Sets tempo) later le is = le
 by_act tick e (Plays command) later le is = lower e.tick tick later le is
 
 -- the changes among acts in order are in order
-pub changes_behind : (tick : ℕ) (events : List TimedData) → IsInTime tick events → IsBehindTick tick (changes_in events)
+pub changes_after : (tick : ℕ) (events : List TimedData) → IsInTime tick events → IsBehindTick tick (changes_in events)
 unfolding changes_in
-changes_behind tick [] time = tt
-changes_behind tick (e ∷ later) time = by_act tick e e.act (changes_in later) time.0 (changes_behind e.tick later time.1)
+changes_after tick [] time = tt
+changes_after tick (e ∷ later) time = by_act tick e e.act (changes_in later) time.0 (changes_after e.tick later time.1)
 
 -- a stretch in two parts
 two_parts : (tempo from mid to : ℕ) → from ≤ mid → mid ≤ to → (to - from) * tempo ≡ (mid - from) * tempo + (to - mid) * tempo

@@ -1,20 +1,21 @@
 -- The header and the tracks of a MIDI file.
-use Rattle.std.specs.Prelude.{ℕ, zero, suc, ◌+◌, ◌-◌, ◌==◌, ◌||◌, nat_lt, nat_le, nat_eq, Bool, List, [], ◌∷◌, ◌++◌, codes, drop, length, take, Option, Some, None, if◌then◌else◌}
+use Rattle.std.specs.Prelude.{ℕ, zero, suc, ◌+◌, ◌-◌, ◌==◌, ◌||◌, nat_lt, nat_le, nat_eq, Bool, List, [], ◌∷◌, ◌++◌, codes, drop}
+use Rattle.std.specs.Prelude.{length, take, Option, Some, None, if◌then◌else◌}
 use Rattle.std.specs.List.{flat_map, starts_with}
 use Rattle.script_outcome.specs.declared.fault.ScriptKind.{ScriptKind}
 use Rattle.script_outcome.specs.declared.fault.ScriptKind.TheVariants as kind
 use Rattle.midi_file.specs.Bytes.{number_at}
-use Rattle.midi_file.specs.Track.{Happening, Breaks, track_happens}
+use Rattle.midi_file.specs.Track.{TrackOutcome, Breaks, track_outcomes}
 
--- the length that a chunk says, behind the four bytes of its name
+-- the length that a chunk says, after the four bytes of its name
 abbrev pub chunk_length : List ℕ → ℕ
 chunk_length bytes = number_at 4 4 bytes
 
--- the bytes behind a chunk
-abbrev pub behind_chunk : List ℕ → List ℕ
-behind_chunk bytes = drop (8 + chunk_length bytes) bytes
+-- the bytes after a chunk
+abbrev pub after_chunk : List ℕ → List ℕ
+after_chunk bytes = drop (8 + chunk_length bytes) bytes
 
--- the bytes of a chunk behind its name and its length
+-- the bytes of a chunk after its name and its length
 abbrev pub chunk_bytes : List ℕ → List ℕ
 chunk_bytes bytes = take (chunk_length bytes) (drop 8 bytes)
 
@@ -58,27 +59,28 @@ abbrev pub unless_cut : Option ℕ → List Chunk → List Chunk
 unless_cut None later = later
 unless_cut (Some place) later = CutAt place ∷ []
 
--- The tracks in the last bytes of a file of this size, so many of them; other chunks are passed over. Chunks are at most so many: each has eight bytes at least.
+-- The tracks in the last bytes of a file of this size, so many of them; other chunks are passed over. Chunks are at most so many: each has
+-- eight bytes at least.
 unfoldable pub tracks_in : ℕ → ℕ → ℕ → List ℕ → List Chunk
 tracks_in zero size wanted rest = []
 tracks_in (suc more) size wanted rest =
     if wanted == 0 then []
     else unless_cut (chunk_cut size rest)
-    (if is_track rest then Track (size - length (behind_chunk rest)) (chunk_bytes rest) ∷ tracks_in more size (wanted - 1) (behind_chunk rest)
-    else tracks_in more size wanted (behind_chunk rest))
+    (if is_track rest then Track (size - length (after_chunk rest)) (chunk_bytes rest) ∷ tracks_in more size (wanted - 1) (after_chunk rest)
+    else tracks_in more size wanted (after_chunk rest))
 
-abbrev pub chunk_happens : Chunk → List Happening
-chunk_happens (Track end bytes) = track_happens end bytes
-chunk_happens (CutAt place) = Breaks place kind.Cut ∷ []
+abbrev pub chunk_outcomes : Chunk → List TrackOutcome
+chunk_outcomes (Track end bytes) = track_outcomes end bytes
+chunk_outcomes (CutAt place) = Breaks place kind.Cut ∷ []
 
 -- what happens in the last bytes of a file
-abbrev pub tracks_happen : ℕ → ℕ → ℕ → List ℕ → List Happening
-tracks_happen more size wanted rest = flat_map chunk_happens (tracks_in more size wanted rest)
+abbrev pub tracks_outcomes : ℕ → ℕ → ℕ → List ℕ → List TrackOutcome
+tracks_outcomes more size wanted rest = flat_map chunk_outcomes (tracks_in more size wanted rest)
 
-abbrev pub breaks : Option (ℕ × ScriptKind) → List Happening
+abbrev pub breaks : Option (ℕ × ScriptKind) → List TrackOutcome
 breaks None = []
 breaks (Some fault) = Breaks fault.0 fault.1 ∷ []
 
 -- what happens in a file, in the order of its bytes: track by track, each from its first event to its last
-unfoldable pub file_happens : List ℕ → List Happening
-file_happens bytes = breaks (header_fault bytes) ++ tracks_happen (length bytes) (length bytes) (track_count bytes) (behind_chunk bytes)
+unfoldable pub file_outcomes : List ℕ → List TrackOutcome
+file_outcomes bytes = breaks (header_fault bytes) ++ tracks_outcomes (length bytes) (length bytes) (track_count bytes) (after_chunk bytes)

@@ -5,18 +5,18 @@ use Rattle.script_plan.specs.Plan.{planned_at}
 use Rattle.script_outcome.specs.declared.fault.Place.TheVariants as place
 use Rattle.script_outcome.specs.declared.fault.ScriptKind.TheVariants as kind
 use Rattle.script_outcome.specs.Outcomes.{Outcome, Gives, Fails, is_late}
-use Rattle.midi_file.specs.Track.{ActData, Sets, Plays, TimedData, Happening, Comes, Breaks}
-use Rattle.midi_file.specs.Chunks.{division_of, file_happens}
+use Rattle.midi_file.specs.Track.{ActData, Sets, Plays, TimedData, TrackOutcome, Comes, Breaks}
+use Rattle.midi_file.specs.Chunks.{division_of, file_outcomes}
 use Rattle.midi_file.specs.Time.{Change, block_of, changes_in, time_of}
 
 -- the first fault, if there is one
-abbrev pub first_fault : List Happening → List Outcome
+abbrev pub first_fault : List TrackOutcome → List Outcome
 first_fault [] = []
 first_fault (Comes e ∷ later) = first_fault later
 first_fault (Breaks at why ∷ later) = Fails (place.Byte at) why ∷ []
 
 -- the acts
-abbrev pub acts_in : List Happening → List TimedData
+abbrev pub acts_in : List TrackOutcome → List TimedData
 acts_in [] = []
 acts_in (Comes e ∷ later) = e ∷ acts_in later
 acts_in (Breaks at why ∷ later) = acts_in later
@@ -43,7 +43,8 @@ is_too_late blocks block = nat_lt 4294967295 block || is_late blocks block
 -- what comes of an act with its block; the place of its event is that of a fault
 abbrev pub act_outcomes : Option ℕ → ℕ → ℕ → ActData → List Outcome
 act_outcomes blocks at block (Sets tempo) = []
-act_outcomes blocks at block (Plays command) = if is_too_late blocks block then Fails (place.Byte at) kind.Late ∷ [] else Gives (planned_at block command) ∷ []
+act_outcomes blocks at block (Plays command) =
+    if is_too_late blocks block then Fails (place.Byte at) kind.Late ∷ [] else Gives (planned_at block command) ∷ []
 
 abbrev pub timed_outcomes : Option ℕ → ℕ → List Change → TimedData → List Outcome
 timed_outcomes blocks division changes e = act_outcomes blocks e.place (block_of division (time_of changes e.tick)) e.act
@@ -64,4 +65,4 @@ timed_plan blocks division events = ordered_outcomes blocks division (changes_in
 -- what comes of a file: all of it is read before its commands are looked at
 unfoldable pub midi_outcomes : Option ℕ → List ℕ → List Outcome
 midi_outcomes blocks bytes =
-    unless_refused (first_fault (file_happens bytes)) (timed_plan blocks (division_of bytes) (in_order (acts_in (file_happens bytes))))
+    unless_refused (first_fault (file_outcomes bytes)) (timed_plan blocks (division_of bytes) (in_order (acts_in (file_outcomes bytes))))

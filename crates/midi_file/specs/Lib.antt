@@ -4,4 +4,4 @@ pub mod Track
 pub mod Chunks
 pub mod Time
 pub mod File
-pub mod Says
+pub mod Values

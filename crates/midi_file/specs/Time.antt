@@ -16,7 +16,8 @@ unfoldable pub changes_in : List TimedData → List Change
 changes_in [] = []
 changes_in (e ∷ later) = change_at e.tick e.act ++ changes_in later
 
--- The time from one tick to another, in ticks times microseconds for a quarter note: the sum over the stretches between the changes in order, each with the tempo in force there.
+-- The time from one tick to another, in ticks times microseconds for a quarter note: the sum over the stretches between the changes in
+-- order, each with the tempo in force there.
 unfoldable pub time_between : ℕ → ℕ → List Change → ℕ → ℕ
 time_between tempo from [] tick = (tick - from) * tempo
 time_between tempo from (change ∷ later) tick =

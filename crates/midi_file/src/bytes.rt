@@ -1,7 +1,7 @@
 //! Parts of a MIDI file at the front of bytes.
 
 ghost use Rattle.std.specs.Prelude.{◌≡◌, ◌+◌, ◌*◌, ◌^◌, ◌<◌, ◌≤◌, length, IfErr, IfOk};
-ghost use Rattle.midi_file.specs.Bytes.{Got, Lacks, counted_bytes, data_byte, quantity, quantity_behind, so_many};
+ghost use Rattle.midi_file.specs.Bytes.{Got, Lacks, counted_bytes, data_byte, quantity, quantity_after, so_many};
 
 use script_outcome::{Place, ScriptFault, ScriptKind};
 
@@ -18,21 +18,21 @@ pub(crate) fn refused_at(byte: u32, kind: ScriptKind) -> ScriptFault
     }
 }
 
-/// A variable-length quantity of at most four bytes, and the bytes behind it.
+/// A variable-length quantity of at most four bytes, and the bytes after it.
 pub(crate) fn read_quantity(bytes: &[u8]) -> Result<(u32, &[u8]), ScriptKind>
     ensures ok { IfOk result (λ r. quantity bytes.now ≡ Got r.0 r.1.now) }
     ensures err { IfErr result (λ why. quantity bytes.now ≡ Lacks why) }
     ensures shorter { IfOk result (λ r. length r.1.now < length bytes.now) }
 {
-    read_quantity_behind(MOST_BYTES, 0, bytes)
+    read_quantity_after(MOST_BYTES, 0, bytes)
 }
 
-/// The rest of a quantity, at most so many bytes, behind those that wrote the number so far.
-#[tactic(auto, unfolding(crate::specs::Bytes::quantity_behind))]
-fn read_quantity_behind(more: u8, so_far: u32, bytes: &[u8]) -> Result<(u32, &[u8]), ScriptKind>
+/// The rest of a quantity, at most so many bytes, after those that wrote the number so far.
+#[tactic(auto, unfolding(crate::specs::Bytes::quantity_after))]
+fn read_quantity_after(more: u8, so_far: u32, bytes: &[u8]) -> Result<(u32, &[u8]), ScriptKind>
     requires { (so_far + 1) * 128 ^ more ≤ 268435456 }
-    ensures ok { IfOk result (λ r. quantity_behind more so_far bytes.now ≡ Got r.0 r.1.now) }
-    ensures err { IfErr result (λ why. quantity_behind more so_far bytes.now ≡ Lacks why) }
+    ensures ok { IfOk result (λ r. quantity_after more so_far bytes.now ≡ Got r.0 r.1.now) }
+    ensures err { IfErr result (λ why. quantity_after more so_far bytes.now ≡ Lacks why) }
     ensures shorter { IfOk result (λ r. length r.1.now < length bytes.now) }
 {
     if more == 0 {
@@ -45,13 +45,13 @@ fn read_quantity_behind(more: u8, so_far: u32, bytes: &[u8]) -> Result<(u32, &[u
             if *byte < 128 {
                 Ok((value, rest))
             } else {
-                read_quantity_behind(more - 1, value, rest)
+                read_quantity_after(more - 1, value, rest)
             }
         }
     }
 }
 
-/// A data byte, and the bytes behind it.
+/// A data byte, and the bytes after it.
 pub(crate) fn read_data(bytes: &[u8]) -> Result<(u8, &[u8]), ScriptKind>
     ensures ok { IfOk result (λ r. data_byte bytes.now ≡ Got r.0 r.1.now) }
     ensures err { IfErr result (λ why. data_byte bytes.now ≡ Lacks why) }
@@ -70,7 +70,7 @@ pub(crate) fn read_data(bytes: &[u8]) -> Result<(u8, &[u8]), ScriptKind>
     }
 }
 
-/// As many bytes as a quantity before them says, and the bytes behind them.
+/// As many bytes as a quantity before them says, and the bytes after them.
 #[tactic(auto, unfolding(crate::specs::Bytes::counted_bytes))]
 pub(crate) fn read_counted(bytes: &[u8]) -> Result<(&[u8], &[u8]), ScriptKind>
     ensures ok { IfOk result (λ r. counted_bytes bytes.now ≡ Got r.0.now r.1.now) }
@@ -78,13 +78,13 @@ pub(crate) fn read_counted(bytes: &[u8]) -> Result<(&[u8], &[u8]), ScriptKind>
     ensures shorter { IfOk result (λ r. length r.1.now < length bytes.now) }
 {
     match read_quantity(bytes) {
-        Ok((count, rest)) => take_bytes(count, rest),
+        Ok((count, rest)) => read_bytes(count, rest),
         Err(kind) => Err(kind),
     }
 }
 
-/// So many bytes, and those behind them.
-fn take_bytes(count: u32, bytes: &[u8]) -> Result<(&[u8], &[u8]), ScriptKind>
+/// So many bytes, and those after them.
+fn read_bytes(count: u32, bytes: &[u8]) -> Result<(&[u8], &[u8]), ScriptKind>
     ensures ok { IfOk result (λ r. so_many (Got count bytes.now) ≡ Got r.0.now r.1.now) }
     ensures err { IfErr result (λ why. so_many (Got count bytes.now) ≡ Lacks why) }
     ensures shorter { IfOk result (λ r. length r.1.now ≤ length bytes.now) }

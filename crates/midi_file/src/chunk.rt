@@ -3,8 +3,9 @@
 ghost use Rattle.std.specs.Prelude.{ℕ, List, ◌≡◌, ◌+◌, ◌<◌, ◌≤◌, ◌++◌, length, Some, None, IfErr, IfOk, OnOk};
 ghost use Rattle.velocity_map.specs.declared.curve.Curve.TheVariants.{Linear};
 ghost use Rattle.velocity_map.specs.Map.{curve_of};
-ghost use Rattle.midi_file.specs.Chunks.{behind_chunk, chunk_bytes, chunk_cut, chunk_length, division_of, header_fault, is_track, track_count, tracks_happen};
-ghost use Rattle.midi_file.specs.Says.{Faults, all_come};
+ghost use Rattle.midi_file.specs.Chunks.{after_chunk, chunk_bytes, chunk_cut, chunk_length, division_of, header_fault, is_track};
+ghost use Rattle.midi_file.specs.Chunks.{track_count, tracks_outcomes};
+ghost use Rattle.midi_file.specs.Values.{Faults, all_come};
 
 use crate::bytes::refused_at;
 use crate::timed::Timed;
@@ -20,7 +21,7 @@ const HEAD: usize = 8;
 /// The least length of a header.
 const HEADER: usize = 6;
 
-/// What the header says: how many tracks there are, and how many ticks a quarter note has; and the bytes behind it.
+/// What the header says: how many tracks there are, and how many ticks a quarter note has; and the bytes after it.
 #[derive(Clone, Copy, Debug, Drop)]
 pub(crate) struct Header<'a> {
     pub(crate) tracks: u16,
@@ -28,7 +29,7 @@ pub(crate) struct Header<'a> {
     pub(crate) rest: &'a [u8],
 }
 
-/// A chunk: whether it is a track, its bytes, and those behind it.
+/// A chunk: whether it is a track, its bytes, and those after it.
 #[derive(Clone, Copy, Debug, Drop)]
 struct Chunk<'a> {
     is_track: bool,
@@ -44,7 +45,7 @@ pub(crate) fn read_header(bytes: &[u8]) -> Result<Header<'_>, (u32, ScriptKind)>
     ensures tracks { IfOk result (λ h. h.tracks ≡ track_count bytes.now) }
     ensures division { IfOk result (λ h. h.division ≡ division_of bytes.now) }
     ensures some { IfOk result (λ h. 0 < h.division) }
-    ensures rest { IfOk result (λ h. h.rest.now ≡ behind_chunk bytes.now) }
+    ensures rest { IfOk result (λ h. h.rest.now ≡ after_chunk bytes.now) }
     ensures shorter { IfOk result (λ h. length h.rest.now < length bytes.now) }
 {
     if bytes.len() < HEAD {
@@ -87,13 +88,13 @@ pub(crate) fn read_tracks(
     size: u32,
     tracks: u16,
     map: &VelocityMap,
-    happened: &mut Vec<Timed>,
+    acts: &mut Vec<Timed>,
 ) -> Result<(), ScriptFault>
     requires within { length bytes.now < size }
     requires short { size ≤ 536870912 }
     requires linear { curve_of map.now ≡ Linear }
-    ensures come { OnOk result (all_come happened.new.items ≡ all_come happened.old.items ++ tracks_happen size size tracks bytes.now) }
-    ensures faults { IfErr result (λ why. Faults why (all_come happened.old.items ++ tracks_happen size size tracks bytes.now)) }
+    ensures come { OnOk result (all_come acts.new.items ≡ all_come acts.old.items ++ tracks_outcomes size size tracks bytes.now) }
+    ensures faults { IfErr result (λ why. Faults why (all_come acts.old.items ++ tracks_outcomes size size tracks bytes.now)) }
 {
     let mut wanted = tracks;
     let mut rest = bytes;
@@ -104,7 +105,7 @@ pub(crate) fn read_tracks(
         };
         if chunk.is_track {
             let end = size - chunk.rest.len() as u32;
-            match read_track(alloc, chunk.bytes, end, map, happened) {
+            match read_track(alloc, chunk.bytes, end, map, acts) {
                 Ok(()) => wanted -= 1,
                 Err(fault) => return Err(fault),
             }
@@ -123,7 +124,7 @@ fn read_chunk(size: u32, bytes: &[u8]) -> Result<Chunk<'_>, u32>
     ensures cut { IfErr result (λ place. chunk_cut size bytes.now ≡ Some place) }
     ensures track { IfOk result (λ c. c.is_track ≡ is_track bytes.now) }
     ensures bytes { IfOk result (λ c. c.bytes.now ≡ chunk_bytes bytes.now) }
-    ensures rest { IfOk result (λ c. c.rest.now ≡ behind_chunk bytes.now) }
+    ensures rest { IfOk result (λ c. c.rest.now ≡ after_chunk bytes.now) }
     ensures parts { IfOk result (λ c. length c.bytes.now + length c.rest.now + 8 ≡ length bytes.now) }
 {
     let place = size - bytes.len() as u32;

@@ -1,13 +1,12 @@
 //! One event of a track of a MIDI file.
 
 ghost use Rattle.std.specs.Prelude.{◌≡◌, ◌==◌, ◌<◌, ◌≤◌, [], ◌∷◌, length, if◌then◌else◌, IfErr, IfOk};
-ghost use Rattle.midi_file.specs.Event.{Broken, Event, channel_event, event_at, event_behind, exclusive_event, meta_deed, meta_event, second_event};
-ghost use Rattle.midi_file.specs.Says.{IsSoundDeed, deed_data, event_data};
+ghost use Rattle.midi_file.specs.Event.{Broken, Event, channel_event, event_at, event_after, exclusive_event, meta_kind, meta_event, second_event};
+ghost use Rattle.midi_file.specs.Values.{IsSoundKind, kind_data, event_data};
 
 use crate::bytes::{read_counted, read_data, read_quantity};
-use crate::message::{message_of_one, message_of_two, takes_one};
 use byteorder::{BigEndian, ByteOrder};
-use midi_stream::MidiMessage;
+use midi_stream::{MidiMessage, has_one_data_byte, message_of_one, message_of_two};
 use script_outcome::ScriptKind;
 
 /// The type of the meta event that sets the tempo, where it has three bytes.
@@ -18,10 +17,10 @@ const END_OF_TRACK: u8 = 0x2F;
 
 /// What an event does.
 #[derive(Clone, Copy, Debug, Drop)]
-pub(crate) enum Deed<'a> {
+pub(crate) enum EventKind<'a> {
     /// It is a channel message.
     Message(MidiMessage),
-    /// It begins a system exclusive message with the bytes behind its `F0`.
+    /// It begins a system exclusive message with the bytes after its `F0`.
     Exclusive(&'a [u8]),
     /// It has bytes that go on where earlier ones ended.
     Continued(&'a [u8]),
@@ -33,12 +32,12 @@ pub(crate) enum Deed<'a> {
     Other,
 }
 
-/// An event: its ticks behind the one before, what it does, the running status behind it (0 where there
-/// is none), and the bytes behind it.
+/// An event: its ticks after the one before, what it does, the running status after it (0 where there
+/// is none), and the bytes after it.
 #[derive(Clone, Copy, Debug, Drop)]
 pub(crate) struct MidiEvent<'a> {
     pub(crate) delta: u32,
-    pub(crate) deed: Deed<'a>,
+    pub(crate) kind: EventKind<'a>,
     pub(crate) running: u8,
     pub(crate) rest: &'a [u8],
 }
@@ -48,21 +47,21 @@ pub(crate) struct MidiEvent<'a> {
 pub(crate) fn read_event(running: u8, bytes: &[u8]) -> Result<MidiEvent<'_>, ScriptKind>
     ensures ok { IfOk result (λ e. event_at running bytes.now ≡ Event (event_data e)) }
     ensures err { IfErr result (λ why. event_at running bytes.now ≡ Broken why) }
-    ensures sound { IfOk result (λ e. IsSoundDeed e.deed) }
+    ensures sound { IfOk result (λ e. IsSoundKind e.kind) }
     ensures shorter { IfOk result (λ e. length e.rest.now < length bytes.now) }
 {
     match read_quantity(bytes) {
-        Ok((delta, rest)) => read_behind(running, delta, rest),
+        Ok((delta, rest)) => read_after(running, delta, rest),
         Err(kind) => Err(kind),
     }
 }
 
-/// An event behind its delta time.
-#[tactic(auto, unfolding(crate::specs::Event::event_behind))]
-fn read_behind(running: u8, delta: u32, bytes: &[u8]) -> Result<MidiEvent<'_>, ScriptKind>
-    ensures ok { IfOk result (λ e. event_behind running delta bytes.now ≡ Event (event_data e)) }
-    ensures err { IfErr result (λ why. event_behind running delta bytes.now ≡ Broken why) }
-    ensures sound { IfOk result (λ e. IsSoundDeed e.deed) }
+/// An event after its delta time.
+#[tactic(auto, unfolding(crate::specs::Event::event_after))]
+fn read_after(running: u8, delta: u32, bytes: &[u8]) -> Result<MidiEvent<'_>, ScriptKind>
+    ensures ok { IfOk result (λ e. event_after running delta bytes.now ≡ Event (event_data e)) }
+    ensures err { IfErr result (λ why. event_after running delta bytes.now ≡ Broken why) }
+    ensures sound { IfOk result (λ e. IsSoundKind e.kind) }
     ensures shorter { IfOk result (λ e. length e.rest.now ≤ length bytes.now) }
 {
     match bytes.split_first() {
@@ -90,7 +89,7 @@ fn read_behind(running: u8, delta: u32, bytes: &[u8]) -> Result<MidiEvent<'_>, S
 fn read_running(running: u8, delta: u32, bytes: &[u8]) -> Result<MidiEvent<'_>, ScriptKind>
     ensures ok { IfOk result (λ e. (if running == 0 then Broken ScriptKind.Event else channel_event delta running bytes.now) ≡ Event (event_data e)) }
     ensures err { IfErr result (λ why. (if running == 0 then Broken ScriptKind.Event else channel_event delta running bytes.now) ≡ Broken why) }
-    ensures sound { IfOk result (λ e. IsSoundDeed e.deed) }
+    ensures sound { IfOk result (λ e. IsSoundKind e.kind) }
     ensures shorter { IfOk result (λ e. length e.rest.now ≤ length bytes.now) }
 {
     if running == 0 {
@@ -105,16 +104,16 @@ fn read_running(running: u8, delta: u32, bytes: &[u8]) -> Result<MidiEvent<'_>, 
 fn read_channel(delta: u32, status: u8, bytes: &[u8]) -> Result<MidiEvent<'_>, ScriptKind>
     ensures ok { IfOk result (λ e. channel_event delta status bytes.now ≡ Event (event_data e)) }
     ensures err { IfErr result (λ why. channel_event delta status bytes.now ≡ Broken why) }
-    ensures sound { IfOk result (λ e. IsSoundDeed e.deed) }
+    ensures sound { IfOk result (λ e. IsSoundKind e.kind) }
     ensures shorter { IfOk result (λ e. length e.rest.now ≤ length bytes.now) }
 {
     match read_data(bytes) {
         Ok((first, rest)) => {
-            if takes_one(status) {
-                let deed = Deed::Message(message_of_one(status, first));
+            if has_one_data_byte(status) {
+                let kind = EventKind::Message(message_of_one(status, first));
                 Ok(MidiEvent {
                     delta,
-                    deed,
+                    kind,
                     running: status,
                     rest,
                 })
@@ -131,15 +130,15 @@ fn read_second(delta: u32, status: u8, first: u8, bytes: &[u8]) -> Result<MidiEv
     requires { first < 128 }
     ensures ok { IfOk result (λ e. second_event delta status first bytes.now ≡ Event (event_data e)) }
     ensures err { IfErr result (λ why. second_event delta status first bytes.now ≡ Broken why) }
-    ensures sound { IfOk result (λ e. IsSoundDeed e.deed) }
+    ensures sound { IfOk result (λ e. IsSoundKind e.kind) }
     ensures shorter { IfOk result (λ e. length e.rest.now ≤ length bytes.now) }
 {
     match read_data(bytes) {
         Ok((second, rest)) => {
-            let deed = Deed::Message(message_of_two(status, first, second));
+            let kind = EventKind::Message(message_of_two(status, first, second));
             Ok(MidiEvent {
                 delta,
-                deed,
+                kind,
                 running: status,
                 rest,
             })
@@ -153,13 +152,13 @@ fn read_second(delta: u32, status: u8, first: u8, bytes: &[u8]) -> Result<MidiEv
 fn read_exclusive(delta: u32, bytes: &[u8]) -> Result<MidiEvent<'_>, ScriptKind>
     ensures ok { IfOk result (λ e. exclusive_event delta (240 ∷ []) bytes.now ≡ Event (event_data e)) }
     ensures err { IfErr result (λ why. exclusive_event delta (240 ∷ []) bytes.now ≡ Broken why) }
-    ensures sound { IfOk result (λ e. IsSoundDeed e.deed) }
+    ensures sound { IfOk result (λ e. IsSoundKind e.kind) }
     ensures shorter { IfOk result (λ e. length e.rest.now ≤ length bytes.now) }
 {
     match read_counted(bytes) {
         Ok((message, rest)) => Ok(MidiEvent {
             delta,
-            deed: Deed::Exclusive(message),
+            kind: EventKind::Exclusive(message),
             running: 0,
             rest,
         }),
@@ -172,13 +171,13 @@ fn read_exclusive(delta: u32, bytes: &[u8]) -> Result<MidiEvent<'_>, ScriptKind>
 fn read_continued(delta: u32, bytes: &[u8]) -> Result<MidiEvent<'_>, ScriptKind>
     ensures ok { IfOk result (λ e. exclusive_event delta [] bytes.now ≡ Event (event_data e)) }
     ensures err { IfErr result (λ why. exclusive_event delta [] bytes.now ≡ Broken why) }
-    ensures sound { IfOk result (λ e. IsSoundDeed e.deed) }
+    ensures sound { IfOk result (λ e. IsSoundKind e.kind) }
     ensures shorter { IfOk result (λ e. length e.rest.now ≤ length bytes.now) }
 {
     match read_counted(bytes) {
         Ok((message, rest)) => Ok(MidiEvent {
             delta,
-            deed: Deed::Continued(message),
+            kind: EventKind::Continued(message),
             running: 0,
             rest,
         }),
@@ -186,12 +185,12 @@ fn read_continued(delta: u32, bytes: &[u8]) -> Result<MidiEvent<'_>, ScriptKind>
     }
 }
 
-/// A meta event behind its `FF`. The running status holds over it.
+/// A meta event after its `FF`. The running status holds over it.
 #[tactic(auto, unfolding(crate::specs::Event::meta_event))]
 fn read_meta(delta: u32, running: u8, bytes: &[u8]) -> Result<MidiEvent<'_>, ScriptKind>
     ensures ok { IfOk result (λ e. meta_event delta running bytes.now ≡ Event (event_data e)) }
     ensures err { IfErr result (λ why. meta_event delta running bytes.now ≡ Broken why) }
-    ensures sound { IfOk result (λ e. IsSoundDeed e.deed) }
+    ensures sound { IfOk result (λ e. IsSoundKind e.kind) }
     ensures shorter { IfOk result (λ e. length e.rest.now ≤ length bytes.now) }
 {
     match bytes.split_first() {
@@ -199,7 +198,7 @@ fn read_meta(delta: u32, running: u8, bytes: &[u8]) -> Result<MidiEvent<'_>, Scr
         Some((meta, counted)) => match read_counted(counted) {
             Ok((text, rest)) => Ok(MidiEvent {
                 delta,
-                deed: deed_of_meta(*meta, text),
+                kind: kind_of_meta(*meta, text),
                 running,
                 rest,
             }),
@@ -209,15 +208,15 @@ fn read_meta(delta: u32, running: u8, bytes: &[u8]) -> Result<MidiEvent<'_>, Scr
 }
 
 /// What a meta event does, by its type and its bytes.
-fn deed_of_meta<'a>(meta: u8, text: &[u8]) -> Deed<'a>
-    ensures deed { deed_data result ≡ meta_deed meta text.now }
-    ensures sound { IsSoundDeed result }
+fn kind_of_meta<'a>(meta: u8, text: &[u8]) -> EventKind<'a>
+    ensures kind { kind_data result ≡ meta_kind meta text.now }
+    ensures sound { IsSoundKind result }
 {
     if meta == TEMPO && text.len() == 3 {
-        Deed::Tempo(BigEndian::read_u24(text))
+        EventKind::Tempo(BigEndian::read_u24(text))
     } else if meta == END_OF_TRACK {
-        Deed::End
+        EventKind::End
     } else {
-        Deed::Other
+        EventKind::Other
     }
 }

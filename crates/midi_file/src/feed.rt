@@ -6,12 +6,12 @@ ghost use Rattle.midi_stream.specs.Reading.{Reads};
 ghost use Rattle.velocity_map.specs.declared.curve.Curve.TheVariants.{Linear};
 ghost use Rattle.velocity_map.specs.Map.{curve_of};
 ghost use Rattle.command_set.specs.Message.{command_of};
-ghost use Rattle.script_outcome.specs.Stream.{heard_with};
-ghost use Rattle.midi_file.specs.Track.{Comes, deed_happens, fed_by, fed_happens, heard_happens, timed_at, told_happens};
-ghost use Rattle.midi_file.specs.Says.{Faults, IsSoundAct, IsSoundDeed, act_data, all_come, deed_data};
+ghost use Rattle.midi_stream.specs.Ended.{ended_message};
+ghost use Rattle.midi_file.specs.Track.{Comes, event_outcomes, fed_by, bytes_outcomes, ended_outcomes, timed_at, message_outcomes};
+ghost use Rattle.midi_file.specs.Values.{Faults, IsSoundAct, IsSoundKind, act_data, all_come, kind_data};
 
 use crate::bytes::refused_at;
-use crate::event::Deed;
+use crate::event::EventKind;
 use crate::timed::{Act, Timed};
 use command_set::{CommandFault, from_message};
 use midi_stream::{MidiMessage, MidiReader};
@@ -27,50 +27,50 @@ pub(crate) struct Moment {
 }
 
 /// Adds what an event does. Bytes of system exclusive events go to the track's own reader.
-pub(crate) fn take_deed(
+pub(crate) fn apply_event(
     alloc: Global,
     reader: &mut MidiReader,
-    deed: Deed<'_>,
+    kind: EventKind<'_>,
     at: Moment,
     map: &VelocityMap,
-    happened: &mut Vec<Timed>,
+    acts: &mut Vec<Timed>,
 ) -> Result<(), ScriptFault>
     requires linear { curve_of map.now ≡ Linear }
-    requires sound { IsSoundDeed deed }
-    ensures reads { OnOk result ((stream : List ℕ) → Reads reader.old stream → Reads reader.new (stream ++ fed_by (deed_data deed.entry))) }
+    requires sound { IsSoundKind kind }
+    ensures reads { OnOk result ((stream : List ℕ) → Reads reader.old stream → Reads reader.new (stream ++ fed_by (kind_data kind.entry))) }
     ensures come { OnOk result ((stream : List ℕ) → Reads reader.old stream
-        → all_come happened.new.items ≡ all_come happened.old.items ++ deed_happens at.tick at.place stream (deed_data deed.entry)) }
+        → all_come acts.new.items ≡ all_come acts.old.items ++ event_outcomes at.tick at.place stream (kind_data kind.entry)) }
     ensures faults { IfErr result (λ why. (stream : List ℕ) → Reads reader.old stream
-        → Faults why (all_come happened.old.items ++ deed_happens at.tick at.place stream (deed_data deed.entry))) }
+        → Faults why (all_come acts.old.items ++ event_outcomes at.tick at.place stream (kind_data kind.entry))) }
 {
-    match deed {
-        Deed::Message(message) => take_message(alloc, message, &[], at, map, happened),
-        Deed::Exclusive(bytes) => feed_exclusive(alloc, reader, bytes, at, map, happened),
-        Deed::Continued(bytes) => feed_all(alloc, reader, bytes, at, map, happened),
-        Deed::Tempo(tempo) => add(happened, at, Act::Tempo(tempo)),
-        Deed::End | Deed::Other => Ok(()),
+    match kind {
+        EventKind::Message(message) => apply_message(alloc, message, &[], at, map, acts),
+        EventKind::Exclusive(bytes) => feed_exclusive(alloc, reader, bytes, at, map, acts),
+        EventKind::Continued(bytes) => feed_all(alloc, reader, bytes, at, map, acts),
+        EventKind::Tempo(tempo) => add(acts, at, Act::Tempo(tempo)),
+        EventKind::End | EventKind::Other => Ok(()),
     }
 }
 
-/// Feeds the byte that begins a message, and those behind it.
-#[tactic(auto, unfolding(crate::specs::Track::fed_happens))]
+/// Feeds the byte that begins a message, and those after it.
+#[tactic(auto, unfolding(crate::specs::Track::bytes_outcomes))]
 fn feed_exclusive(
     alloc: Global,
     reader: &mut MidiReader,
     bytes: &[u8],
     at: Moment,
     map: &VelocityMap,
-    happened: &mut Vec<Timed>,
+    acts: &mut Vec<Timed>,
 ) -> Result<(), ScriptFault>
     requires linear { curve_of map.now ≡ Linear }
     ensures reads { OnOk result ((stream : List ℕ) → Reads reader.old stream → Reads reader.new (stream ++ 240 ∷ bytes.now)) }
     ensures come { OnOk result ((stream : List ℕ) → Reads reader.old stream
-        → all_come happened.new.items ≡ all_come happened.old.items ++ fed_happens at.tick at.place stream (240 ∷ bytes.now)) }
+        → all_come acts.new.items ≡ all_come acts.old.items ++ bytes_outcomes at.tick at.place stream (240 ∷ bytes.now)) }
     ensures faults { IfErr result (λ why. (stream : List ℕ) → Reads reader.old stream
-        → Faults why (all_come happened.old.items ++ fed_happens at.tick at.place stream (240 ∷ bytes.now))) }
+        → Faults why (all_come acts.old.items ++ bytes_outcomes at.tick at.place stream (240 ∷ bytes.now))) }
 {
-    match feed_byte(alloc, reader, 0xF0, at, map, happened) {
-        Ok(()) => feed_all(alloc, reader, bytes, at, map, happened),
+    match feed_byte(alloc, reader, 0xF0, at, map, acts) {
+        Ok(()) => feed_all(alloc, reader, bytes, at, map, acts),
         Err(fault) => Err(fault),
     }
 }
@@ -82,17 +82,17 @@ fn feed_all(
     bytes: &[u8],
     at: Moment,
     map: &VelocityMap,
-    happened: &mut Vec<Timed>,
+    acts: &mut Vec<Timed>,
 ) -> Result<(), ScriptFault>
     requires linear { curve_of map.now ≡ Linear }
     ensures reads { OnOk result ((stream : List ℕ) → Reads reader.old stream → Reads reader.new (stream ++ bytes.now)) }
     ensures come { OnOk result ((stream : List ℕ) → Reads reader.old stream
-        → all_come happened.new.items ≡ all_come happened.old.items ++ fed_happens at.tick at.place stream bytes.now) }
+        → all_come acts.new.items ≡ all_come acts.old.items ++ bytes_outcomes at.tick at.place stream bytes.now) }
     ensures faults { IfErr result (λ why. (stream : List ℕ) → Reads reader.old stream
-        → Faults why (all_come happened.old.items ++ fed_happens at.tick at.place stream bytes.now)) }
+        → Faults why (all_come acts.old.items ++ bytes_outcomes at.tick at.place stream bytes.now)) }
 {
     for byte in bytes {
-        match feed_byte(alloc, reader, *byte, at, map, happened) {
+        match feed_byte(alloc, reader, *byte, at, map, acts) {
             Ok(()) => {}
             Err(fault) => return Err(fault),
         }
@@ -107,38 +107,40 @@ fn feed_byte(
     byte: u8,
     at: Moment,
     map: &VelocityMap,
-    happened: &mut Vec<Timed>,
+    acts: &mut Vec<Timed>,
 ) -> Result<(), ScriptFault>
     requires linear { curve_of map.now ≡ Linear }
     ensures reads { (stream : List ℕ) → Reads reader.old stream → Reads reader.new (stream ++ byte ∷ []) }
     ensures come { OnOk result ((stream : List ℕ) → Reads reader.old stream
-        → all_come happened.new.items ≡ all_come happened.old.items ++ heard_happens at.tick at.place (heard_with stream byte)) }
+        → all_come acts.new.items ≡ all_come acts.old.items ++ ended_outcomes at.tick at.place (ended_message stream byte)) }
     ensures faults { IfErr result (λ why. (stream : List ℕ) → Reads reader.old stream
-        → Faults why (all_come happened.old.items ++ heard_happens at.tick at.place (heard_with stream byte))) }
+        → Faults why (all_come acts.old.items ++ ended_outcomes at.tick at.place (ended_message stream byte))) }
 {
     match reader.feed(byte) {
         None => Ok(()),
-        Some(message) => take_message(alloc, message, reader.sysex(), at, map, happened),
+        Some(message) => apply_message(alloc, message, reader.sysex(), at, map, acts),
     }
 }
 
 /// Adds what a message tells.
-fn take_message(
+fn apply_message(
     alloc: Global,
     message: MidiMessage,
     sysex: &[u8],
     at: Moment,
     map: &VelocityMap,
-    happened: &mut Vec<Timed>,
+    acts: &mut Vec<Timed>,
 ) -> Result<(), ScriptFault>
     requires range { InRange message }
     requires bytes { length sysex.now ≤ 5000 }
     requires linear { curve_of map.now ≡ Linear }
-    ensures come { OnOk result (all_come happened.new.items ≡ all_come happened.old.items ++ told_happens at.tick at.place (command_of message sysex.now Linear)) }
-    ensures faults { IfErr result (λ why. Faults why (all_come happened.old.items ++ told_happens at.tick at.place (command_of message sysex.now Linear))) }
+    ensures come { OnOk result (all_come acts.new.items ≡ all_come acts.old.items
+        ++ message_outcomes at.tick at.place (command_of message sysex.now Linear)) }
+    ensures faults { IfErr result (λ why. Faults why (all_come acts.old.items
+        ++ message_outcomes at.tick at.place (command_of message sysex.now Linear))) }
 {
     match from_message(alloc, message, sysex, map) {
-        Ok(Some(command)) => add(happened, at, Act::Command(command)),
+        Ok(Some(command)) => add(acts, at, Act::Command(command)),
         Ok(None) => Ok(()),
         Err(CommandFault::TooLong { .. }) => Err(refused_at(at.place, ScriptKind::Long)),
         Err(CommandFault::Frame(fault)) => { Err(refused_at(at.place, ScriptKind::Message(fault))) }
@@ -147,12 +149,12 @@ fn take_message(
 }
 
 /// Adds what happens at an event.
-fn add(happened: &mut Vec<Timed>, at: Moment, act: Act) -> Result<(), ScriptFault>
+fn add(acts: &mut Vec<Timed>, at: Moment, act: Act) -> Result<(), ScriptFault>
     requires { IsSoundAct (act_data act) }
-    ensures come { OnOk result (all_come happened.new.items ≡ all_come happened.old.items ++ Comes (timed_at at.tick at.place (act_data act)) ∷ []) }
+    ensures come { OnOk result (all_come acts.new.items ≡ all_come acts.old.items ++ Comes (timed_at at.tick at.place (act_data act)) ∷ []) }
     ensures memory { IfErr result (λ why. why ≡ ScriptFault.Memory) }
 {
-    match happened.push(Timed::new(at.tick, at.place, act)) {
+    match acts.push(Timed::new(at.tick, at.place, act)) {
         Ok(()) => Ok(()),
         Err(_) => Err(ScriptFault::Memory),
     }

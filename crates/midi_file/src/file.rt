@@ -4,9 +4,9 @@ ghost use Rattle.std.specs.Prelude.{ℕ, ◌≡◌, ◌<◌, ◌≤◌, [], ◌+
 ghost use Rattle.velocity_map.specs.declared.curve.Curve.TheVariants.{Linear};
 ghost use Rattle.velocity_map.specs.Map.{curve_of};
 ghost use Rattle.midi_file.specs.Track.{TimedData};
-ghost use Rattle.midi_file.specs.Chunks.{division_of, file_happens};
+ghost use Rattle.midi_file.specs.Chunks.{division_of, file_outcomes};
 ghost use Rattle.midi_file.specs.File.{IsInTime, in_order, midi_outcomes, timed_plan};
-ghost use Rattle.midi_file.specs.Says.{Faults, all_come};
+ghost use Rattle.midi_file.specs.Values.{Faults, all_come};
 ghost use Rattle.script_outcome.specs.Reading.{Settles};
 
 use crate::bytes::refused_at;
@@ -18,7 +18,8 @@ use script_plan::Script;
 use std::alloc::Global;
 use velocity_map::VelocityMap;
 
-/// Reads a MIDI file of format 0 or 1: its commands with their blocks, or its first fault, or that the next command would be more than there is room for.
+/// Reads a MIDI file of format 0 or 1: its commands with their blocks, or its first fault, or that the next command would be more than
+/// there is room for.
 ///
 /// All of it is read before its commands are looked at.
 pub fn read_midi_file(
@@ -31,51 +32,51 @@ pub fn read_midi_file(
     requires linear { curve_of map.now ≡ Linear }
     ensures { Settles result bounds.room (midi_outcomes bounds.blocks bytes.now) }
 {
-    let mut happened = Vec::new(alloc);
-    let division = match read_happenings(alloc, bytes, map, &mut happened) {
+    let mut acts = Vec::new(alloc);
+    let division = match read_acts(alloc, bytes, map, &mut acts) {
         Ok(division) => division,
         Err(fault) => return Err(fault),
     };
-    match sort_by_tick(&mut happened) {
-        Ok(()) => plan_acts(alloc, happened, division, bounds),
+    match sort_by_tick(&mut acts) {
+        Ok(()) => plan_acts(alloc, acts, division, bounds),
         Err(fault) => Err(fault),
     }
 }
 
 /// Reads all that happens in a file, in the order of its bytes, and answers its division: the ticks of a quarter note.
-#[tactic(auto, unfolding(crate::specs::Chunks::file_happens))]
-fn read_happenings(
+#[tactic(auto, unfolding(crate::specs::Chunks::file_outcomes))]
+fn read_acts(
     alloc: Global,
     bytes: &[u8],
     map: &VelocityMap,
-    happened: &mut Vec<Timed>,
+    acts: &mut Vec<Timed>,
 ) -> Result<u16, ScriptFault>
     requires bytes { length bytes.now ≤ 536870912 }
     requires linear { curve_of map.now ≡ Linear }
-    requires none { happened.old.items ≡ [] }
-    ensures come { OnOk result (all_come happened.new.items ≡ file_happens bytes.now) }
+    requires none { acts.old.items ≡ [] }
+    ensures come { OnOk result (all_come acts.new.items ≡ file_outcomes bytes.now) }
     ensures division { IfOk result (λ division. division ≡ division_of bytes.now) }
     ensures some { IfOk result (λ division. 0 < division) }
-    ensures faults { IfErr result (λ why. Faults why (file_happens bytes.now)) }
+    ensures faults { IfErr result (λ why. Faults why (file_outcomes bytes.now)) }
 {
     let header = match read_header(bytes) {
         Ok(header) => header,
         Err((place, kind)) => return Err(refused_at(place, kind)),
     };
     let size = bytes.len() as u32;
-    match read_tracks(alloc, header.rest, size, header.tracks, map, happened) {
+    match read_tracks(alloc, header.rest, size, header.tracks, map, acts) {
         Ok(()) => Ok(header.division),
         Err(fault) => Err(fault),
     }
 }
 
 /// Puts what happens in the order of ticks. What happens at one tick keeps its order.
-fn sort_by_tick(happened: &mut Vec<Timed>) -> Result<(), ScriptFault>
-    ensures order { OnOk result (happened.new.items ≡ in_order happened.old.items) }
-    ensures time { OnOk result (IsInTime 0 happened.new.items) }
+fn sort_by_tick(acts: &mut Vec<Timed>) -> Result<(), ScriptFault>
+    ensures order { OnOk result (acts.new.items ≡ in_order acts.old.items) }
+    ensures time { OnOk result (IsInTime 0 acts.new.items) }
     ensures memory { IfErr result (λ why. why ≡ ScriptFault.Memory) }
 {
-    match happened.sort_by_key(|timed| timed.tick()) {
+    match acts.sort_by_key(|timed| timed.tick()) {
         Ok(()) => Ok(()),
         Err(_) => Err(ScriptFault::Memory),
     }

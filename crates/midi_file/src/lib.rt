@@ -6,7 +6,6 @@ mod chunk;
 mod event;
 mod feed;
 mod file;
-mod message;
 mod plan;
 mod time;
 mod timed;

@@ -19,17 +19,17 @@ use std::alloc::Global;
 /// Gives the commands among what happens, in the order of ticks, each at its block.
 pub(crate) fn plan_acts(
     alloc: Global,
-    happened: Vec<Timed>,
+    acts: Vec<Timed>,
     division: u16,
     bounds: Bounds,
 ) -> Result<Script, ScriptFault>
     requires division { 0 < division }
-    requires order { IsInTime 0 happened.items }
-    ensures { Settles result bounds.room (timed_plan bounds.blocks division happened.items) }
+    requires order { IsInTime 0 acts.items }
+    ensures { Settles result bounds.room (timed_plan bounds.blocks division acts.items) }
 {
     let mut clock = Clock::new();
     let mut script = Script::new(alloc);
-    for timed in happened {
+    for timed in acts {
         let (tick, place, act) = timed.into_parts();
         clock.advance(tick);
         match act {
@@ -57,7 +57,8 @@ fn give_at(
     requires due { last_due script.old ≤ block }
     requires few { length script.old ≤ bounds.room }
     ensures given { OnOk result (all_given script.new ≡ all_given script.old ++ act_outcomes bounds.blocks place block (Plays (content command))) }
-    ensures stops { IfErr result (λ why. Stops why bounds.room (all_given script.old ++ act_outcomes bounds.blocks place block (Plays (content command)))) }
+    ensures stops { IfErr result (λ why. Stops why bounds.room (all_given script.old
+        ++ act_outcomes bounds.blocks place block (Plays (content command)))) }
     ensures due { OnOk result (last_due script.new ≤ block) }
     ensures few { OnOk result (length script.new ≤ bounds.room) }
 {

@@ -1,6 +1,8 @@
 //! The time of a MIDI file.
 //!
-//! A time is ticks times microseconds for a quarter note. Ticks are below 2^64 and tempos below 2^32, so a time is below 2^96, and 44100 times as much below 2^112: 128 bits hold it exactly. 64 bits would not: the greatest delta time at the greatest tempo comes to 52 bits, and 44100 times as much to 68.
+//! A time is ticks times microseconds for a quarter note. Ticks are below 2^64 and tempos below 2^32, so a time is below 2^96, and 44100
+//! times as much below 2^112: 128 bits hold it exactly. 64 bits would not: the greatest delta time at the greatest tempo comes to 52 bits,
+//! and 44100 times as much to 68.
 
 ghost use Rattle.std.specs.Prelude.{◌≡◌, ◌+◌, ◌-◌, ◌*◌, ◌<◌, ◌≤◌};
 ghost use Rattle.midi_file.specs.Time.{block_of, first_tempo};

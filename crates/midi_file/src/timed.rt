@@ -2,7 +2,7 @@
 
 ghost use Rattle.std.specs.Prelude.{◌≡◌};
 ghost use Rattle.midi_file.specs.Track.{timed_at};
-ghost use Rattle.midi_file.specs.Says.{IsSoundAct, act_data};
+ghost use Rattle.midi_file.specs.Values.{IsSoundAct, act_data};
 
 use command_set::Command;
 use std::marker::Model;
@@ -24,7 +24,7 @@ pub(crate) struct Timed {
 
 impl Model for Timed {
     ghost use Rattle.midi_file.specs.Track.{TimedData, timed_at};
-    ghost use Rattle.midi_file.specs.Says.{IsSoundAct, act_data};
+    ghost use Rattle.midi_file.specs.Values.{IsSoundAct, act_data};
 
     ghost Value = { TimedData };
 

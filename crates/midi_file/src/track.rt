@@ -3,12 +3,12 @@
 ghost use Rattle.std.specs.Prelude.{ℕ, List, ◌≡◌, ◌≤◌, ◌<◌, ◌+◌, ◌++◌, length, IfErr, OnOk};
 ghost use Rattle.velocity_map.specs.declared.curve.Curve.TheVariants.{Linear};
 ghost use Rattle.velocity_map.specs.Map.{curve_of};
-ghost use Rattle.midi_file.specs.Track.{ends_track, track_happens};
-ghost use Rattle.midi_file.specs.Says.{Faults, all_come, deed_data};
+ghost use Rattle.midi_file.specs.Track.{ends_track, track_outcomes};
+ghost use Rattle.midi_file.specs.Values.{Faults, all_come, kind_data};
 
 use crate::bytes::refused_at;
-use crate::event::{Deed, read_event};
-use crate::feed::{Moment, take_deed};
+use crate::event::{EventKind, read_event};
+use crate::feed::{Moment, apply_event};
 use crate::timed::Timed;
 use midi_stream::MidiReader;
 use script_outcome::ScriptFault;
@@ -21,13 +21,13 @@ pub(crate) fn read_track(
     bytes: &[u8],
     end: u32,
     map: &VelocityMap,
-    happened: &mut Vec<Timed>,
+    acts: &mut Vec<Timed>,
 ) -> Result<(), ScriptFault>
     requires within { length bytes.now ≤ end }
     requires short { end ≤ 536870912 }
     requires linear { curve_of map.now ≡ Linear }
-    ensures come { OnOk result (all_come happened.new.items ≡ all_come happened.old.items ++ track_happens end bytes.now) }
-    ensures faults { IfErr result (λ why. Faults why (all_come happened.old.items ++ track_happens end bytes.now)) }
+    ensures come { OnOk result (all_come acts.new.items ≡ all_come acts.old.items ++ track_outcomes end bytes.now) }
+    ensures faults { IfErr result (λ why. Faults why (all_come acts.old.items ++ track_outcomes end bytes.now)) }
 {
     let mut reader = match MidiReader::new(alloc) {
         Ok(reader) => reader,
@@ -42,13 +42,13 @@ pub(crate) fn read_track(
             Ok(event) => event,
             Err(kind) => return Err(refused_at(place, kind)),
         };
-        tick = tick_behind(tick, event.delta);
+        tick = tick_after(tick, event.delta);
         let at = Moment { tick, place };
-        match take_deed(alloc, &mut reader, event.deed, at, map, happened) {
+        match apply_event(alloc, &mut reader, event.kind, at, map, acts) {
             Ok(()) => {}
             Err(fault) => return Err(fault),
         }
-        if ends_track(event.deed) {
+        if ends_track(event.kind) {
             return Ok(());
         }
         running = event.running;
@@ -57,8 +57,8 @@ pub(crate) fn read_track(
     Ok(())
 }
 
-/// The tick of an event, by the tick of the one before and its ticks behind that.
-fn tick_behind(tick: u64, delta: u32) -> u64
+/// The tick of an event, by the tick of the one before and its ticks after that.
+fn tick_after(tick: u64, delta: u32) -> u64
     requires { tick < 9223372036854775808 }
     ensures tick { result ≡ tick + delta }
     ensures near { result < tick + 4294967296 }
@@ -67,12 +67,15 @@ fn tick_behind(tick: u64, delta: u32) -> u64
 }
 
 /// Whether an event ends its track.
-fn ends_track(deed: Deed<'_>) -> bool
-    ensures { result ≡ ends_track (deed_data deed.entry) }
+fn ends_track(kind: EventKind<'_>) -> bool
+    ensures { result ≡ ends_track (kind_data kind.entry) }
 {
-    match deed {
-        Deed::End => true,
-        Deed::Message(_) | Deed::Exclusive(_) | Deed::Continued(_) | Deed::Tempo(_) | Deed::Other =>
-            false,
+    match kind {
+        EventKind::End => true,
+        EventKind::Message(_)
+        | EventKind::Exclusive(_)
+        | EventKind::Continued(_)
+        | EventKind::Tempo(_)
+        | EventKind::Other => false,
     }
 }

@@ -7,7 +7,7 @@ use Rattle.command_set.specs.Command.{IsInRange}
 use Rattle.command_set.specs.Entries.{EntryData, LoggedData, entries_of, sent_by}
 use Rattle.instrument.specs.Logging.{AreTakenUpTo}
 use Rattle.lateness.specs.Late.{AreDue}
-use Rattle.script_plan.specs.Plan.{PlannedData, dues}
+use Rattle.script_plan.specs.Plan.{PlannedData, due_blocks}
 use Rattle.players.specs.Players.{entries}
 use Rattle.take_files.specs.Orders.{IsWritable, HasBlock, Follows, count_of, last_block}
 use Rattle.turns.specs.Turns.{blocks_of, plan_of}
@@ -55,14 +55,14 @@ stands (l ∷ ls) (suc i) d e below =
 
 -- the entries of a plan by their numbers
 entries_at : (script seq : ℕ) (plan : List PlannedData) (j : ℕ) (e : EntryData) → j < length plan
-    → ((get_or (entries script seq plan) j e).seq ≡ seq + j) × ((get_or (entries script seq plan) j e).sent_at ≡ slice_index (dues plan) j)
+    → ((get_or (entries script seq plan) j e).seq ≡ seq + j) × ((get_or (entries script seq plan) j e).sent_at ≡ slice_index (due_blocks plan) j)
 entries_at script seq [] j e below = absurd (omega arith)
 entries_at script seq (c ∷ plan) zero e below = ((let same : seq ≡ seq + 0 = omega arith in same), refl)
 entries_at script seq (c ∷ plan) (suc j) e below =
     let rest = entries_at script (seq + 1) plan j e (omega arith) in
     (rest.0 ∙ (let same : seq + 1 + j ≡ seq + suc j = omega arith in same), rest.1)
 
-prefix_due : (sent left : List PlannedData) (j : ℕ) → j < length sent → slice_index (dues (sent ++ left)) j ≡ slice_index (dues sent) j
+prefix_due : (sent left : List PlannedData) (j : ℕ) → j < length sent → slice_index (due_blocks (sent ++ left)) j ≡ slice_index (due_blocks sent) j
 prefix_due [] left j below = absurd (omega arith)
 prefix_due (c ∷ sent) left zero below = refl
 prefix_due (c ∷ sent) left (suc j) below = prefix_due sent left j (omega arith)
@@ -118,10 +118,10 @@ all_follow journal plans blocks played taken ranges some few scripts many i d be
     let entry : get_or (entries k 0 sent) j l.entry ≡ l.entry = ap (λ (xs : List EntryData). get_or xs j l.entry) (sym begun.entries_are) ∙ at.entry in
     let numbers = entries_at k 0 sent j l.entry within in
     let seq : l.entry.seq ≡ j = ap (λ (x : EntryData). x.seq) (sym entry) ∙ numbers.0 ∙ (let same : 0 + j ≡ j = omega arith in same) in
-    let sent_at : l.entry.sent_at ≡ slice_index (dues (plan_of plans k)) j =
-    ap (λ (x : EntryData). x.sent_at) (sym entry) ∙ numbers.1 ∙ sym (prefix_due sent begun.left j within) ∙ ap (λ (p : List PlannedData). slice_index (dues p) j) (sym begun.split) in
+    let sent_at : l.entry.sent_at ≡ slice_index (due_blocks (plan_of plans k)) j =
+    ap (λ (x : EntryData). x.sent_at) (sym entry) ∙ numbers.1 ∙ sym (prefix_due sent begun.left j within) ∙ ap (λ (p : List PlannedData). slice_index (due_blocks p) j) (sym begun.split) in
     let in_blocks : j < length (blocks_of k journal) = omega (arith, at.within, length_blocks k journal) in
-    let due : l.entry.sent_at ≤ l.block = rw (sent_at, ← at.block) (due_at (dues (plan_of plans k)) (blocks_of k journal) j in_blocks begun.due) in
+    let due : l.entry.sent_at ≤ l.block = rw (sent_at, ← at.block) (due_at (due_blocks (plan_of plans k)) (blocks_of k journal) j in_blocks begun.due) in
     let past : l.block ≤ blocks - 1 = all_at (λ x. x.block ≤ blocks - 1) journal i d below taken.past in
     let before : j ≤ length (take i journal) = few_of k (take i journal) in
     let shorter : length (take i journal) ≤ i = length_taken i journal in

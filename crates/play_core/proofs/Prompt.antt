@@ -5,7 +5,7 @@ use Rattle.std.proofs.lemmas.List.{append-nil, length-map}
 use Rattle.std.proofs.lemmas.List.Elements.{All-head, All-tail}
 use Rattle.command_set.specs.Entries.{EntryData, LoggedData, entries_of, sent_by}
 use Rattle.lateness.specs.Late.{AreDue, IsOff}
-use Rattle.script_plan.specs.Plan.{PlannedData, dues}
+use Rattle.script_plan.specs.Plan.{PlannedData, due_blocks}
 use Rattle.players.specs.Players.{entries}
 use Rattle.turns.specs.Turns.{blocks_of, others_than, plan_of}
 use Rattle.turns.specs.Timed.{ArePlayed, IsTimed}
@@ -35,7 +35,7 @@ on_due (d ∷ ds) (b ∷ blocks) due none =
 
 pub all_prompt : (plans : List (List PlannedData)) (journal : List LoggedData) (places : ℕ) → IsTimed journal plans places → count_all plans ≤ places → ArePrompt journal plans
 all_prompt plans journal places timed room k below =
-    on_due (dues (plan_of plans k)) (blocks_of k journal) (timed.played.each k below).due
+    on_due (due_blocks (plan_of plans k)) (blocks_of k journal) (timed.played.each k below).due
     (λ i lt off.
     let within : i < length (plan_of plans k) = omega (arith, lt, length-map (plan_of plans k) (λ (c : PlannedData). c.due)) in
     let bound = timed.full k i below within off in
@@ -71,17 +71,17 @@ tail_same x y xs ys e = ap rest_of e
     rest_of [] = []
     rest_of (z ∷ zs) = zs
 
-known : (seq : ℕ) (plan : List PlannedData) (journal : List LoggedData) → entries_of journal ≡ entries 0 seq plan → map (λ (l : LoggedData). l.block) journal ≡ dues plan
+known : (seq : ℕ) (plan : List PlannedData) (journal : List LoggedData) → entries_of journal ≡ entries 0 seq plan → map (λ (l : LoggedData). l.block) journal ≡ due_blocks plan
     → journal ≡ journal_alone seq plan
 known seq [] [] es bs = refl
 known seq [] (l ∷ ls) es bs = absurd (let e = ap length es in omega (arith, e))
 known seq (c ∷ plan) [] es bs = absurd (let e = ap length es in omega (arith, e))
 known seq (c ∷ plan) (l ∷ ls) es bs =
     let entry = head_same l.entry (record { script = 0; seq = seq; sent_at = c.due; command = c.command }) (entries_of ls) (entries 0 (seq + 1) plan) es in
-    let block = head_same l.block c.due (map (λ (x : LoggedData). x.block) ls) (dues plan) bs in
+    let block = head_same l.block c.due (map (λ (x : LoggedData). x.block) ls) (due_blocks plan) bs in
     let rest = known (seq + 1) plan ls
     (tail_same l.entry (record { script = 0; seq = seq; sent_at = c.due; command = c.command }) (entries_of ls) (entries 0 (seq + 1) plan) es)
-    (tail_same l.block c.due (map (λ (x : LoggedData). x.block) ls) (dues plan) bs) in
+    (tail_same l.block c.due (map (λ (x : LoggedData). x.block) ls) (due_blocks plan) bs) in
     ap (λ (e : EntryData). record { block = l.block; entry = e } ∷ ls) entry
     ∙ ap (λ (b : ℕ). record { block = b; entry = record { script = 0; seq = seq; sent_at = c.due; command = c.command } } ∷ ls) block
     ∙ ap (λ (x : List LoggedData). record { block = c.due; entry = record { script = 0; seq = seq; sent_at = c.due; command = c.command } } ∷ x) rest
@@ -92,7 +92,7 @@ one_alone plans journal places timed room one =
     let below : 0 < length plans = omega (arith, one) in
     let b = timed.played.each 0 below in
     let all : All (λ l. l.entry.script < 1) journal = subst (λ (n : ℕ). All (λ l. l.entry.script < n) journal) one timed.played.scripts in
-    let blocks : blocks_of 0 journal ≡ dues (plan_of plans 0) = all_prompt plans journal places timed room 0 below in
+    let blocks : blocks_of 0 journal ≡ due_blocks (plan_of plans 0) = all_prompt plans journal places timed room 0 below in
     let none : length b.left ≡ 0 = omega (
       arith,
       ap length blocks,

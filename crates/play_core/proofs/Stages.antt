@@ -8,7 +8,7 @@ use Rattle.std.proofs.lemmas.Grind.{take_at_read}
 use Rattle.std.proofs.lemmas.List.{map-append, take_all}
 use Rattle.std.proofs.lemmas.List.Sums.{sum-map, get_or-le-sum_by}
 use Rattle.lateness.specs.Late.{AllBelow}
-use Rattle.script_plan.specs.Plan.{PlannedData, dues, last_due, last_due_or, IsPlan, IsPlanFrom}
+use Rattle.script_plan.specs.Plan.{PlannedData, due_blocks, last_due, last_due_or, IsPlan, IsPlanFrom}
 use Rattle.players.specs.Players.{PlayerView}
 use Rattle.turns.specs.Turns.{plans_of}
 use Rattle.play_core.specs.Verdict.{greatest_due, count_all}
@@ -51,9 +51,9 @@ below_later few many (b ∷ blocks) le all = ((let lt = all.0 in omega arith), b
 
 pub in_time_later : (few many : ℕ) (plans : List (List PlannedData)) → few ≤ many → AreInTime few plans → AreInTime many plans
 in_time_later few many [] le all = tt
-in_time_later few many (p ∷ plans) le all = (below_later few many (dues p) le all.0, in_time_later few many plans le all.1)
+in_time_later few many (p ∷ plans) le all = (below_later few many (due_blocks p) le all.0, in_time_later few many plans le all.1)
 
-in_time_pushed : (blocks : ℕ) (plans : List (List PlannedData)) (one : List PlannedData) → AreInTime blocks plans → AllBelow blocks (dues one) → AreInTime blocks (plans ++ one ∷ [])
+in_time_pushed : (blocks : ℕ) (plans : List (List PlannedData)) (one : List PlannedData) → AreInTime blocks plans → AllBelow blocks (due_blocks one) → AreInTime blocks (plans ++ one ∷ [])
 in_time_pushed blocks [] one all last = (last, tt)
 in_time_pushed blocks (p ∷ plans) one all last = (all.0, in_time_pushed blocks plans one all.1 last)
 
@@ -61,7 +61,7 @@ last_from : (least : ℕ) (plan : List PlannedData) → IsPlanFrom least plan �
 last_from least [] is = omega arith
 last_from least (c ∷ plan) is = let rest = last_from c.due plan is.3 in let first = is.0 in omega arith
 
-plan_below : (least : ℕ) (plan : List PlannedData) → IsPlanFrom least plan → AllBelow (last_due_or least plan + 1) (dues plan)
+plan_below : (least : ℕ) (plan : List PlannedData) → IsPlanFrom least plan → AllBelow (last_due_or least plan + 1) (due_blocks plan)
 plan_below least [] is = tt
 plan_below least (c ∷ plan) is = ((let rest = last_from c.due plan is.3 in omega arith), plan_below c.due plan is.3)
 
@@ -71,9 +71,9 @@ in_time_more scripts i due later script below is so_far next plan =
     rw (one_more_script scripts i script below is)
     (in_time_pushed (later + 1) (take i scripts) script
     (in_time_later (due + 1) (later + 1) (take i scripts) (grind (arith, next)) so_far)
-    (below_later (last_due script + 1) (later + 1) (dues script) (grind (arith, next)) (plan_below 0 script plan)))
+    (below_later (last_due script + 1) (later + 1) (due_blocks script) (grind (arith, next)) (plan_below 0 script plan)))
 
-all_below : (blocks : ℕ) (plan : List PlannedData) → AreBelow blocks plan → AllBelow blocks (dues plan)
+all_below : (blocks : ℕ) (plan : List PlannedData) → AreBelow blocks plan → AllBelow blocks (due_blocks plan)
 all_below blocks [] all = tt
 all_below blocks (c ∷ plan) all = (All-head (λ (x : PlannedData). x.due < blocks) c plan all, all_below blocks plan (All-tail (λ (x : PlannedData). x.due < blocks) c plan all))
 
@@ -92,7 +92,7 @@ plans_many (p ∷ players) = ap suc (plans_many players)
 pub players_many : (players : List PlayerView) (plans : List (List PlannedData)) → plans_of players ≡ plans → length players ≡ length plans
 players_many players plans is = sym (plans_many players) ∙ ap length is
 
-pub due_at : (blocks : ℕ) (plans : List (List PlannedData)) (k : ℕ) → k < length plans → AreInTime blocks plans → AllBelow blocks (dues (slice_index_or plans k []))
+pub due_at : (blocks : ℕ) (plans : List (List PlannedData)) (k : ℕ) → k < length plans → AreInTime blocks plans → AllBelow blocks (due_blocks (slice_index_or plans k []))
 due_at blocks [] k below all = absurd (omega arith)
 due_at blocks (p ∷ plans) zero below all = all.0
 due_at blocks (p ∷ plans) (suc k) below all = due_at blocks plans k (omega arith) all.1
@@ -103,6 +103,6 @@ left_at (p ∷ players) zero d below = refl
 left_at (p ∷ players) (suc k) d below = left_at players k d (omega arith)
 
 pub all_due : (blocks : ℕ) (players : List PlayerView) → AreInTime blocks (plans_of players)
-    → (k : ℕ) (d : PlayerView) → k < length players → AllBelow blocks (dues (slice_index_or players k d).left)
+    → (k : ℕ) (d : PlayerView) → k < length players → AllBelow blocks (due_blocks (slice_index_or players k d).left)
 all_due blocks players all k d below =
     rw (left_at players k d below) (due_at blocks (plans_of players) k (omega (arith, plans_many players, below)) all)

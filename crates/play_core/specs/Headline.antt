@@ -4,7 +4,7 @@ use Rattle.outside.specs.Files.{Files, file_of}
 use Rattle.fault_lines.specs.Lines.{limit_file, limit_commands}
 use Rattle.fault_lines.specs.Statuses.{IsOneOf}
 use Rattle.command_set.specs.Entries.{LoggedData, entries_of, sent_by}
-use Rattle.script_plan.specs.Plan.{PlannedData, dues}
+use Rattle.script_plan.specs.Plan.{PlannedData, due_blocks}
 use Rattle.take_files.specs.Orders.{OrderData, IsOrder}
 use Rattle.players.specs.Players.{entries}
 use Rattle.turns.specs.Turns.{blocks_of, plan_of}
@@ -46,7 +46,7 @@ LacksSome journal plans = (k : ℕ) × (k < length plans) × (length (sent_by k 
 
 -- each command of each script is logged at its due block
 abbrev pub ArePrompt : List LoggedData → List (List PlannedData) → Type 0
-ArePrompt journal plans = (k : ℕ) → k < length plans → blocks_of k journal ≡ dues (plan_of plans k)
+ArePrompt journal plans = (k : ℕ) → k < length plans → blocks_of k journal ≡ due_blocks (plan_of plans k)
 
 -- the journal of one script, numbered from seq on, each command at its due block
 abbrev pub journal_alone : ℕ → List PlannedData → List LoggedData

@@ -1,7 +1,7 @@
 -- What is made before a file is touched.
 use Rattle.std.specs.Prelude.{◌≡◌, ℕ, ◌≤◌, List, [], ◌∷◌, Option, vec_len, vec_capacity}
 use Rattle.lateness.specs.Late.{AllBelow}
-use Rattle.script_plan.specs.Plan.{PlannedData, dues}
+use Rattle.script_plan.specs.Plan.{PlannedData, due_blocks}
 use Rattle.turns.specs.Turns.{AreFresh, IsFreshRenderer, plans_of}
 use Rattle.play_core.specs.declared.stage.Stage.{Stage}
 use Rattle.play_core.specs.Limits.{block_limit}
@@ -10,7 +10,7 @@ use Rattle.play_core.specs.Verdict.{blocks_of_run, places_of_run, count_all}
 -- each command of each script is due below the number of blocks
 abbrev pub AreInTime : ℕ → List (List PlannedData) → Type 0
 AreInTime blocks [] = Unit {0}
-AreInTime blocks (plan ∷ plans) = AllBelow blocks (dues plan) × AreInTime blocks plans
+AreInTime blocks (plan ∷ plans) = AllBelow blocks (due_blocks plan) × AreInTime blocks plans
 
 -- everything stands ready for these plans, with the numbers of blocks and places that were asked for
 pub record IsStage (blocks places : Option ℕ) (plans : List (List PlannedData)) (s : Stage) : Type 0 where

@@ -5,16 +5,16 @@ use Rattle.std.proofs.lemmas.Bool.{leb-true, leb-false}
 use Rattle.command_set.specs.Entries.{EntryData}
 use Rattle.command_queue.specs.Ends.{LineView, SendView, accepted, quota_of}
 use Rattle.lateness.specs.Late.{AllFrom, FirstBelow}
-use Rattle.script_plan.specs.Plan.{PlannedData, IsPlanFrom, IsPlan, first_due, dues}
+use Rattle.script_plan.specs.Plan.{PlannedData, IsPlanFrom, IsPlan, first_due, due_blocks}
 use Rattle.players.specs.Players.{PlayerView, IsReady}
 
-from_first : (least t : ℕ) (cs : List PlannedData) → t ≤ least → IsPlanFrom least cs → AllFrom t (dues cs)
+from_first : (least t : ℕ) (cs : List PlannedData) → t ≤ least → IsPlanFrom least cs → AllFrom t (due_blocks cs)
 from_first least t [] le plan = tt
 from_first least t (c ∷ cs) le plan = (omega (arith, plan.0, le), from_first c.due t cs (omega (arith, plan.0, le)) plan.3)
 
 -- whether the first command is due tells which are
 pub due_first : (plan : List PlannedData) (due t : ℕ) → IsPlan plan → Some due ≡ first_due plan
-    → (b : Bool) → leb due t ≡ b → MatchBool b (FirstBelow (t + 1) (dues plan)) (AllFrom (t + 1) (dues plan))
+    → (b : Bool) → leb due t ≡ b → MatchBool b (FirstBelow (t + 1) (due_blocks plan)) (AllFrom (t + 1) (due_blocks plan))
 due_first [] due t plan is b test = absurd (some_none is) where
   some_none : Some due ≡ None → ⊥
   some_none e = cc
@@ -31,7 +31,7 @@ due_first (c ∷ cs) due t plan is false test =
       same : Some due ≡ Some c.due → due ≡ c.due
       same e = cc
 
-pub none_first : (plan : List PlannedData) (t : ℕ) → None ≡ first_due plan → AllFrom (t + 1) (dues plan)
+pub none_first : (plan : List PlannedData) (t : ℕ) → None ≡ first_due plan → AllFrom (t + 1) (due_blocks plan)
 none_first [] t is = tt
 none_first (c ∷ cs) t is = absurd (none_some is) where
   none_some : None ≡ Some c.due → ⊥
@@ -51,5 +51,5 @@ ready_sent line p q c x h left end =
       one_more n = omega arith
 
 -- the first command that is left is due
-pub first_is_due : (t : ℕ) (c : PlannedData) (left rest : List PlannedData) → left ≡ c ∷ rest → FirstBelow (t + 1) (dues left) → c.due ≤ t
-first_is_due t c left rest is first = let e : c.due < t + 1 = subst (λ (cs : List PlannedData). FirstBelow (t + 1) (dues cs)) is first in omega (arith, e)
+pub first_is_due : (t : ℕ) (c : PlannedData) (left rest : List PlannedData) → left ≡ c ∷ rest → FirstBelow (t + 1) (due_blocks left) → c.due ≤ t
+first_is_due t c left rest is first = let e : c.due < t + 1 = subst (λ (cs : List PlannedData). FirstBelow (t + 1) (due_blocks cs)) is first in omega (arith, e)

@@ -3,7 +3,7 @@ use Rattle.std.proofs.Common.{◌≡◌, ℕ, ◌+◌, ◌≤◌, List, [], ◌�
 use Rattle.command_set.specs.Entries.{EntryData}
 use Rattle.command_queue.specs.Ends.{SendView, entry_of, accepted}
 use Rattle.lateness.specs.Late.{AllBelow}
-use Rattle.script_plan.specs.Plan.{PlannedData, dues}
+use Rattle.script_plan.specs.Plan.{PlannedData, due_blocks}
 use Rattle.players.specs.Players.{PlayerView, Advanced, entries}
 
 entries_push : (script seq : ℕ) (cs : List PlannedData) (c : PlannedData) → entries script seq (cs ++ c ∷ []) ≡ entries script seq cs ++ record { script = script; seq = seq + length cs; sent_at = c.due; command = c.command } ∷ []
@@ -17,7 +17,7 @@ pub length-entries : (script seq : ℕ) (cs : List PlannedData) → length (entr
 length-entries script seq [] = refl
 length-entries script seq (c ∷ cs) = omega (arith, length-entries script (seq + 1) cs)
 
-pub due_push : (t : ℕ) (cs : List PlannedData) (c : PlannedData) → AllBelow (t + 1) (dues cs) → c.due ≤ t → AllBelow (t + 1) (dues (cs ++ c ∷ []))
+pub due_push : (t : ℕ) (cs : List PlannedData) (c : PlannedData) → AllBelow (t + 1) (due_blocks cs) → c.due ≤ t → AllBelow (t + 1) (due_blocks (cs ++ c ∷ []))
 due_push t [] c all due = (omega (arith, due), tt)
 due_push t (d ∷ ds) c all due = (all.0, due_push t ds c all.1 due)
 

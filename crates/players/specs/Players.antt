@@ -4,7 +4,7 @@ use Rattle.command_set.specs.Entries.{EntryData}
 use Rattle.command_queue.specs.Ends.{LineView, SendView, quota_of, others_of, accepted, refused, entry_of, one_up}
 use Rattle.lateness.specs.Late.{AllBelow, AllFrom, FirstBelow}
 use Rattle.script_plan.specs.declared.script.Planned.{Planned}
-use Rattle.script_plan.specs.Plan.{PlannedData, planned_data, IsPlan, dues}
+use Rattle.script_plan.specs.Plan.{PlannedData, planned_data, IsPlan, due_blocks}
 use Rattle.players.specs.declared.player.Step.{Step}
 use Rattle.players.specs.declared.player.Step.TheVariants as step
 
@@ -36,8 +36,8 @@ abbrev pub Stepped : Step → ℕ → PlayerView → PlayerView → Type 0
 Stepped step.Sent t p q =
     (c : PlannedData) × (p.left ≡ c ∷ q.left) × (c.due ≤ t) × (q.end ≡ accepted p.end (entry_of p.end c.due c.command)) × (q.logged ≡ p.logged)
 Stepped step.Refused t p q =
-    (q ≡ record p { end = refused p.end }) × FirstBelow (t + 1) (dues p.left) × (p.end.line.places ≤ length p.end.list + others_of p.end)
-Stepped step.NotDue t p q = (q ≡ p) × AllFrom (t + 1) (dues p.left)
+    (q ≡ record p { end = refused p.end }) × FirstBelow (t + 1) (due_blocks p.left) × (p.end.line.places ≤ length p.end.list + others_of p.end)
+Stepped step.NotDue t p q = (q ≡ p) × AllFrom (t + 1) (due_blocks p.left)
 
 -- the entries of commands of a script, from the number seq on
 abbrev pub entries : ℕ → ℕ → List PlannedData → List EntryData
@@ -48,7 +48,7 @@ entries script seq (c ∷ cs) = record { script = script; seq = seq; sent_at = c
 pub record Advanced (t : ℕ) (p q : PlayerView) : Type 0 where
   pub sent : List PlannedData
   pub split : p.left ≡ sent ++ q.left
-  pub due : AllBelow (t + 1) (dues sent)
+  pub due : AllBelow (t + 1) (due_blocks sent)
   pub list : q.end.list ≡ p.end.list ++ entries p.end.number (length p.end.list) sent
   pub line : q.end.line ≡ p.end.line
   pub number : q.end.number ≡ p.end.number
@@ -56,11 +56,11 @@ pub record Advanced (t : ℕ) (p q : PlayerView) : Type 0 where
 
 -- Either no command that is left is due, and no refusal came; or the first one is due, and one refusal came, of a line that was full.
 abbrev pub Stayed : ℕ → PlayerView → PlayerView → Type 0
-Stayed t p q = AllFrom (t + 1) (dues q.left) × (q.end.refusals ≡ p.end.refusals)
+Stayed t p q = AllFrom (t + 1) (due_blocks q.left) × (q.end.refusals ≡ p.end.refusals)
 
 abbrev pub WasStopped : ℕ → PlayerView → PlayerView → Type 0
 WasStopped t p q =
-    FirstBelow (t + 1) (dues q.left) × (q.end.line.places ≤ length q.end.list + others_of q.end) × (q.end.refusals ≡ one_up p.end.refusals)
+    FirstBelow (t + 1) (due_blocks q.left) × (q.end.line.places ≤ length q.end.list + others_of q.end) × (q.end.refusals ≡ one_up p.end.refusals)
 
 -- what a turn did
 abbrev pub Turned : ℕ → PlayerView → PlayerView → Type 0
@@ -72,4 +72,4 @@ AllTurned t ps qs = (k : ℕ) (d : PlayerView) → k < length ps → Turned t (s
 
 -- no command that is left of any player is due at a turn
 abbrev pub NoneIsDue : ℕ → List PlayerView → Type 0
-NoneIsDue t players = All (λ p. AllFrom (t + 1) (dues p.left)) players
+NoneIsDue t players = All (λ p. AllFrom (t + 1) (due_blocks p.left)) players

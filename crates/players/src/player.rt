@@ -1,7 +1,7 @@
 //! A script that an end sends, turn by turn.
 ghost use Rattle.std.specs.Prelude.{◌≡◌, ◌+◌, ◌<◌, ◌≤◌, MatchBool, IsTrue, length, ◌↔◌};
 ghost use Rattle.lateness.specs.Late.{AllFrom, FirstBelow};
-ghost use Rattle.script_plan.specs.Plan.{dues};
+ghost use Rattle.script_plan.specs.Plan.{due_blocks};
 ghost use Rattle.players.specs.Players.{PlayerView, IsReady, Stepped, Turned};
 
 use crate::due::{next_due, take_first};
@@ -88,7 +88,7 @@ impl Player {
 
     /// Whether a command that is left is due at a turn: then the first one is, and otherwise all are due later.
     pub fn is_due(&self, turn: u32) -> bool
-        ensures { MatchBool result (FirstBelow (turn + 1) (dues self.now.left)) (AllFrom (turn + 1) (dues self.now.left)) }
+        ensures { MatchBool result (FirstBelow (turn + 1) (due_blocks self.now.left)) (AllFrom (turn + 1) (due_blocks self.now.left)) }
     {
         match next_due(&self.refused, &self.script) {
             Some(due) => due <= turn,

@@ -1,9 +1,7 @@
 -- One more byte of a stream, and what comes of it.
 use Rattle.std.proofs.Common.{◌≡◌, ℕ, ◌+◌, ◌≤◌, List, [], ◌∷◌, ◌++◌, length, map, Option, Some, None, refl, ap, sym, ◌∙◌, arith, append_assoc, append-nil, length-append}
 use Rattle.std.proofs.lemmas.List.{map-append}
-use Rattle.std.specs.Prelude.{unwrap_or, slice_get, IfSome}
-use Rattle.std.proofs.lemmas.Option.{slice_get_past, slice_get-get_or}
-use Rattle.std.proofs.Math.Seq.{get_or-append_seam}
+use Rattle.std.specs.Prelude.{option_map, unwrap_or, IfSome}
 use Rattle.midi_stream.specs.declared.message.MidiMessage.{MidiMessage}
 use Rattle.midi_stream.specs.declared.message.MidiMessage.TheVariants.{NoteOff, NoteOn, KeyPressure, Control, Program, ChannelPressure, Bend, SysEx, SysExTooLong}
 use Rattle.midi_stream.specs.declared.reader.MidiReader.{MidiReader}
@@ -19,22 +17,26 @@ use Rattle.port.specs.declared.kept.Kept.{Kept}
 use Rattle.port.specs.declared.kept.Kept.TheVariants as kept
 use Rattle.port.specs.declared.fed.Fed.{Fed}
 use Rattle.port.specs.declared.fed.PortStop.TheVariants.{All}
-use Rattle.port.specs.Outcomes.{Received, exclusive_of, one_received, received_with, received_after, received_in, told_by_received, outcomes}
+use Rattle.midi_stream.specs.Ended.{EndedMessage, ended_message, with_bytes}
+use Rattle.midi_stream.proofs.Ended.{ended_is}
+use Rattle.port.specs.Outcomes.{exclusive_of, listed, ended_after, ended_messages, told_by, outcomes}
 use Rattle.port.specs.Feeding.{Handles}
 use Rattle.port.specs.Keeping.{HasUsed, IsLast, KeepsLast, told_kept}
 use Rattle.port.specs.Settling.{Settles, KeepsThis, KeepsNoMessage}
 
-answered : (r : Option MidiMessage) (before now : List MidiMessage) → Answers r before now → slice_get now (length before) ≡ r
-answered None before now e = slice_get_past now (length before) (let same : length now ≡ length before = ap length e in omega arith)
-answered (Some m) before now e =
-    rw e (slice_get-get_or (before ++ m ∷ []) (length before) m (let more : length (before ++ m ∷ []) ≡ length before + 1 = length-append before (m ∷ []) in omega arith)
-    ∙ ap (λ (x : MidiMessage). Some x) (get_or-append_seam before m [] m))
+-- the message of an answer, with these bytes
+abbrev one_ended : List ℕ → Option MidiMessage → List EndedMessage
+one_ended bytes None = []
+one_ended bytes (Some message) = record { message = message; bytes = bytes } ∷ []
+
+one_listed : (r : Option MidiMessage) (kept : Option (List ℕ)) → listed (option_map (with_bytes kept) r) ≡ one_ended (unwrap_or kept []) r
+one_listed None kept = refl
+one_listed (Some m) kept = refl
 
 -- what one more byte gains is the reader's answer
-received_answer : (r : Option MidiMessage) (before : List ℕ) (byte : ℕ) → Answers r (messages before) (messages (before ++ byte ∷ []))
-    → received_with before byte ≡ one_received (exclusive_of (before ++ byte ∷ [])) r
-unfolding received_with
-received_answer r before byte a = ap (one_received (exclusive_of (before ++ byte ∷ []))) (answered r (messages before) (messages (before ++ byte ∷ [])) a)
+ended_answer : (r : Option MidiMessage) (before : List ℕ) (byte : ℕ) → Answers r (messages before) (messages (before ++ byte ∷ []))
+    → listed (ended_message before byte) ≡ one_ended (exclusive_of (before ++ byte ∷ [])) r
+ended_answer r before byte a = ap listed (ended_is r before byte a) ∙ one_listed r (last_sysex (before ++ byte ∷ []))
 
 -- the same comes of the bytes that a reader keeps as of those of the stream
 pub told_same : (m : MidiMessage) (text : Option (List ℕ)) (sysex : List ℕ) (curve : Curve) → InRange m → HasBytes m text
@@ -51,45 +53,45 @@ told_same (SysEx count) None sysex curve range has same = absurd has
 told_same (SysEx count) (Some bytes) sysex curve range has same = ap (λ (b : List ℕ). command_of (SysEx count) b curve) (same (omega arith))
 told_same (SysExTooLong count) text sysex curve range has same = refl
 
-received_after_more : (before xs : List ℕ) (byte : ℕ) → received_after before (xs ++ byte ∷ []) ≡ received_after before xs ++ received_with (before ++ xs) byte
-unfolding received_after
-received_after_more before [] byte = rw (append-nil before) (append-nil (received_with before byte))
-received_after_more before (x ∷ xs) byte =
-    let first : List Received = received_with before x in
-    let later = received_after_more (before ++ x ∷ []) xs byte in
+ended_after_more : (before xs : List ℕ) (byte : ℕ) → ended_after before (xs ++ byte ∷ []) ≡ ended_after before xs ++ listed (ended_message (before ++ xs) byte)
+unfolding ended_after
+ended_after_more before [] byte = rw (append-nil before) (append-nil (listed (ended_message before byte)))
+ended_after_more before (x ∷ xs) byte =
+    let first : List EndedMessage = listed (ended_message before x) in
+    let later = ended_after_more (before ++ x ∷ []) xs byte in
     let join : (before ++ x ∷ []) ++ xs ≡ before ++ x ∷ xs = append_assoc before (x ∷ []) xs in
-    ap (λ (hs : List Received). first ++ hs) (later ∙ ap (λ (s : List ℕ). received_after (before ++ x ∷ []) xs ++ received_with s byte) join)
+    ap (λ (hs : List EndedMessage). first ++ hs) (later ∙ ap (λ (s : List ℕ). ended_after (before ++ x ∷ []) xs ++ listed (ended_message s byte)) join)
     ∙ sym (append_assoc first _ _)
 
 -- the messages of a stream with one more byte
 received_more : (r : Option MidiMessage) (xs : List ℕ) (byte : ℕ) → Answers r (messages xs) (messages (xs ++ byte ∷ []))
-    → received_in (xs ++ byte ∷ []) ≡ received_in xs ++ one_received (exclusive_of (xs ++ byte ∷ [])) r
-received_more r xs byte a = received_after_more [] xs byte ∙ ap (λ (hs : List Received). received_in xs ++ hs) (received_answer r xs byte a)
+    → ended_messages (xs ++ byte ∷ []) ≡ ended_messages xs ++ one_ended (exclusive_of (xs ++ byte ∷ [])) r
+received_more r xs byte a = ended_after_more [] xs byte ∙ ap (λ (hs : List EndedMessage). ended_messages xs ++ hs) (ended_answer r xs byte a)
 
 -- what comes of a stream with one more byte
 outcomes_more : (curve : Curve) (r : Option MidiMessage) (xs : List ℕ) (byte : ℕ) → Answers r (messages xs) (messages (xs ++ byte ∷ []))
-    → outcomes curve (xs ++ byte ∷ []) ≡ outcomes curve xs ++ map (told_by_received curve) (one_received (exclusive_of (xs ++ byte ∷ [])) r)
-outcomes_more curve r xs byte a = ap (map (told_by_received curve)) (received_more r xs byte a) ∙ map-append (told_by_received curve) (received_in xs) _
+    → outcomes curve (xs ++ byte ∷ []) ≡ outcomes curve xs ++ map (told_by curve) (one_ended (exclusive_of (xs ++ byte ∷ [])) r)
+outcomes_more curve r xs byte a = ap (map (told_by curve)) (received_more r xs byte a) ∙ map-append (told_by curve) (ended_messages xs) _
 
 same_messages : (r : Option MidiMessage) (bytes : List ℕ) (before now : List MidiMessage) → Answers r before now
-    → before ++ map (λ h. h.message) (one_received bytes r) ≡ now
+    → before ++ map (λ h. h.message) (one_ended bytes r) ≡ now
 same_messages None bytes before now a = append-nil before ∙ sym a
 same_messages (Some m) bytes before now a = sym a
 
 -- the messages with their bytes are still the messages of the stream
-received_still : (r : Option MidiMessage) (xs : List ℕ) (byte : ℕ) → Answers r (messages xs) (messages (xs ++ byte ∷ [])) → map (λ h. h.message) (received_in xs) ≡ messages xs
-    → map (λ h. h.message) (received_in (xs ++ byte ∷ [])) ≡ messages (xs ++ byte ∷ [])
+received_still : (r : Option MidiMessage) (xs : List ℕ) (byte : ℕ) → Answers r (messages xs) (messages (xs ++ byte ∷ [])) → map (λ h. h.message) (ended_messages xs) ≡ messages xs
+    → map (λ h. h.message) (ended_messages (xs ++ byte ∷ [])) ≡ messages (xs ++ byte ∷ [])
 received_still r xs byte a e =
-    ap (map (λ (h : Received). h.message)) (received_more r xs byte a) ∙ map-append (λ (h : Received). h.message) (received_in xs) _
-    ∙ ap (λ (ms : List MidiMessage). ms ++ map (λ (h : Received). h.message) (one_received (exclusive_of (xs ++ byte ∷ [])) r)) e
+    ap (map (λ (h : EndedMessage). h.message)) (received_more r xs byte a) ∙ map-append (λ (h : EndedMessage). h.message) (ended_messages xs) _
+    ∙ ap (λ (ms : List MidiMessage). ms ++ map (λ (h : EndedMessage). h.message) (one_ended (exclusive_of (xs ++ byte ∷ [])) r)) e
     ∙ same_messages r (exclusive_of (xs ++ byte ∷ [])) (messages xs) (messages (xs ++ byte ∷ [])) a
 
 no_outcomes : (curve : Curve) → outcomes curve [] ≡ []
-unfolding received_after
+unfolding ended_after
 no_outcomes curve = refl
 
-no_messages : map (λ (h : Received). h.message) (received_in []) ≡ messages []
-unfolding received_after messages
+no_messages : map (λ (h : EndedMessage). h.message) (ended_messages []) ≡ messages []
+unfolding ended_after messages
 no_messages = refl
 
 -- a port that has used nothing
@@ -115,7 +117,7 @@ none_last (Some (kept.Message held)) stream k = absurd k
 -- what comes of what is told last
 received_by :
     (reader : MidiReader) (curve : Curve) (keeps : Option Kept) (done : List Told) (stream sysex : List ℕ) (t : Told) (old new : SendView) (fed : Fed)
-    → Reads reader stream → map (λ h. h.message) (received_in stream) ≡ messages stream
+    → Reads reader stream → map (λ h. h.message) (ended_messages stream) ≡ messages stream
     → outcomes curve stream ≡ done ++ t ∷ [] → Settles curve sysex t keeps old new fed
     → told_kept curve sysex keeps ≡ told_kept curve (exclusive_of stream) keeps → KeepsLast keeps stream
     → (now : List Told) × (HasUsed reader curve keeps (done ++ now) stream × Handles now old new fed)

@@ -11,7 +11,7 @@ use Rattle.port.specs.declared.kept.Kept.{Kept}
 use Rattle.port.specs.declared.kept.Kept.TheVariants as kept
 use Rattle.port.specs.declared.fed.PortStop.{PortStop}
 use Rattle.port.specs.declared.fed.PortStop.TheVariants.{All, Full, Memory}
-use Rattle.port.specs.Outcomes.{exclusive_of, received_in, outcomes}
+use Rattle.port.specs.Outcomes.{exclusive_of, ended_messages, outcomes}
 
 -- what is told by what a port keeps, with the bytes of the last system exclusive message
 abbrev pub told_kept : Curve → List ℕ → Option Kept → List Told
@@ -46,6 +46,6 @@ KeepsAt Memory (Some (kept.Message message)) = Unit {0}
 -- The messages with their bytes are the messages of the stream.
 pub record HasUsed (reader : MidiReader) (curve : Curve) (keeps : Option Kept) (done : List Told) (stream : List ℕ) : Type 0 where
   pub reads : Reads reader stream
-  pub received : map (λ h. h.message) (received_in stream) ≡ messages stream
+  pub received : map (λ h. h.message) (ended_messages stream) ≡ messages stream
   pub tells : outcomes curve stream ≡ done ++ told_kept curve (exclusive_of stream) keeps
   pub last : KeepsLast keeps stream

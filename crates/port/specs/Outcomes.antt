@@ -1,7 +1,7 @@
 -- What comes of the messages of a stream of MIDI bytes, in order.
-use Rattle.std.specs.Prelude.{ℕ, Bool, true, false, List, [], ◌∷◌, ◌++◌, length, map, Option, Some, None, slice_get, unwrap_or}
-use Rattle.midi_stream.specs.declared.message.MidiMessage.{MidiMessage}
-use Rattle.midi_stream.specs.Messages.{messages, last_sysex}
+use Rattle.std.specs.Prelude.{ℕ, Bool, true, false, List, [], ◌∷◌, ◌++◌, map, Option, Some, None, unwrap_or}
+use Rattle.midi_stream.specs.Messages.{last_sysex}
+use Rattle.midi_stream.specs.Ended.{EndedMessage, ended_message}
 use Rattle.velocity_map.specs.declared.curve.Curve.{Curve}
 use Rattle.command_set.specs.Command.{CommandData}
 use Rattle.command_set.specs.Message.{Told, Tells, PassedOver, Overlong, Faulty, command_of}
@@ -10,35 +10,27 @@ use Rattle.command_set.specs.Message.{Told, Tells, PassedOver, Overlong, Faulty,
 abbrev pub exclusive_of : List ℕ → List ℕ
 exclusive_of stream = unwrap_or (last_sysex stream) []
 
--- a message of a stream, with the bytes of the last system exclusive message at its end
-pub record Received : Type 0 where
-  pub message : MidiMessage
-  pub bytes : List ℕ
-
-abbrev pub one_received : List ℕ → Option MidiMessage → List Received
-one_received bytes None = []
-one_received bytes (Some message) = record { message = message; bytes = bytes } ∷ []
-
--- the message that a stream gains with one more byte, if it gains one
-unfoldable pub received_with : List ℕ → ℕ → List Received
-received_with before byte = one_received (exclusive_of (before ++ byte ∷ [])) (slice_get (messages (before ++ byte ∷ [])) (length (messages before)))
+-- a message as a list
+abbrev pub listed : Option EndedMessage → List EndedMessage
+listed None = []
+listed (Some m) = m ∷ []
 
 -- the messages that a stream gains with more bytes
-unfoldable pub received_after : List ℕ → List ℕ → List Received
-received_after before [] = []
-received_after before (byte ∷ bytes) = received_with before byte ++ received_after (before ++ byte ∷ []) bytes
+unfoldable pub ended_after : List ℕ → List ℕ → List EndedMessage
+ended_after before [] = []
+ended_after before (byte ∷ bytes) = listed (ended_message before byte) ++ ended_after (before ++ byte ∷ []) bytes
 
 -- the messages of a stream, each with its bytes where it is a system exclusive one
-abbrev pub received_in : List ℕ → List Received
-received_in stream = received_after [] stream
+abbrev pub ended_messages : List ℕ → List EndedMessage
+ended_messages stream = ended_after [] stream
 
 -- what comes of a message with its bytes
-abbrev pub told_by_received : Curve → Received → Told
-told_by_received curve received = command_of received.message received.bytes curve
+abbrev pub told_by : Curve → EndedMessage → Told
+told_by curve ended = command_of ended.message ended.bytes curve
 
 -- what comes of the messages of a stream
 abbrev pub outcomes : Curve → List ℕ → List Told
-outcomes curve stream = map (told_by_received curve) (received_in stream)
+outcomes curve stream = map (told_by curve) (ended_messages stream)
 
 -- the commands among what is told
 abbrev pub commands_in : List Told → List CommandData

@@ -5,8 +5,8 @@ use Rattle.velocity_map.specs.declared.curve.Curve.{Curve}
 use Rattle.command_set.specs.Message.{Told, Tells, PassedOver, Overlong, Faulty, command_of}
 use Rattle.script_plan.specs.Plan.{PlannedData}
 use Rattle.script_outcome.specs.declared.fault.Place.{Place}
-use Rattle.script_outcome.specs.Stream.{Heard, heard_with}
-use Rattle.script_outcome.specs.Outcomes.{Outcome, Gives, Fails, told_outcomes, heard_outcomes, fed_outcomes}
+use Rattle.midi_stream.specs.Ended.{EndedMessage, ended_message}
+use Rattle.script_outcome.specs.Outcomes.{Outcome, Gives, Fails, message_outcomes, ended_outcomes, fed_outcomes}
 use Rattle.script_outcome.specs.Reading.{all_given}
 
 abbrev pub AllEarly : ℕ → List Outcome → Type 0
@@ -19,22 +19,22 @@ both_early blocks [] ys a b = b
 both_early blocks (Gives c ∷ xs) ys a b = (a.0, both_early blocks xs ys a.1 b)
 both_early blocks (Fails at why ∷ xs) ys a b = both_early blocks xs ys a b
 
-pub told_early : (blocks block : ℕ) (at : Place) (told : Told) → block < blocks → AllEarly blocks (told_outcomes at block told)
-told_early blocks block at (Tells command) below = (below, tt)
-told_early blocks block at PassedOver below = tt
-told_early blocks block at (Overlong count) below = tt
-told_early blocks block at (Faulty fault) below = tt
+pub message_early : (blocks block : ℕ) (at : Place) (told : Told) → block < blocks → AllEarly blocks (message_outcomes at block told)
+message_early blocks block at (Tells command) below = (below, tt)
+message_early blocks block at PassedOver below = tt
+message_early blocks block at (Overlong count) below = tt
+message_early blocks block at (Faulty fault) below = tt
 
-pub heard_early : (blocks block : ℕ) (at : Place) (curve : Curve) (heard : Option Heard) → block < blocks → AllEarly blocks (heard_outcomes at block curve heard)
-heard_early blocks block at curve None below = tt
-heard_early blocks block at curve (Some h) below = told_early blocks block at (command_of h.message h.bytes curve) below
+pub ended_early : (blocks block : ℕ) (at : Place) (curve : Curve) (ended : Option EndedMessage) → block < blocks → AllEarly blocks (ended_outcomes at block curve ended)
+ended_early blocks block at curve None below = tt
+ended_early blocks block at curve (Some h) below = message_early blocks block at (command_of h.message h.bytes curve) below
 
 pub fed_early : (blocks block : ℕ) (place_of : List ℕ → Place) (curve : Curve) (before bytes : List ℕ) → block < blocks → AllEarly blocks (fed_outcomes place_of block curve before bytes)
 unfolding fed_outcomes
 fed_early blocks block place_of curve before [] below = tt
 fed_early blocks block place_of curve before (byte ∷ bytes) below =
-    both_early blocks (heard_outcomes (place_of before) block curve (heard_with before byte)) (fed_outcomes place_of block curve (before ++ byte ∷ []) bytes)
-    (heard_early blocks block (place_of before) curve (heard_with before byte) below) (fed_early blocks block place_of curve (before ++ byte ∷ []) bytes below)
+    both_early blocks (ended_outcomes (place_of before) block curve (ended_message before byte)) (fed_outcomes place_of block curve (before ++ byte ∷ []) bytes)
+    (ended_early blocks block (place_of before) curve (ended_message before byte) below) (fed_early blocks block place_of curve (before ++ byte ∷ []) bytes below)
 
 pub below_all : (blocks block : ℕ) → nat_le blocks block ≡ false → block < blocks
 below_all blocks block e = leb-false blocks block e

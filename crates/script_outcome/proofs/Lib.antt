@@ -1,4 +1,4 @@
 pub mod Plans
-pub mod Hearing
-pub mod Feeding
+pub mod EndedMessages
+pub mod FedBytes
 pub mod Early

@@ -1,4 +1,4 @@
--- The plan of commands, and of commands with a fault or one more behind them.
+-- The plan of commands, and of commands with a fault or one more after them.
 use Rattle.std.proofs.Common.{◌≡◌, ℕ, ◌+◌, ◌≤◌, List, [], ◌∷◌, ◌++◌, length, Bool, true, false, cond, refl, ap, sym, ◌∙◌, subst, arith, append_assoc, append-nil, lt-ltb, length-append}
 use Rattle.std.proofs.lemmas.Bool.{le-ltb}
 use Rattle.std.specs.Prelude.{nat_lt}
@@ -11,7 +11,7 @@ use Rattle.script_outcome.specs.declared.fault.ScriptKind.TheVariants as kind
 use Rattle.sysex_frame.specs.declared.frame.FrameFault.{FrameFault}
 use Rattle.command_set.specs.Message.{Told, Overlong, Faulty}
 use Rattle.std.specs.Prelude.{Result, Ok, Err, OnOk, IfOk, IfErr, OnErr}
-use Rattle.script_outcome.specs.Outcomes.{Outcome, Gives, Fails, told_outcomes}
+use Rattle.script_outcome.specs.Outcomes.{Outcome, Gives, Fails, message_outcomes}
 use Rattle.script_outcome.specs.Plan.{Plan, Commands, Refused, TooMany, given, verdict, plan_of}
 use Rattle.script_outcome.specs.Reading.{Stops, all_given}
 
@@ -34,31 +34,31 @@ passed false x y e = absurd (cc)
 not_more : (room n : ℕ) → n ≤ room → nat_lt room n ≡ false
 not_more room n l = le-ltb room n l
 
--- commands for which there is room, and a fault behind them
-pub fails_behind : (room : ℕ) (cs : List PlannedData) (at : Place) (why : ScriptKind) (more : List Outcome) → length cs ≤ room
+-- commands for which there is room, and a fault after them
+pub fails_after : (room : ℕ) (cs : List PlannedData) (at : Place) (why : ScriptKind) (more : List Outcome) → length cs ≤ room
     → plan_of room (all_given cs ++ Fails at why ∷ more) ≡ Refused at why
 unfolding plan_of
-fails_behind room cs at why more few =
+fails_after room cs at why more few =
     let all : given (all_given cs ++ Fails at why ∷ more) ≡ cs = given_all cs (Fails at why ∷ more) ∙ append-nil cs in
     chosen _ TooMany _ (ap (λ (ds : List PlannedData). nat_lt room (length ds)) all ∙ not_more room (length cs) few)
     ∙ verdict_all _ cs (Fails at why ∷ more)
 
 pub fails : (room : ℕ) (cs : List PlannedData) (at : Place) (why : ScriptKind) (more : List Outcome) → length cs ≤ room
     → plan_of room (all_given cs ++ Fails at why ∷ [] ++ more) ≡ Refused at why
-fails room cs at why more few = rw append_assoc (fails_behind room cs at why more few)
+fails room cs at why more few = rw append_assoc (fails_after room cs at why more few)
 
 -- a command for which there is no room
-many_behind : (room : ℕ) (cs : List PlannedData) (c : PlannedData) (more : List Outcome) → room ≤ length cs
+many_after : (room : ℕ) (cs : List PlannedData) (c : PlannedData) (more : List Outcome) → room ≤ length cs
     → plan_of room (all_given cs ++ Gives c ∷ more) ≡ TooMany
 unfolding plan_of
-many_behind room cs c more full =
+many_after room cs c more full =
     let all : given (all_given cs ++ Gives c ∷ more) ≡ cs ++ c ∷ given more = given_all cs (Gives c ∷ more) in
     let count : length (cs ++ c ∷ given more) ≡ length cs + length (c ∷ given more) = length-append cs (c ∷ given more) in
     passed _ TooMany _ (ap (λ (ds : List PlannedData). nat_lt room (length ds)) all ∙ lt-ltb room (length (cs ++ c ∷ given more)) (omega arith))
 
 pub many : (room : ℕ) (cs : List PlannedData) (c : PlannedData) (more : List Outcome) → room ≤ length cs
     → plan_of room (all_given cs ++ Gives c ∷ [] ++ more) ≡ TooMany
-many room cs c more full = rw append_assoc (many_behind room cs c more full)
+many room cs c more full = rw append_assoc (many_after room cs c more full)
 
 -- commands for which there is room
 pub whole : (room : ℕ) (cs : List PlannedData) → length cs ≤ room → plan_of room (all_given cs) ≡ Commands cs
@@ -70,7 +70,7 @@ whole room cs few =
     chosen _ TooMany _ (ap (λ (ds : List PlannedData). nat_lt room (length ds)) all ∙ not_more room (length cs) few)
     ∙ none ∙ ap Commands all
 
--- what stops some outcomes stops them with more behind
+-- what stops some outcomes stops them with more after
 pub stops_more : (why : ScriptFault) (room : ℕ) (xs ys : List Outcome) → Stops why room xs → Stops why room (xs ++ ys)
 stops_more (faults.Refused at why) room xs ys h = λ more. rw append_assoc (h (ys ++ more))
 stops_more faults.TooMany room xs ys h = λ more. rw append_assoc (h (ys ++ more))
@@ -94,14 +94,14 @@ last_due_more least (d ∷ cs) c = last_due_more d.due cs c
 
 -- a message that is refused
 pub stops_overlong : (room : ℕ) (cs : List PlannedData) (at : Place) (block count : ℕ) (told : Told) (more : List Outcome) → length cs ≤ room → told ≡ Overlong count
-    → plan_of room (all_given cs ++ told_outcomes at block told ++ more) ≡ Refused at kind.Long
+    → plan_of room (all_given cs ++ message_outcomes at block told ++ more) ≡ Refused at kind.Long
 stops_overlong room cs at block count told more few is =
-    subst (λ (t : Told). plan_of room (all_given cs ++ told_outcomes at block t ++ more) ≡ Refused at kind.Long) (sym is) (fails room cs at kind.Long more few)
+    subst (λ (t : Told). plan_of room (all_given cs ++ message_outcomes at block t ++ more) ≡ Refused at kind.Long) (sym is) (fails room cs at kind.Long more few)
 
 pub stops_faulty : (room : ℕ) (cs : List PlannedData) (at : Place) (block : ℕ) (fault : FrameFault) (told : Told) (more : List Outcome) → length cs ≤ room → told ≡ Faulty fault
-    → plan_of room (all_given cs ++ told_outcomes at block told ++ more) ≡ Refused at (kind.Message fault)
+    → plan_of room (all_given cs ++ message_outcomes at block told ++ more) ≡ Refused at (kind.Message fault)
 stops_faulty room cs at block fault told more few is =
-    subst (λ (t : Told). plan_of room (all_given cs ++ told_outcomes at block t ++ more) ≡ Refused at (kind.Message fault)) (sym is) (fails room cs at (kind.Message fault) more few)
+    subst (λ (t : Told). plan_of room (all_given cs ++ message_outcomes at block t ++ more) ≡ Refused at (kind.Message fault)) (sym is) (fails room cs at (kind.Message fault) more few)
 
 -- what an answer says, handed on
 pub on_ok_more : {T E : Type 0} {P Q : Type 0} (r : Result T E) → OnOk r P → (P → Q) → OnOk r Q

@@ -6,7 +6,7 @@ use Rattle.script_plan.specs.Plan.{PlannedData, planned_at}
 use Rattle.script_outcome.specs.declared.fault.Place.{Place}
 use Rattle.script_outcome.specs.declared.fault.ScriptKind.{ScriptKind}
 use Rattle.script_outcome.specs.declared.fault.ScriptKind.TheVariants as kind
-use Rattle.script_outcome.specs.Stream.{Heard, heard_with}
+use Rattle.midi_stream.specs.Ended.{EndedMessage, ended_message}
 
 -- a command at its block, or a fault at its place
 pub data Outcome : Type 0 where
@@ -14,21 +14,22 @@ pub data Outcome : Type 0 where
   Fails : Place → ScriptKind → Outcome
 
 -- what comes of a message
-abbrev pub told_outcomes : Place → ℕ → Told → List Outcome
-told_outcomes at block (Tells command) = Gives (planned_at block command) ∷ []
-told_outcomes at block PassedOver = []
-told_outcomes at block (Overlong count) = Fails at kind.Long ∷ []
-told_outcomes at block (Faulty fault) = Fails at (kind.Message fault) ∷ []
+abbrev pub message_outcomes : Place → ℕ → Told → List Outcome
+message_outcomes at block (Tells command) = Gives (planned_at block command) ∷ []
+message_outcomes at block PassedOver = []
+message_outcomes at block (Overlong count) = Fails at kind.Long ∷ []
+message_outcomes at block (Faulty fault) = Fails at (kind.Message fault) ∷ []
 
-abbrev pub heard_outcomes : Place → ℕ → Curve → Option Heard → List Outcome
-heard_outcomes at block curve None = []
-heard_outcomes at block curve (Some heard) = told_outcomes at block (command_of heard.message heard.bytes curve)
+abbrev pub ended_outcomes : Place → ℕ → Curve → Option EndedMessage → List Outcome
+ended_outcomes at block curve None = []
+ended_outcomes at block curve (Some ended) = message_outcomes at block (command_of ended.message ended.bytes curve)
 
--- What comes of bytes behind the stream before them. A message comes of its last byte; the place of a fault is one that the stream before that byte tells.
+-- What comes of bytes after the stream before them. A message comes of its last byte; the place of a fault is one that the stream before
+-- that byte tells.
 unfoldable pub fed_outcomes : (List ℕ → Place) → ℕ → Curve → List ℕ → List ℕ → List Outcome
 fed_outcomes place_of block curve before [] = []
 fed_outcomes place_of block curve before (byte ∷ bytes) =
-    heard_outcomes (place_of before) block curve (heard_with before byte) ++ fed_outcomes place_of block curve (before ++ byte ∷ []) bytes
+    ended_outcomes (place_of before) block curve (ended_message before byte) ++ fed_outcomes place_of block curve (before ++ byte ∷ []) bytes
 
 -- a block is not one of the run's, where their number is known
 abbrev pub is_late : Option ℕ → ℕ → Bool

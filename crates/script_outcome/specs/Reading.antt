@@ -10,7 +10,7 @@ use Rattle.script_outcome.specs.Plan.{Refused, TooMany, plan_of}
 abbrev pub all_given : List PlannedData → List Outcome
 all_given commands = map Gives commands
 
--- whatever comes behind these outcomes, the plan is this refusal; want of memory says nothing
+-- whatever comes after these outcomes, the plan is this refusal; want of memory says nothing
 abbrev pub Stops : ScriptFault → ℕ → List Outcome → Type 0
 Stops (faults.Refused at why) room outcomes = (more : List Outcome) → plan_of room (outcomes ++ more) ≡ Refused at why
 Stops faults.TooMany room outcomes = (more : List Outcome) → plan_of room (outcomes ++ more) ≡ TooMany

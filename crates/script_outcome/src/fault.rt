@@ -1,3 +1,5 @@
+//! Why a script is refused, and where.
+
 use sysex_frame::FrameFault;
 use thiserror::Error;
 

@@ -7,8 +7,8 @@ ghost use Rattle.velocity_map.specs.Map.{curve_of};
 ghost use Rattle.command_set.specs.Command.{IsInRange, content};
 ghost use Rattle.command_set.specs.Message.{command_of};
 ghost use Rattle.script_plan.specs.Plan.{last_due, planned_at};
-ghost use Rattle.script_outcome.specs.Stream.{heard_with};
-ghost use Rattle.script_outcome.specs.Outcomes.{Gives, fed_outcomes, heard_outcomes, told_outcomes};
+ghost use Rattle.midi_stream.specs.Ended.{ended_message};
+ghost use Rattle.script_outcome.specs.Outcomes.{Gives, fed_outcomes, ended_outcomes, message_outcomes};
 ghost use Rattle.script_outcome.specs.Reading.{Stops, all_given};
 
 use crate::fault::{Place, ScriptFault, ScriptKind};
@@ -44,8 +44,8 @@ impl Feed {
         })
     }
 
-    /// Takes the next byte.
-    pub fn take(
+    /// Reads the next byte, and adds what comes of it.
+    pub fn read_byte(
         &mut self,
         alloc: Global,
         byte: u8,
@@ -57,9 +57,10 @@ impl Feed {
         requires few { length self.old.script ≤ room }
         ensures reads { (stream : List ℕ) → Reads self.old.reader stream → Reads self.new.reader (stream ++ byte ∷ []) }
         ensures given { OnOk result ((stream : List ℕ) → Reads self.old.reader stream
-            → all_given self.new.script ≡ all_given self.old.script ++ heard_outcomes spot.place spot.block (curve_of map.now) (heard_with stream byte)) }
+            → all_given self.new.script
+            ≡ all_given self.old.script ++ ended_outcomes spot.place spot.block (curve_of map.now) (ended_message stream byte)) }
         ensures stops { IfErr result (λ why. (stream : List ℕ) → Reads self.old.reader stream
-            → Stops why room (all_given self.old.script ++ heard_outcomes spot.place spot.block (curve_of map.now) (heard_with stream byte))) }
+            → Stops why room (all_given self.old.script ++ ended_outcomes spot.place spot.block (curve_of map.now) (ended_message stream byte))) }
         ensures due { OnOk result (last_due self.new.script ≤ spot.block) }
         ensures few { OnOk result (length self.new.script ≤ room) }
     {
@@ -67,14 +68,14 @@ impl Feed {
             None => Ok(()),
             Some(message) => {
                 let script = &mut self.script;
-                take_message(alloc, script, message, self.reader.sysex(), spot, map, room)
+                add_message(alloc, script, message, self.reader.sysex(), spot, map, room)
             }
         }
     }
 }
 
-/// Takes all bytes of a line.
-pub fn take_all(
+/// Reads all bytes of a line.
+pub fn read_bytes(
     alloc: Global,
     feed: &mut Feed,
     bytes: &[u8],
@@ -86,14 +87,15 @@ pub fn take_all(
     requires few { length feed.old.script ≤ room }
     ensures reads { OnOk result ((stream : List ℕ) → Reads feed.old.reader stream → Reads feed.new.reader (stream ++ bytes.now)) }
     ensures given { OnOk result ((stream : List ℕ) → Reads feed.old.reader stream
-        → all_given feed.new.script ≡ all_given feed.old.script ++ fed_outcomes (λ before. spot.place) spot.block (curve_of map.now) stream bytes.now) }
+        → all_given feed.new.script
+        ≡ all_given feed.old.script ++ fed_outcomes (λ before. spot.place) spot.block (curve_of map.now) stream bytes.now) }
     ensures stops { IfErr result (λ why. (stream : List ℕ) → Reads feed.old.reader stream
         → Stops why room (all_given feed.old.script ++ fed_outcomes (λ before. spot.place) spot.block (curve_of map.now) stream bytes.now)) }
     ensures due { OnOk result (last_due feed.new.script ≤ spot.block) }
     ensures few { OnOk result (length feed.new.script ≤ room) }
 {
     for byte in bytes {
-        match feed.take(alloc, *byte, spot, map, room) {
+        match feed.read_byte(alloc, *byte, spot, map, room) {
             Ok(()) => {}
             Err(fault) => return Err(fault),
         }
@@ -101,8 +103,8 @@ pub fn take_all(
     Ok(())
 }
 
-/// Takes a message with its bytes.
-fn take_message(
+/// Adds what comes of a message with its bytes.
+fn add_message(
     alloc: Global,
     script: &mut Script,
     message: MidiMessage,
@@ -115,8 +117,10 @@ fn take_message(
     requires bytes { length sysex.now ≤ 5000 }
     requires due { last_due script.old ≤ spot.block }
     requires few { length script.old ≤ room }
-    ensures given { OnOk result (all_given script.new ≡ all_given script.old ++ told_outcomes spot.place spot.block (command_of message sysex.now (curve_of map.now))) }
-    ensures stops { IfErr result (λ why. Stops why room (all_given script.old ++ told_outcomes spot.place spot.block (command_of message sysex.now (curve_of map.now)))) }
+    ensures given { OnOk result (all_given script.new
+        ≡ all_given script.old ++ message_outcomes spot.place spot.block (command_of message sysex.now (curve_of map.now))) }
+    ensures stops { IfErr result (λ why. Stops why room
+        (all_given script.old ++ message_outcomes spot.place spot.block (command_of message sysex.now (curve_of map.now)))) }
     ensures due { OnOk result (last_due script.new ≤ spot.block) }
     ensures few { OnOk result (length script.new ≤ room) }
 {

@@ -8,7 +8,7 @@ mod text;
 
 pub use bounds::Bounds;
 pub use fault::{Place, ScriptFault, ScriptKind};
-pub use feed::{Feed, Spot, give, take_all};
+pub use feed::{Feed, Spot, give, read_bytes};
 pub use text::push_script_text;
 
 #[cfg(test)]

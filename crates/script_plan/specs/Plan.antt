@@ -18,8 +18,8 @@ abbrev pub plan_data : List Planned → List PlannedData
 plan_data commands = map planned_data commands
 
 -- the blocks that commands are due at
-abbrev pub dues : List PlannedData → List ℕ
-dues plan = map (λ (c : PlannedData). c.due) plan
+abbrev pub due_blocks : List PlannedData → List ℕ
+due_blocks plan = map (λ (c : PlannedData). c.due) plan
 
 -- none of the blocks is below a number or below the one before, each is a number of 32 bits, and each command is in range
 abbrev pub IsPlanFrom : ℕ → List PlannedData → Type 0

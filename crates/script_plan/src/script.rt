@@ -1,3 +1,5 @@
+//! A script: commands, each with the block that it is due at.
+
 ghost use Rattle.std.specs.Prelude.{◌≡◌, ◌++◌, ◌≤◌, ◌<◌, ◌^◌, ◌∷◌, [], ◌↔◌, IsTrue, OnOk, OnErr, IfSome, IfNone, length};
 ghost use Rattle.command_set.specs.Command.{content, IsInRange};
 ghost use Rattle.script_plan.specs.Plan.{planned_at, first_due, last_due, IsPlan};
@@ -14,7 +16,8 @@ pub struct Planned {
     pub command: Command,
 }
 
-/// Commands in the order in which they are due. Contracts see the list of them, which is always a plan: the blocks don't fall, and each command is in range.
+/// Commands in the order in which they are due. Contracts see the list of them, which is always a plan: the blocks don't fall, and each command is
+/// in range.
 #[derive(Drop)]
 pub struct Script {
     commands: VecDeque<Planned>,

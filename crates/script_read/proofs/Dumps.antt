@@ -18,7 +18,7 @@ use Rattle.command_set.proofs.Words.{voice_bytes, cartridge_bytes}
 use Rattle.command_set.proofs.Packs.{packs_all}
 use Rattle.command_set.proofs.Hexed.{as_voice, as_cartridge, voice_read}
 use Rattle.command_set.proofs.Messages.{clamped_clamps, voices_cartridge}
-use Rattle.script_read.specs.Grammar.{lower_bytes, if_lower, if_voice, if_cartridge, voice_said, cartridge_said}
+use Rattle.script_read.specs.Grammar.{lower_bytes, if_lower, if_voice, if_cartridge, parsed_voice, parsed_cartridge}
 
 alike : (xs ys : List ℕ) → xs ≡ ys → bytes_eq xs ys ≡ true
 alike xs ys e = (bytes_eq-Decides xs ys).1 e
@@ -40,10 +40,10 @@ kept_lower word (Err x) bytes e = absurd (cc)
 voice_own : (voice : List ℕ) → IsVoice voice → if_voice voice ≡ Some (TakesVoice voice)
 voice_own voice v = rw (alike (clamped_voice voice) voice (clamped_same voice (clamped_voice voice) (clamped_clamps voice) v)) refl
 
-pub voice_found : (word : List ℕ) (d : CommandData) → AreWordsOf (codes "voice" ∷ word ∷ []) d → voice_said word ≡ Some d
-unfolding voice_said
-voice_found word d said =
-    let own = as_voice word d said.0 said.1 in
+pub voice_found : (word : List ℕ) (d : CommandData) → AreWordsOf (codes "voice" ∷ word ∷ []) d → parsed_voice word ≡ Some d
+unfolding parsed_voice
+voice_found word d parsed =
+    let own = as_voice word d parsed.0 parsed.1 in
     let decoded : decode_of word ≡ Ok own.0 = subst (λ (w : List ℕ). decode_of w ≡ Ok own.0) own.3 (decode_of-encode_lower own.0 (voice_bytes own.0 own.2)) in
     ap (option_and_then if_voice) (lower_own word own.0 decoded own.3) ∙ voice_own own.0 own.2 ∙ ap Some (sym own.1)
 
@@ -56,8 +56,8 @@ is_voice bytes d e = by_test (bytes_eq (clamped_voice bytes) bytes) refl e
         (cc, subst IsVoice is (clamped_is_voice bytes (clamped_voice bytes) (clamped_clamps bytes)))
     by_test false same e = absurd (cc)
 
-pub voice_missed : (word : List ℕ) → AreWordsOfNone (codes "voice" ∷ word ∷ []) → voice_said word ≡ None
-unfolding voice_said
+pub voice_missed : (word : List ℕ) → AreWordsOfNone (codes "voice" ∷ word ∷ []) → parsed_voice word ≡ None
+unfolding parsed_voice
 voice_missed word none = by_bytes (lower_bytes word) refl
   where
     by_voice : (bytes : List ℕ) → encode_lower bytes ≡ word → (o : Option CommandData) → if_voice bytes ≡ o → if_voice bytes ≡ None
@@ -78,10 +78,10 @@ cartridge_own voices h =
     let is : voices_of (flat_map packed voices) ≡ voices = voices_are voices (flat_map packed voices) (packs_all voices h) in
     rw (is, alike (flat_map packed voices) (flat_map packed voices) refl) refl
 
-pub cartridge_found : (word : List ℕ) (d : CommandData) → AreWordsOf (codes "cartridge" ∷ word ∷ []) d → cartridge_said word ≡ Some d
-unfolding cartridge_said
-cartridge_found word d said =
-    let own = as_cartridge word d said.0 said.1 in
+pub cartridge_found : (word : List ℕ) (d : CommandData) → AreWordsOf (codes "cartridge" ∷ word ∷ []) d → parsed_cartridge word ≡ Some d
+unfolding parsed_cartridge
+cartridge_found word d parsed =
+    let own = as_cartridge word d parsed.0 parsed.1 in
     let bytes : List ℕ = flat_map packed own.0 in
     let decoded : decode_of word ≡ Ok bytes = subst (λ (w : List ℕ). decode_of w ≡ Ok bytes) own.3 (decode_of-encode_lower bytes (cartridge_bytes own.0 own.2)) in
     ap (option_and_then if_cartridge) (lower_own word bytes decoded own.3) ∙ cartridge_own own.0 own.2 ∙ ap Some (sym own.1)
@@ -93,8 +93,8 @@ is_payload bytes d e = by_test (bytes_eq (flat_map packed (voices_of bytes)) byt
     by_test true same e = (bytes_eq-Decides (flat_map packed (voices_of bytes)) bytes).0 same
     by_test false same e = absurd (cc)
 
-pub cartridge_missed : (word : List ℕ) → AreWordsOfNone (codes "cartridge" ∷ word ∷ []) → cartridge_said word ≡ None
-unfolding cartridge_said
+pub cartridge_missed : (word : List ℕ) → AreWordsOfNone (codes "cartridge" ∷ word ∷ []) → parsed_cartridge word ≡ None
+unfolding parsed_cartridge
 cartridge_missed word none = by_bytes (lower_bytes word) refl
   where
     by_cartridge : (bytes : List ℕ) → encode_lower bytes ≡ word → (o : Option CommandData) → if_cartridge bytes ≡ o → if_cartridge bytes ≡ None

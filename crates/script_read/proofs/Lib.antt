@@ -1,9 +1,9 @@
-pub mod Wording
+pub mod WordSplits
 pub mod Numerals
 pub mod Dumps
-pub mod Streaming
-pub mod Lining
-pub mod EditLining
+pub mod StreamOutcomes
+pub mod LineOutcomes
+pub mod EditOutcomes
 pub mod EditNames
 pub mod Early
-pub mod Answering
+pub mod Plans

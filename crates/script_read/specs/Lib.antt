@@ -1,8 +1,8 @@
 pub mod Words
 pub mod Grammar
 pub mod Lines
-pub mod Says
-pub mod EditSays
+pub mod LineData
+pub mod EditData
 pub mod Outcomes
 pub mod EditLines
 pub mod Edits

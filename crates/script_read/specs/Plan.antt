@@ -7,8 +7,8 @@ use Rattle.script_outcome.specs.declared.fault.ScriptKind.{ScriptKind}
 use Rattle.script_outcome.specs.declared.fault.ScriptKind.TheVariants as kind
 use Rattle.midi_file.specs.File.{midi_outcomes}
 use Rattle.script_read.specs.Words.{lines_of}
-use Rattle.script_read.specs.Lines.{sayings}
-use Rattle.script_read.specs.EditLines.{edit_sayings}
+use Rattle.script_read.specs.Lines.{parsed_lines}
+use Rattle.script_read.specs.EditLines.{parsed_edits}
 use Rattle.script_read.specs.Edits.{edit_text_outcomes}
 use Rattle.script_outcome.specs.Outcomes.{Outcome, Fails}
 use Rattle.script_outcome.specs.Plan.{Plan, plan_of}
@@ -22,8 +22,8 @@ at_first why = Fails (place.Line 1) why ∷ []
 abbrev pub lines_outcomes : Option ℕ → List (List ℕ) → List Outcome
 lines_outcomes blocks [] = at_first kind.Kind
 lines_outcomes blocks (first ∷ lines) =
-    if bytes_eq first (codes "midi 1") then text_outcomes blocks (sayings lines)
-    else if bytes_eq first (codes "edit 1") then edit_text_outcomes blocks (edit_sayings lines)
+    if bytes_eq first (codes "midi 1") then text_outcomes blocks (parsed_lines lines)
+    else if bytes_eq first (codes "edit 1") then edit_text_outcomes blocks (parsed_edits lines)
     else at_first kind.Kind
 
 -- a stream begins with F0

@@ -1,5 +1,6 @@
 -- The lines of a text, their words, and the numbers and bytes that words write.
-use Rattle.std.specs.Prelude.{ℕ, ◌-◌, ◌==◌, ◌&&◌, Bool, nat_lt, nat_le, List, [], ◌∷◌, filter, length, take, slice_index, Option, Some, None, if◌then◌else◌}
+use Rattle.std.specs.Prelude.{ℕ, ◌-◌, ◌==◌, ◌&&◌, Bool, nat_lt, nat_le, List, [], ◌∷◌, filter, length, take, slice_index, Option}
+use Rattle.std.specs.Prelude.{Some, None, if◌then◌else◌}
 use Rattle.std.specs.List.{join_with_byte}
 use Rattle.std.specs.Str.{all_ascii_digits}
 use Rattle.std.specs.Str.Parse.{digits_value}
@@ -17,7 +18,7 @@ ended [] = []
 ended (last ∷ []) = last ∷ []
 ended (line ∷ next ∷ more) = without_return line ∷ ended (next ∷ more)
 
--- the lines of a text; behind a last line feed there is an empty one
+-- the lines of a text; after a last line feed there is an empty one
 unfoldable pub lines_of : List ℕ → List (List ℕ)
 lines_of text = ended (split 10 text)
 
@@ -29,14 +30,14 @@ is_some_word word = nat_lt 0 (length word)
 unfoldable pub words_of : List ℕ → List (List ℕ)
 words_of line = filter is_some_word (split 32 line)
 
--- of the parts of a line, those behind its first word
-abbrev pub behind_word : List (List ℕ) → List (List ℕ)
-behind_word [] = []
-behind_word (part ∷ more) = if is_some_word part then more else behind_word more
+-- of the parts of a line, those after its first word
+abbrev pub after_word : List (List ℕ) → List (List ℕ)
+after_word [] = []
+after_word (part ∷ more) = if is_some_word part then more else after_word more
 
--- what stands behind the first word of a line and one space
-unfoldable pub text_behind : List ℕ → List ℕ
-text_behind line = join_with_byte 32 (behind_word (split 32 line))
+-- what stands after the first word of a line and one space
+unfoldable pub text_after : List ℕ → List ℕ
+text_after line = join_with_byte 32 (after_word (split 32 line))
 
 -- 1 to 10 digits, zeros in front among them
 abbrev pub is_numeral : List ℕ → Bool

@@ -1,13 +1,16 @@
 //! One line of an `edit 1` script.
 
-ghost use Rattle.std.specs.Prelude.{None, ◌≡◌, ◌≤◌, ◌^◌, ◌-◌, ◌&&◌, ◌++◌, [], ◌∷◌, option_and_then, option_map, nat_lt, nat_le, length, replicate, IfOk, IfSome, IsTrue};
+ghost use Rattle.std.specs.Prelude.{None, ◌≡◌, ◌≤◌, ◌^◌, ◌-◌, ◌&&◌, ◌++◌, [], ◌∷◌, option_and_then, option_map, nat_lt, nat_le};
+ghost use Rattle.std.specs.Prelude.{length, replicate, IfOk, IfSome, IsTrue};
 ghost use Rattle.std.specs.List.{list_all};
 ghost use Rattle.command_set.specs.Command.{content};
 ghost use Rattle.editor.specs.Names.{first_high};
-ghost use Rattle.script_read.specs.Words.{number_to, text_behind, words_of};
-ghost use Rattle.script_read.specs.Grammar.{voice_said};
-ghost use Rattle.script_read.specs.EditLines.{Loads, Puts, Renames, alone_asked, asked, asked_at, edit_said, is_name_byte, name_said, one_asked, set_said, two_asked, voice_taken, words_asked};
-ghost use Rattle.script_read.specs.EditSays.{IsSoundAsk, IsSoundLine, asks, edit_says};
+ghost use Rattle.script_read.specs.Words.{number_to, text_after, words_of};
+ghost use Rattle.script_read.specs.Grammar.{parsed_voice};
+ghost use Rattle.script_read.specs.EditLines.{Loads, Puts, Renames, request_alone, parsed_request, request_at, parsed_edit};
+ghost use Rattle.script_read.specs.EditLines.{is_name_byte, parsed_name, request_of_one, parsed_set, request_of_two, voice_taken};
+ghost use Rattle.script_read.specs.EditLines.{request_of_words};
+ghost use Rattle.script_read.specs.EditData.{IsSoundRequest, IsSoundLine, request_data, edit_data};
 
 use crate::grammar::voice_of;
 use crate::line::starts_comment;
@@ -20,9 +23,9 @@ use voice_record::Voice;
 /// The bytes of a name.
 const NAME: usize = 10;
 
-/// What an editor is asked for.
+/// A request to the editor.
 #[derive(Drop)]
-pub(crate) enum Ask {
+pub(crate) enum EditRequest {
     /// A number of the voice, 0 to 154, set to a value, which may be above its greatest.
     Set { number: u8, value: u32 },
     /// The last act taken back.
@@ -37,21 +40,21 @@ pub(crate) enum Ask {
     Store { slot: u8 },
 }
 
-/// What a line says.
+/// A parsed line.
 #[derive(Drop)]
 pub(crate) enum EditLine {
     /// Nothing: it is passed over.
     Blank,
-    /// Something is asked for at a block.
-    Asks { block: u32, ask: Ask },
+    /// A request at a block.
+    Requests { block: u32, request: EditRequest },
     /// It isn't of the grammar.
     Wrong,
 }
 
 /// Reads a line, without its line feed.
-#[tactic(auto, unfolding(crate::specs::EditLines::edit_said, crate::specs::EditLines::edit_words_said))]
+#[tactic(auto, unfolding(crate::specs::EditLines::parsed_edit, crate::specs::EditLines::parsed_edit_words))]
 pub(crate) fn read_edit_line(alloc: Global, line: &[u8]) -> Result<EditLine, AllocError>
-    ensures said { IfOk result (λ found. edit_says found ≡ edit_said line.now) }
+    ensures parsed { IfOk result (λ found. edit_data found ≡ parsed_edit line.now) }
     ensures sound { IfOk result IsSoundLine }
 {
     if starts_comment(line) {
@@ -59,34 +62,34 @@ pub(crate) fn read_edit_line(alloc: Global, line: &[u8]) -> Result<EditLine, All
     }
     match next_word(line) {
         None => Ok(EditLine::Blank),
-        Some((word, behind)) => match read_number(word, u32::MAX) {
+        Some((word, after)) => match read_number(word, u32::MAX) {
             None => Ok(EditLine::Wrong),
-            Some(block) => match read_ask(alloc, behind) {
-                Ok(ask) => Ok(line_of(block, ask)),
+            Some(block) => match read_request(alloc, after) {
+                Ok(request) => Ok(line_of(block, request)),
                 Err(fault) => Err(fault),
             },
         },
     }
 }
 
-/// The line of what is asked for, where there is something.
-fn line_of(block: u32, ask: Option<Ask>) -> EditLine
-    requires { IfSome ask IsSoundAsk }
-    ensures said { edit_says result ≡ asked_at block (option_map asks ask) }
+/// The line of a request, where there is one.
+fn line_of(block: u32, request: Option<EditRequest>) -> EditLine
+    requires { IfSome request IsSoundRequest }
+    ensures parsed { edit_data result ≡ request_at block (option_map request_data request) }
     ensures sound { IsSoundLine result }
 {
-    match ask {
-        Some(ask) => EditLine::Asks { block, ask },
+    match request {
+        Some(request) => EditLine::Requests { block, request },
         None => EditLine::Wrong,
     }
 }
 
-/// What stands behind a block.
-fn read_ask(alloc: Global, behind: &[u8]) -> Result<Option<Ask>, AllocError>
-    ensures said { IfOk result (λ found. option_map asks found ≡ asked (text_behind behind.now) (words_of behind.now)) }
-    ensures sound { IfOk result (λ found. IfSome found IsSoundAsk) }
+/// What stands after a block.
+fn read_request(alloc: Global, after: &[u8]) -> Result<Option<EditRequest>, AllocError>
+    ensures parsed { IfOk result (λ found. option_map request_data found ≡ parsed_request (text_after after.now) (words_of after.now)) }
+    ensures sound { IfOk result (λ found. IfSome found IsSoundRequest) }
 {
-    match next_word(behind) {
+    match next_word(after) {
         None => Ok(None),
         Some((kind, rest)) => {
             if is_word(kind, b"name") {
@@ -98,10 +101,10 @@ fn read_ask(alloc: Global, behind: &[u8]) -> Result<Option<Ask>, AllocError>
     }
 }
 
-/// What a kind and the words behind it ask for.
-fn read_words(alloc: Global, kind: &[u8], rest: &[u8]) -> Result<Option<Ask>, AllocError>
-    ensures said { IfOk result (λ found. option_map asks found ≡ words_asked kind.now (words_of rest.now)) }
-    ensures sound { IfOk result (λ found. IfSome found IsSoundAsk) }
+/// What a kind and the words after it request.
+fn read_words(alloc: Global, kind: &[u8], rest: &[u8]) -> Result<Option<EditRequest>, AllocError>
+    ensures parsed { IfOk result (λ found. option_map request_data found ≡ request_of_words kind.now (words_of rest.now)) }
+    ensures sound { IfOk result (λ found. IfSome found IsSoundRequest) }
 {
     match next_word(rest) {
         None => Ok(read_alone(kind)),
@@ -115,22 +118,22 @@ fn read_words(alloc: Global, kind: &[u8], rest: &[u8]) -> Result<Option<Ask>, Al
     }
 }
 
-fn read_alone(kind: &[u8]) -> Option<Ask>
-    ensures said { option_map asks result ≡ alone_asked kind.now }
-    ensures sound { IfSome result IsSoundAsk }
+fn read_alone(kind: &[u8]) -> Option<EditRequest>
+    ensures parsed { option_map request_data result ≡ request_alone kind.now }
+    ensures sound { IfSome result IsSoundRequest }
 {
     if is_word(kind, b"undo") {
-        Some(Ask::Undo)
+        Some(EditRequest::Undo)
     } else if is_word(kind, b"redo") {
-        Some(Ask::Redo)
+        Some(EditRequest::Redo)
     } else {
         None
     }
 }
 
-fn read_one(alloc: Global, kind: &[u8], word: &[u8]) -> Result<Option<Ask>, AllocError>
-    ensures said { IfOk result (λ found. option_map asks found ≡ one_asked kind.now word.now) }
-    ensures sound { IfOk result (λ found. IfSome found IsSoundAsk) }
+fn read_one(alloc: Global, kind: &[u8], word: &[u8]) -> Result<Option<EditRequest>, AllocError>
+    ensures parsed { IfOk result (λ found. option_map request_data found ≡ request_of_one kind.now word.now) }
+    ensures sound { IfOk result (λ found. IfSome found IsSoundRequest) }
 {
     if is_word(kind, b"voice") {
         read_load(alloc, word)
@@ -141,20 +144,20 @@ fn read_one(alloc: Global, kind: &[u8], word: &[u8]) -> Result<Option<Ask>, Allo
     }
 }
 
-fn read_store(word: &[u8]) -> Option<Ask>
-    ensures said { option_map asks result ≡ option_map Puts (number_to 31 word.now) }
-    ensures sound { IfSome result IsSoundAsk }
+fn read_store(word: &[u8]) -> Option<EditRequest>
+    ensures parsed { option_map request_data result ≡ option_map Puts (number_to 31 word.now) }
+    ensures sound { IfSome result IsSoundRequest }
 {
     match read_number(word, 31) {
-        Some(slot) => Some(Ask::Store { slot: slot as u8 }),
+        Some(slot) => Some(EditRequest::Store { slot: slot as u8 }),
         None => None,
     }
 }
 
 /// The voice of a word of hex digits.
-fn read_load(alloc: Global, word: &[u8]) -> Result<Option<Ask>, AllocError>
-    ensures said { IfOk result (λ found. option_map asks found ≡ option_map Loads (option_and_then voice_taken (voice_said word.now))) }
-    ensures sound { IfOk result (λ found. IfSome found IsSoundAsk) }
+fn read_load(alloc: Global, word: &[u8]) -> Result<Option<EditRequest>, AllocError>
+    ensures parsed { IfOk result (λ found. option_map request_data found ≡ option_map Loads (option_and_then voice_taken (parsed_voice word.now))) }
+    ensures sound { IfOk result (λ found. IfSome found IsSoundRequest) }
 {
     match voice_of(alloc, word) {
         Ok(Some(command)) => Ok(load_of(command)),
@@ -164,19 +167,19 @@ fn read_load(alloc: Global, word: &[u8]) -> Result<Option<Ask>, AllocError>
 }
 
 /// The voice of a command that takes one.
-fn load_of(command: Command) -> Option<Ask>
-    ensures said { option_map asks result ≡ option_map Loads (voice_taken (content command)) }
-    ensures sound { IfSome result IsSoundAsk }
+fn load_of(command: Command) -> Option<EditRequest>
+    ensures parsed { option_map request_data result ≡ option_map Loads (voice_taken (content command)) }
+    ensures sound { IfSome result IsSoundRequest }
 {
     match command {
-        Command::Voice(voice) => Some(Ask::Load(voice)),
+        Command::Voice(voice) => Some(EditRequest::Load(voice)),
         _ => None,
     }
 }
 
-fn read_two(kind: &[u8], first: &[u8], second: &[u8]) -> Option<Ask>
-    ensures said { option_map asks result ≡ two_asked kind.now first.now second.now }
-    ensures sound { IfSome result IsSoundAsk }
+fn read_two(kind: &[u8], first: &[u8], second: &[u8]) -> Option<EditRequest>
+    ensures parsed { option_map request_data result ≡ request_of_two kind.now first.now second.now }
+    ensures sound { IfSome result IsSoundRequest }
 {
     if is_word(kind, b"set") {
         read_set(first, second)
@@ -185,32 +188,32 @@ fn read_two(kind: &[u8], first: &[u8], second: &[u8]) -> Option<Ask>
     }
 }
 
-fn read_set(number: &[u8], value: &[u8]) -> Option<Ask>
-    ensures said { option_map asks result ≡ set_said (number_to 154 number.now) (number_to (2 ^ 32 - 1) value.now) }
-    ensures sound { IfSome result IsSoundAsk }
+fn read_set(number: &[u8], value: &[u8]) -> Option<EditRequest>
+    ensures parsed { option_map request_data result ≡ parsed_set (number_to 154 number.now) (number_to (2 ^ 32 - 1) value.now) }
+    ensures sound { IfSome result IsSoundRequest }
 {
     let number = read_number(number, 154)?;
     let value = read_number(value, u32::MAX)?;
-    Some(Ask::Set {
+    Some(EditRequest::Set {
         number: number as u8,
         value,
     })
 }
 
-fn read_rename(text: &[u8]) -> Option<Ask>
-    ensures said { option_map asks result ≡ option_map Renames (name_said text.now) }
-    ensures sound { IfSome result IsSoundAsk }
+fn read_rename(text: &[u8]) -> Option<EditRequest>
+    ensures parsed { option_map request_data result ≡ option_map Renames (parsed_name text.now) }
+    ensures sound { IfSome result IsSoundRequest }
 {
     match read_name(text) {
-        Some(name) => Some(Ask::Rename(name)),
+        Some(name) => Some(EditRequest::Rename(name)),
         None => None,
     }
 }
 
 /// A name of 1 to 10 bytes, filled with spaces.
-#[tactic(auto, unfolding(crate::specs::EditLines::name_said))]
+#[tactic(auto, unfolding(crate::specs::EditLines::parsed_name))]
 fn read_name(text: &[u8]) -> Option<[u8; 10]>
-    ensures said { result ≡ name_said text.now }
+    ensures parsed { result ≡ parsed_name text.now }
     ensures sound { IfSome result (λ name. first_high name ≡ None) }
 {
     if is_name(text) {

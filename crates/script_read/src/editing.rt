@@ -4,11 +4,11 @@ ghost use Rattle.std.specs.Prelude.{◌≡◌, ◌≤◌, None, IfErr, IfOk};
 ghost use Rattle.command_set.specs.Command.{IsInRange, content};
 ghost use Rattle.editor.specs.Names.{first_high};
 ghost use Rattle.script_read.specs.EditLines.{Loads, Redoes, Renames, Sets, Undoes};
-ghost use Rattle.script_read.specs.EditSays.{IsSoundAsk, asks};
+ghost use Rattle.script_read.specs.EditData.{IsSoundRequest, request_data};
 ghost use Rattle.script_read.specs.Edits.{Becomes, answered};
 ghost use Rattle.script_read.specs.EditReading.{IsRefusal};
 
-use crate::edit_line::{Ask, EditLine};
+use crate::edit_line::{EditLine, EditRequest};
 use crate::progress::{fault_of_block, refused};
 use command_set::Command;
 use editor::{EditFault, Editor};
@@ -20,7 +20,7 @@ use voice_record::{Voice, greatest};
 /// How many acts can be undone.
 const DEPTH: usize = 100;
 
-/// Where the reader of edits stands behind some lines.
+/// Where the reader of edits stands after some lines.
 #[derive(Drop)]
 pub(crate) struct Editing {
     pub(crate) editor: Editor,
@@ -33,15 +33,15 @@ pub(crate) struct Editing {
 
 impl Editing {
     ghost use Rattle.std.specs.Prelude.{ℕ, List, Option, ◌≡◌, ◌+◌, ◌^◌, ◌-◌, ◌<◌, [], ◌∷◌, ◌++◌, IfErr, IfOk, OnOk};
-    ghost use Rattle.script_read.specs.EditLines.{Asks, Bad, EditSaid, Passed};
-    ghost use Rattle.script_read.specs.EditSays.{IsSoundAsk, IsSoundLine, asks, edit_says};
-    ghost use Rattle.script_read.specs.Edits.{edits_behind};
+    ghost use Rattle.script_read.specs.EditLines.{Requests, Bad, ParsedEdit, Passed};
+    ghost use Rattle.script_read.specs.EditData.{IsSoundRequest, IsSoundLine, request_data, edit_data};
+    ghost use Rattle.script_read.specs.Edits.{edits_after};
     ghost use Rattle.script_read.specs.EditReading.{HasEditOrder, IsEditing};
     ghost use Rattle.script_outcome.specs.Reading.{Stops};
 
-    /// Before the line behind the first, with the opening voice. It takes the memory that an editor needs.
+    /// Before the line after the first, with the opening voice. It takes the memory that an editor needs.
     pub(crate) fn new(alloc: Global) -> Result<Editing, AllocError>
-        ensures behind { IfOk result (λ p. (blocks : Option ℕ) → IsEditing p blocks []) }
+        ensures after { IfOk result (λ p. (blocks : Option ℕ) → IsEditing p blocks []) }
         ensures order { IfOk result (λ p. (room : ℕ) → HasEditOrder p room) }
         ensures number { IfOk result (λ p. p.number ≡ 2) }
     {
@@ -56,28 +56,31 @@ impl Editing {
         }
     }
 
-    /// Takes what the next line says.
-    pub(crate) fn take(
+    /// Applies the next line.
+    pub(crate) fn apply(
         &mut self,
         alloc: Global,
-        said: EditLine,
+        parsed: EditLine,
         bounds: Bounds,
     ) -> Result<(), ScriptFault>
         requires order { HasEditOrder self.old bounds.room }
         requires number { self.old.number < 2 ^ 32 - 1 }
-        requires sound { IsSoundLine said }
-        ensures behind { OnOk result ((lines : List EditSaid) → IsEditing self.old bounds.blocks lines → IsEditing self.new bounds.blocks (lines ++ edit_says said ∷ [])) }
+        requires sound { IsSoundLine parsed }
+        ensures after { OnOk result ((lines : List ParsedEdit) → IsEditing self.old bounds.blocks lines
+            → IsEditing self.new bounds.blocks (lines ++ edit_data parsed ∷ [])) }
         ensures order { OnOk result (HasEditOrder self.new bounds.room) }
         ensures number { OnOk result (self.new.number ≡ self.old.number + 1) }
-        ensures stops { IfErr result (λ why. (lines : List EditSaid) → IsEditing self.old bounds.blocks lines
-            → Stops why bounds.room (edits_behind bounds.blocks [] (lines ++ edit_says said ∷ []))) }
+        ensures stops { IfErr result (λ why. (lines : List ParsedEdit) → IsEditing self.old bounds.blocks lines
+            → Stops why bounds.room (edits_after bounds.blocks [] (lines ++ edit_data parsed ∷ []))) }
     {
-        match said {
+        match parsed {
             EditLine::Blank => {
                 self.pass_over();
                 Ok(())
             }
-            EditLine::Asks { block, ask } => self.take_ask(alloc, block, ask, bounds),
+            EditLine::Requests { block, request } => self.apply_request(
+                alloc, block, request, bounds,
+            ),
             EditLine::Wrong => Err(self.refuse()),
         }
     }
@@ -85,7 +88,8 @@ impl Editing {
     /// Passes over the next line.
     fn pass_over(&mut self)
         requires { self.old.number < 2 ^ 32 - 1 }
-        ensures behind { (blocks : Option ℕ) (lines : List EditSaid) → IsEditing self.old blocks lines → IsEditing self.new blocks (lines ++ Passed ∷ []) }
+        ensures after { (blocks : Option ℕ) (lines : List ParsedEdit) → IsEditing self.old blocks lines
+            → IsEditing self.new blocks (lines ++ Passed ∷ []) }
         ensures order { (room : ℕ) → HasEditOrder self.old room → HasEditOrder self.new room }
         ensures number { self.new.number ≡ self.old.number + 1 }
     {
@@ -94,34 +98,35 @@ impl Editing {
 
     /// The refusal of a next line that isn't of the grammar.
     fn refuse(&self) -> ScriptFault
-        ensures { (blocks : Option ℕ) (room : ℕ) (lines : List EditSaid) → IsEditing self.now blocks lines → HasEditOrder self.now room
-            → Stops result room (edits_behind blocks [] (lines ++ Bad ∷ [])) }
+        ensures { (blocks : Option ℕ) (room : ℕ) (lines : List ParsedEdit) → IsEditing self.now blocks lines → HasEditOrder self.now room
+            → Stops result room (edits_after blocks [] (lines ++ Bad ∷ [])) }
     {
         refused(self.number, ScriptKind::Line)
     }
 
-    /// Takes what is asked for at a block.
-    fn take_ask(
+    /// Applies a request at a block.
+    fn apply_request(
         &mut self,
         alloc: Global,
         block: u32,
-        ask: Ask,
+        request: EditRequest,
         bounds: Bounds,
     ) -> Result<(), ScriptFault>
         requires order { HasEditOrder self.old bounds.room }
         requires number { self.old.number < 2 ^ 32 - 1 }
-        requires sound { IsSoundAsk ask }
-        ensures behind { OnOk result ((lines : List EditSaid) → IsEditing self.old bounds.blocks lines → IsEditing self.new bounds.blocks (lines ++ Asks block (asks ask) ∷ [])) }
+        requires sound { IsSoundRequest request }
+        ensures after { OnOk result ((lines : List ParsedEdit) → IsEditing self.old bounds.blocks lines
+            → IsEditing self.new bounds.blocks (lines ++ Requests block (request_data request) ∷ [])) }
         ensures order { OnOk result (HasEditOrder self.new bounds.room) }
         ensures number { OnOk result (self.new.number ≡ self.old.number + 1) }
-        ensures stops { IfErr result (λ why. (lines : List EditSaid) → IsEditing self.old bounds.blocks lines
-            → Stops why bounds.room (edits_behind bounds.blocks [] (lines ++ Asks block (asks ask) ∷ []))) }
+        ensures stops { IfErr result (λ why. (lines : List ParsedEdit) → IsEditing self.old bounds.blocks lines
+            → Stops why bounds.room (edits_after bounds.blocks [] (lines ++ Requests block (request_data request) ∷ []))) }
     {
         match fault_of_block(block, self.least, bounds) {
             Some(kind) => return Err(refused(self.number, kind)),
             None => {}
         }
-        let command = match answer(alloc, &mut self.editor, ask, self.number) {
+        let command = match answer(alloc, &mut self.editor, request, self.number) {
             Ok(command) => command,
             Err(fault) => return Err(fault),
         };
@@ -138,19 +143,24 @@ impl Editing {
 
 /// What the editor answers. A refusal names the line.
 #[tactic(auto, unfolding(crate::specs::Edits::answered))]
-fn answer(alloc: Global, editor: &mut Editor, ask: Ask, line: u32) -> Result<Command, ScriptFault>
-    requires { IsSoundAsk ask }
-    ensures answered { IfOk result (λ command. answered editor.old (asks ask) ≡ Becomes editor.new (content command)) }
+fn answer(
+    alloc: Global,
+    editor: &mut Editor,
+    request: EditRequest,
+    line: u32,
+) -> Result<Command, ScriptFault>
+    requires { IsSoundRequest request }
+    ensures answered { IfOk result (λ command. answered editor.old (request_data request) ≡ Becomes editor.new (content command)) }
     ensures range { IfOk result (λ command. IsInRange (content command)) }
-    ensures refused { IfErr result (λ why. IsRefusal why (Place.Line line) (answered editor.old (asks ask))) }
+    ensures refused { IfErr result (λ why. IsRefusal why (Place.Line line) (answered editor.old (request_data request))) }
 {
-    match ask {
-        Ask::Set { number, value } => set(editor, number, value, line),
-        Ask::Undo => undo(alloc, editor, line),
-        Ask::Redo => redo(alloc, editor, line),
-        Ask::Rename(name) => rename(alloc, editor, &name),
-        Ask::Load(voice) => load(alloc, editor, &voice),
-        Ask::Store { slot } => Ok(Command::Store { slot }),
+    match request {
+        EditRequest::Set { number, value } => set(editor, number, value, line),
+        EditRequest::Undo => undo(alloc, editor, line),
+        EditRequest::Redo => redo(alloc, editor, line),
+        EditRequest::Rename(name) => rename(alloc, editor, &name),
+        EditRequest::Load(voice) => load(alloc, editor, &voice),
+        EditRequest::Store { slot } => Ok(Command::Store { slot }),
     }
 }
 

@@ -2,7 +2,8 @@
 
 ghost use Rattle.std.specs.Prelude.{◌≡◌, [], ◌∷◌, option_map, IfOk, IfSome};
 ghost use Rattle.script_read.specs.Words.{number_to, words_of};
-ghost use Rattle.script_read.specs.Grammar.{both, cartridge_said, command_said, control_said, on_said, param_said, three_said, two_said, voice_said};
+ghost use Rattle.script_read.specs.Grammar.{both, parsed_cartridge, parsed_command, parsed_control, parsed_on, parsed_param};
+ghost use Rattle.script_read.specs.Grammar.{parsed_three, parsed_two, parsed_voice};
 ghost use Rattle.command_set.specs.Command.{Bends, EndsNote, IsInRange, PicksProgram, StoresVoice, content};
 
 use crate::words::{next_word, read_number};
@@ -12,13 +13,13 @@ use std::alloc::{AllocError, Global};
 use voice_record::greatest;
 
 /// The command of a kind and one word.
-#[tactic(auto, unfolding(crate::specs::Grammar::one_said, crate::specs::Grammar::command_said))]
+#[tactic(auto, unfolding(crate::specs::Grammar::parsed_one, crate::specs::Grammar::parsed_command))]
 pub(crate) fn read_one(
     alloc: Global,
     kind: &[u8],
     word: &[u8],
 ) -> Result<Option<Command>, AllocError>
-    ensures said { IfOk result (λ found. option_map content found ≡ command_said (kind.now ∷ word.now ∷ [])) }
+    ensures parsed { IfOk result (λ found. option_map content found ≡ parsed_command (kind.now ∷ word.now ∷ [])) }
     ensures range { IfOk result (λ found. IfSome found (λ command. IsInRange (content command))) }
 {
     if is_word(kind, b"store") {
@@ -33,7 +34,7 @@ pub(crate) fn read_one(
 }
 
 fn read_store(word: &[u8]) -> Option<Command>
-    ensures said { option_map content result ≡ option_map StoresVoice (number_to 31 word.now) }
+    ensures parsed { option_map content result ≡ option_map StoresVoice (number_to 31 word.now) }
     ensures range { IfSome result (λ command. IsInRange (content command)) }
 {
     match read_number(word, 31) {
@@ -44,7 +45,7 @@ fn read_store(word: &[u8]) -> Option<Command>
 
 /// The voice of a word of hex digits.
 pub(crate) fn voice_of(alloc: Global, word: &[u8]) -> Result<Option<Command>, AllocError>
-    ensures said { IfOk result (λ found. option_map content found ≡ voice_said word.now) }
+    ensures parsed { IfOk result (λ found. option_map content found ≡ parsed_voice word.now) }
     ensures range { IfOk result (λ found. IfSome found (λ command. IsInRange (content command))) }
 {
     match read_voice(alloc, word) {
@@ -56,7 +57,7 @@ pub(crate) fn voice_of(alloc: Global, word: &[u8]) -> Result<Option<Command>, Al
 
 /// The cartridge of a word of hex digits.
 fn cartridge_of(alloc: Global, word: &[u8]) -> Result<Option<Command>, AllocError>
-    ensures said { IfOk result (λ found. option_map content found ≡ cartridge_said word.now) }
+    ensures parsed { IfOk result (λ found. option_map content found ≡ parsed_cartridge word.now) }
     ensures range { IfOk result (λ found. IfSome found (λ command. IsInRange (content command))) }
 {
     match read_cartridge(alloc, word) {
@@ -67,9 +68,9 @@ fn cartridge_of(alloc: Global, word: &[u8]) -> Result<Option<Command>, AllocErro
 }
 
 /// The command of a kind, two words and those of what is left of the line.
-#[tactic(auto, unfolding(crate::specs::Grammar::command_said))]
+#[tactic(auto, unfolding(crate::specs::Grammar::parsed_command))]
 pub(crate) fn read_more(kind: &[u8], first: &[u8], second: &[u8], rest: &[u8]) -> Option<Command>
-    ensures said { option_map content result ≡ command_said (kind.now ∷ first.now ∷ second.now ∷ words_of rest.now) }
+    ensures parsed { option_map content result ≡ parsed_command (kind.now ∷ first.now ∷ second.now ∷ words_of rest.now) }
     ensures range { IfSome result (λ command. IsInRange (content command)) }
 {
     match next_word(rest) {
@@ -81,9 +82,9 @@ pub(crate) fn read_more(kind: &[u8], first: &[u8], second: &[u8], rest: &[u8]) -
     }
 }
 
-#[tactic(auto, unfolding(crate::specs::Grammar::two_said))]
+#[tactic(auto, unfolding(crate::specs::Grammar::parsed_two))]
 fn read_two(kind: &[u8], first: &[u8], second: &[u8]) -> Option<Command>
-    ensures said { option_map content result ≡ two_said kind.now first.now second.now }
+    ensures parsed { option_map content result ≡ parsed_two kind.now first.now second.now }
     ensures range { IfSome result (λ command. IsInRange (content command)) }
 {
     if is_word(kind, b"off") {
@@ -100,7 +101,7 @@ fn read_two(kind: &[u8], first: &[u8], second: &[u8]) -> Option<Command>
 }
 
 fn read_off(channel: &[u8], key: &[u8]) -> Option<Command>
-    ensures said { option_map content result ≡ both EndsNote (number_to 15 channel.now) (number_to 127 key.now) }
+    ensures parsed { option_map content result ≡ both EndsNote (number_to 15 channel.now) (number_to 127 key.now) }
     ensures range { IfSome result (λ command. IsInRange (content command)) }
 {
     let channel = read_number(channel, 15)?;
@@ -112,7 +113,7 @@ fn read_off(channel: &[u8], key: &[u8]) -> Option<Command>
 }
 
 fn read_bend(channel: &[u8], value: &[u8]) -> Option<Command>
-    ensures said { option_map content result ≡ both Bends (number_to 15 channel.now) (number_to 16383 value.now) }
+    ensures parsed { option_map content result ≡ both Bends (number_to 15 channel.now) (number_to 16383 value.now) }
     ensures range { IfSome result (λ command. IsInRange (content command)) }
 {
     let channel = read_number(channel, 15)?;
@@ -124,7 +125,7 @@ fn read_bend(channel: &[u8], value: &[u8]) -> Option<Command>
 }
 
 fn read_program(channel: &[u8], number: &[u8]) -> Option<Command>
-    ensures said { option_map content result ≡ both PicksProgram (number_to 15 channel.now) (number_to 127 number.now) }
+    ensures parsed { option_map content result ≡ both PicksProgram (number_to 15 channel.now) (number_to 127 number.now) }
     ensures range { IfSome result (λ command. IsInRange (content command)) }
 {
     let channel = read_number(channel, 15)?;
@@ -136,7 +137,7 @@ fn read_program(channel: &[u8], number: &[u8]) -> Option<Command>
 }
 
 fn read_param(number: &[u8], value: &[u8]) -> Option<Command>
-    ensures said { option_map content result ≡ param_said value.now (number_to 155 number.now) }
+    ensures parsed { option_map content result ≡ parsed_param value.now (number_to 155 number.now) }
     ensures range { IfSome result (λ command. IsInRange (content command)) }
 {
     let number = read_number(number, 155)? as u8;
@@ -147,9 +148,9 @@ fn read_param(number: &[u8], value: &[u8]) -> Option<Command>
     })
 }
 
-#[tactic(auto, unfolding(crate::specs::Grammar::three_said))]
+#[tactic(auto, unfolding(crate::specs::Grammar::parsed_three))]
 fn read_three(kind: &[u8], first: &[u8], second: &[u8], third: &[u8]) -> Option<Command>
-    ensures said { option_map content result ≡ three_said kind.now first.now second.now third.now }
+    ensures parsed { option_map content result ≡ parsed_three kind.now first.now second.now third.now }
     ensures range { IfSome result (λ command. IsInRange (content command)) }
 {
     if is_word(kind, b"on") {
@@ -162,7 +163,7 @@ fn read_three(kind: &[u8], first: &[u8], second: &[u8], third: &[u8]) -> Option<
 }
 
 fn read_on(channel: &[u8], key: &[u8], velocity: &[u8]) -> Option<Command>
-    ensures said { option_map content result ≡ on_said (number_to 15 channel.now) (number_to 127 key.now) (number_to 127 velocity.now) }
+    ensures parsed { option_map content result ≡ parsed_on (number_to 15 channel.now) (number_to 127 key.now) (number_to 127 velocity.now) }
     ensures range { IfSome result (λ command. IsInRange (content command)) }
 {
     let channel = read_number(channel, 15)?;
@@ -179,7 +180,7 @@ fn read_on(channel: &[u8], key: &[u8], velocity: &[u8]) -> Option<Command>
 }
 
 fn read_control(channel: &[u8], number: &[u8], value: &[u8]) -> Option<Command>
-    ensures said { option_map content result ≡ control_said (number_to 15 channel.now) (number_to 127 number.now) (number_to 127 value.now) }
+    ensures parsed { option_map content result ≡ parsed_control (number_to 15 channel.now) (number_to 127 number.now) (number_to 127 value.now) }
     ensures range { IfSome result (λ command. IsInRange (content command)) }
 {
     let channel = read_number(channel, 15)?;

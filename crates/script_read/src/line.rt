@@ -2,9 +2,9 @@
 
 ghost use Rattle.std.specs.Prelude.{◌≡◌, [], ◌∷◌, option_map, IfOk, IfSome};
 ghost use Rattle.script_read.specs.Words.{hex_bytes, words_of};
-ghost use Rattle.script_read.specs.Grammar.{command_said};
-ghost use Rattle.script_read.specs.Lines.{block_said, fed, is_comment, map_said, one_word_said, ordered, said, said_at, words_said};
-ghost use Rattle.script_read.specs.Says.{IsSound, says};
+ghost use Rattle.script_read.specs.Grammar.{parsed_command};
+ghost use Rattle.script_read.specs.Lines.{parsed_block, fed, is_comment, parsed_map, parsed_one_word, ordered, parsed, parsed_at, parsed_words};
+ghost use Rattle.script_read.specs.LineData.{IsSound, line_data};
 ghost use Rattle.command_set.specs.Command.{IsInRange, content};
 
 use crate::grammar::{read_more, read_one};
@@ -15,12 +15,12 @@ use plain_text::is_word;
 use std::alloc::{AllocError, Global};
 use velocity_map::Curve;
 
-/// What a line says.
+/// A parsed line.
 #[derive(Drop)]
 pub(crate) enum Line {
     /// Nothing: it is passed over.
     Blank,
-    /// The curve of the lines behind it.
+    /// The curve of the lines after it.
     Map(Curve),
     /// A command at a block, before its curve.
     Command { block: u32, command: Command },
@@ -31,9 +31,9 @@ pub(crate) enum Line {
 }
 
 /// Reads a line, without its line feed.
-#[tactic(auto, unfolding(crate::specs::Lines::said))]
+#[tactic(auto, unfolding(crate::specs::Lines::parsed))]
 pub(crate) fn read_line(alloc: Global, line: &[u8]) -> Result<Line, AllocError>
-    ensures said { IfOk result (λ found. says found ≡ said line.now) }
+    ensures parsed { IfOk result (λ found. line_data found ≡ parsed line.now) }
     ensures sound { IfOk result IsSound }
 {
     if starts_comment(line) {
@@ -53,9 +53,9 @@ pub(crate) fn starts_comment(line: &[u8]) -> bool
     }
 }
 
-#[tactic(auto, unfolding(crate::specs::Lines::words_said))]
+#[tactic(auto, unfolding(crate::specs::Lines::parsed_words))]
 fn read_words(alloc: Global, line: &[u8]) -> Result<Line, AllocError>
-    ensures said { IfOk result (λ found. says found ≡ words_said (words_of line.now)) }
+    ensures parsed { IfOk result (λ found. line_data found ≡ parsed_words (words_of line.now)) }
     ensures sound { IfOk result IsSound }
 {
     match next_word(line) {
@@ -75,7 +75,7 @@ fn read_words(alloc: Global, line: &[u8]) -> Result<Line, AllocError>
 
 /// The name of a curve.
 fn read_map(words: &[u8]) -> Line
-    ensures said { says result ≡ map_said (words_of words.now) }
+    ensures parsed { line_data result ≡ parsed_map (words_of words.now) }
     ensures sound { IsSound result }
 {
     match next_word(words) {
@@ -88,7 +88,7 @@ fn read_map(words: &[u8]) -> Line
 }
 
 fn read_curve(name: &[u8]) -> Line
-    ensures said { says result ≡ map_said (name.now ∷ []) }
+    ensures parsed { line_data result ≡ parsed_map (name.now ∷ []) }
     ensures sound { IsSound result }
 {
     if is_word(name, b"linear") {
@@ -102,29 +102,29 @@ fn read_curve(name: &[u8]) -> Line
     }
 }
 
-/// What stands behind a block.
+/// What stands after a block.
 fn read_at(alloc: Global, block: u32, words: &[u8]) -> Result<Line, AllocError>
-    ensures said { IfOk result (λ found. says found ≡ said_at block (words_of words.now)) }
+    ensures parsed { IfOk result (λ found. line_data found ≡ parsed_at block (words_of words.now)) }
     ensures sound { IfOk result IsSound }
 {
     match next_word(words) {
         None => Ok(Line::Wrong),
         Some((kind, rest)) => match next_word(rest) {
             None => Ok(Line::Wrong),
-            Some((first, rest)) => read_behind(alloc, block, kind, first, rest),
+            Some((first, rest)) => read_after(alloc, block, kind, first, rest),
         },
     }
 }
 
-/// What stands behind a block, by its first two words and those of what is left of the line.
-fn read_behind(
+/// What stands after a block, by its first two words and those of what is left of the line.
+fn read_after(
     alloc: Global,
     block: u32,
     kind: &[u8],
     first: &[u8],
     rest: &[u8],
 ) -> Result<Line, AllocError>
-    ensures said { IfOk result (λ found. says found ≡ said_at block (kind.now ∷ first.now ∷ words_of rest.now)) }
+    ensures parsed { IfOk result (λ found. line_data found ≡ parsed_at block (kind.now ∷ first.now ∷ words_of rest.now)) }
     ensures sound { IfOk result IsSound }
 {
     match next_word(rest) {
@@ -135,7 +135,7 @@ fn read_behind(
 
 /// A kind and one word.
 fn read_word(alloc: Global, block: u32, kind: &[u8], word: &[u8]) -> Result<Line, AllocError>
-    ensures said { IfOk result (λ found. says found ≡ one_word_said block kind.now word.now) }
+    ensures parsed { IfOk result (λ found. line_data found ≡ parsed_one_word block kind.now word.now) }
     ensures sound { IfOk result IsSound }
 {
     if is_word(kind, b"bytes") {
@@ -150,7 +150,7 @@ fn read_word(alloc: Global, block: u32, kind: &[u8], word: &[u8]) -> Result<Line
 /// The line of a command, where there is one.
 fn line_of(block: u32, command: Option<Command>) -> Line
     requires { IfSome command (λ command. IsInRange (content command)) }
-    ensures said { says result ≡ ordered block (option_map content command) }
+    ensures parsed { line_data result ≡ ordered block (option_map content command) }
     ensures sound { IsSound result }
 {
     match command {
@@ -162,7 +162,7 @@ fn line_of(block: u32, command: Option<Command>) -> Line
 /// The line of MIDI bytes, where the word is pairs of hex digits.
 #[tactic(auto, unfolding(crate::specs::Words::hex_bytes))]
 fn read_bytes(alloc: Global, block: u32, word: &[u8]) -> Result<Line, AllocError>
-    ensures said { IfOk result (λ found. says found ≡ fed block (hex_bytes word.now)) }
+    ensures parsed { IfOk result (λ found. line_data found ≡ fed block (hex_bytes word.now)) }
     ensures sound { IfOk result IsSound }
 {
     match hex::decode(alloc, word) {

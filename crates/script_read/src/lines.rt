@@ -2,10 +2,10 @@
 
 ghost use Rattle.std.specs.Prelude.{ℕ, List, ◌≡◌, ◌+◌, ◌≤◌, ◌<◌, ◌^◌, ◌-◌, ◌==◌, [], ◌∷◌, ◌++◌, length, slice_index, IfErr, IsTrue, OnOk};
 ghost use Rattle.script_read.specs.Words.{lines_of, without_return};
-ghost use Rattle.script_read.specs.Lines.{Said, said, sayings};
-ghost use Rattle.script_read.specs.Outcomes.{outcomes_behind, text_outcomes};
+ghost use Rattle.script_read.specs.Lines.{ParsedLine, parsed, parsed_lines};
+ghost use Rattle.script_read.specs.Outcomes.{outcomes_after, text_outcomes};
 ghost use Rattle.script_outcome.specs.Reading.{Settles, Stops};
-ghost use Rattle.script_read.specs.Reading.{HasOrder, IsBehind};
+ghost use Rattle.script_read.specs.Reading.{HasOrder, IsAfter};
 
 use crate::line::read_line;
 use crate::progress::Progress;
@@ -34,7 +34,7 @@ fn has_return(line: &[u8]) -> bool
     !line.is_empty() && line[line.len() - 1] == b'\r'
 }
 
-/// Reads the lines behind the first one.
+/// Reads the lines after the first one.
 pub(crate) fn read_lines(
     alloc: Global,
     text: &[u8],
@@ -42,28 +42,28 @@ pub(crate) fn read_lines(
     bounds: Bounds,
 ) -> Result<Script, ScriptFault>
     requires { length text.now ≤ 536870912 }
-    ensures { Settles result bounds.room (text_outcomes bounds.blocks (sayings (lines_of text.now))) }
+    ensures { Settles result bounds.room (text_outcomes bounds.blocks (parsed_lines (lines_of text.now))) }
 {
     let mut progress = match Progress::new(alloc) {
         Ok(progress) => progress,
         Err(_) => return Err(ScriptFault::Memory),
     };
     let mut rest = text;
-    while let Some((line, behind)) = split_once(rest, b'\n') {
-        match take_line(alloc, &mut progress, without_return(line), maps, bounds) {
+    while let Some((line, after)) = split_once(rest, b'\n') {
+        match apply_line(alloc, &mut progress, without_return(line), maps, bounds) {
             Ok(()) => {}
             Err(fault) => return Err(fault),
         }
-        rest = behind;
+        rest = after;
     }
-    match take_line(alloc, &mut progress, rest, maps, bounds) {
+    match apply_line(alloc, &mut progress, rest, maps, bounds) {
         Ok(()) => progress.end(),
         Err(fault) => Err(fault),
     }
 }
 
-/// Takes the next line.
-fn take_line(
+/// Reads the next line and applies it.
+fn apply_line(
     alloc: Global,
     progress: &mut Progress,
     line: &[u8],
@@ -72,14 +72,15 @@ fn take_line(
 ) -> Result<(), ScriptFault>
     requires order { HasOrder progress.old bounds.room }
     requires number { progress.old.number < 2 ^ 32 - 1 }
-    ensures behind { OnOk result ((lines : List Said) → IsBehind progress.old bounds.blocks lines → IsBehind progress.new bounds.blocks (lines ++ said line.now ∷ [])) }
+    ensures after { OnOk result ((lines : List ParsedLine) → IsAfter progress.old bounds.blocks lines
+        → IsAfter progress.new bounds.blocks (lines ++ parsed line.now ∷ [])) }
     ensures order { OnOk result (HasOrder progress.new bounds.room) }
     ensures number { OnOk result (progress.new.number ≡ progress.old.number + 1) }
-    ensures stops { IfErr result (λ why. (lines : List Said) → IsBehind progress.old bounds.blocks lines
-        → Stops why bounds.room (outcomes_behind bounds.blocks [] (lines ++ said line.now ∷ []))) }
+    ensures stops { IfErr result (λ why. (lines : List ParsedLine) → IsAfter progress.old bounds.blocks lines
+        → Stops why bounds.room (outcomes_after bounds.blocks [] (lines ++ parsed line.now ∷ []))) }
 {
     match read_line(alloc, line) {
-        Ok(said) => progress.take(alloc, said, maps, bounds),
+        Ok(parsed) => progress.apply(alloc, parsed, maps, bounds),
         Err(_) => Err(ScriptFault::Memory),
     }
 }

@@ -7,12 +7,12 @@ ghost use Rattle.script_read.specs.Outcomes.{curved, time_fault};
 
 use crate::line::Line;
 use command_set::Command;
-use script_outcome::{Bounds, Feed, Place, ScriptFault, ScriptKind, Spot, give, take_all};
+use script_outcome::{Bounds, Feed, Place, ScriptFault, ScriptKind, Spot, give, read_bytes};
 use script_plan::Script;
 use std::alloc::{AllocError, Global};
 use velocity_map::{Curve, MapSet, VelocityMap};
 
-/// Where the reader of a text stands behind some lines.
+/// Where the reader of a text stands after some lines.
 #[derive(Drop)]
 pub(crate) struct Progress {
     pub(crate) feed: Feed,
@@ -31,15 +31,15 @@ impl Progress {
     ghost use Rattle.midi_stream.specs.Messages.{is_unfinished};
     ghost use Rattle.midi_stream.specs.Reading.{Reads};
     ghost use Rattle.command_set.specs.Command.{IsInRange, content};
-    ghost use Rattle.script_read.specs.Lines.{Said, Blank, Feeds, Maps, Orders, Wrong};
-    ghost use Rattle.script_read.specs.Says.{IsSound, says};
-    ghost use Rattle.script_read.specs.Outcomes.{outcomes_behind};
+    ghost use Rattle.script_read.specs.Lines.{ParsedLine, Blank, Feeds, Maps, Orders, Wrong};
+    ghost use Rattle.script_read.specs.LineData.{IsSound, line_data};
+    ghost use Rattle.script_read.specs.Outcomes.{outcomes_after};
     ghost use Rattle.script_outcome.specs.Reading.{Stops};
-    ghost use Rattle.script_read.specs.Reading.{HasOrder, IsBehind};
+    ghost use Rattle.script_read.specs.Reading.{HasOrder, IsAfter};
 
-    /// Before the line behind the first. It takes the memory that a reader of MIDI bytes needs.
+    /// Before the line after the first. It takes the memory that a reader of MIDI bytes needs.
     pub(crate) fn new(alloc: Global) -> Result<Progress, AllocError>
-        ensures behind { IfOk result (λ p. (blocks : Option ℕ) → IsBehind p blocks []) }
+        ensures after { IfOk result (λ p. (blocks : Option ℕ) → IsAfter p blocks []) }
         ensures order { IfOk result (λ p. (room : ℕ) → HasOrder p room) }
         ensures number { IfOk result (λ p. p.number ≡ 2) }
     {
@@ -55,24 +55,25 @@ impl Progress {
         }
     }
 
-    /// Takes what the next line says.
-    pub(crate) fn take(
+    /// Applies the next line.
+    pub(crate) fn apply(
         &mut self,
         alloc: Global,
-        said: Line,
+        parsed: Line,
         maps: &MapSet,
         bounds: Bounds,
     ) -> Result<(), ScriptFault>
         requires order { HasOrder self.old bounds.room }
         requires number { self.old.number < 2 ^ 32 - 1 }
-        requires sound { IsSound said }
-        ensures behind { OnOk result ((lines : List Said) → IsBehind self.old bounds.blocks lines → IsBehind self.new bounds.blocks (lines ++ says said ∷ [])) }
+        requires sound { IsSound parsed }
+        ensures after { OnOk result ((lines : List ParsedLine) → IsAfter self.old bounds.blocks lines
+            → IsAfter self.new bounds.blocks (lines ++ line_data parsed ∷ [])) }
         ensures order { OnOk result (HasOrder self.new bounds.room) }
         ensures number { OnOk result (self.new.number ≡ self.old.number + 1) }
-        ensures stops { IfErr result (λ why. (lines : List Said) → IsBehind self.old bounds.blocks lines
-            → Stops why bounds.room (outcomes_behind bounds.blocks [] (lines ++ says said ∷ []))) }
+        ensures stops { IfErr result (λ why. (lines : List ParsedLine) → IsAfter self.old bounds.blocks lines
+            → Stops why bounds.room (outcomes_after bounds.blocks [] (lines ++ line_data parsed ∷ []))) }
     {
-        match said {
+        match parsed {
             Line::Blank => {
                 self.pass_over();
                 Ok(())
@@ -81,8 +82,8 @@ impl Progress {
                 self.set_curve(curve);
                 Ok(())
             }
-            Line::Command { block, command } => self.take_command(block, command, maps, bounds),
-            Line::Bytes { block, bytes } => self.take_bytes(alloc, block, &bytes, maps, bounds),
+            Line::Command { block, command } => self.add_command(block, command, maps, bounds),
+            Line::Bytes { block, bytes } => self.add_bytes(alloc, block, &bytes, maps, bounds),
             Line::Wrong => Err(self.refuse()),
         }
     }
@@ -90,17 +91,19 @@ impl Progress {
     /// Passes over the next line.
     fn pass_over(&mut self)
         requires { self.old.number < 2 ^ 32 - 1 }
-        ensures behind { (blocks : Option ℕ) (lines : List Said) → IsBehind self.old blocks lines → IsBehind self.new blocks (lines ++ Blank ∷ []) }
+        ensures after { (blocks : Option ℕ) (lines : List ParsedLine) → IsAfter self.old blocks lines
+            → IsAfter self.new blocks (lines ++ Blank ∷ []) }
         ensures order { (room : ℕ) → HasOrder self.old room → HasOrder self.new room }
         ensures number { self.new.number ≡ self.old.number + 1 }
     {
         self.number += 1;
     }
 
-    /// Takes the curve of the lines behind the next one.
+    /// Sets the curve of the lines after the next one.
     fn set_curve(&mut self, curve: Curve)
         requires { self.old.number < 2 ^ 32 - 1 }
-        ensures behind { (blocks : Option ℕ) (lines : List Said) → IsBehind self.old blocks lines → IsBehind self.new blocks (lines ++ Maps curve ∷ []) }
+        ensures after { (blocks : Option ℕ) (lines : List ParsedLine) → IsAfter self.old blocks lines
+            → IsAfter self.new blocks (lines ++ Maps curve ∷ []) }
         ensures order { (room : ℕ) → HasOrder self.old room → HasOrder self.new room }
         ensures number { self.new.number ≡ self.old.number + 1 }
     {
@@ -110,14 +113,14 @@ impl Progress {
 
     /// The refusal of a next line that isn't of the grammar.
     fn refuse(&self) -> ScriptFault
-        ensures { (blocks : Option ℕ) (room : ℕ) (lines : List Said) → IsBehind self.now blocks lines → HasOrder self.now room
-            → Stops result room (outcomes_behind blocks [] (lines ++ Wrong ∷ [])) }
+        ensures { (blocks : Option ℕ) (room : ℕ) (lines : List ParsedLine) → IsAfter self.now blocks lines → HasOrder self.now room
+            → Stops result room (outcomes_after blocks [] (lines ++ Wrong ∷ [])) }
     {
         refused(self.number, ScriptKind::Line)
     }
 
-    /// Takes a command at a block.
-    fn take_command(
+    /// Adds a command at a block.
+    fn add_command(
         &mut self,
         block: u32,
         command: Command,
@@ -127,11 +130,12 @@ impl Progress {
         requires order { HasOrder self.old bounds.room }
         requires number { self.old.number < 2 ^ 32 - 1 }
         requires range { IsInRange (content command) }
-        ensures behind { OnOk result ((lines : List Said) → IsBehind self.old bounds.blocks lines → IsBehind self.new bounds.blocks (lines ++ Orders block (content command) ∷ [])) }
+        ensures after { OnOk result ((lines : List ParsedLine) → IsAfter self.old bounds.blocks lines
+            → IsAfter self.new bounds.blocks (lines ++ Orders block (content command) ∷ [])) }
         ensures order { OnOk result (HasOrder self.new bounds.room) }
         ensures number { OnOk result (self.new.number ≡ self.old.number + 1) }
-        ensures stops { IfErr result (λ why. (lines : List Said) → IsBehind self.old bounds.blocks lines
-            → Stops why bounds.room (outcomes_behind bounds.blocks [] (lines ++ Orders block (content command) ∷ []))) }
+        ensures stops { IfErr result (λ why. (lines : List ParsedLine) → IsAfter self.old bounds.blocks lines
+            → Stops why bounds.room (outcomes_after bounds.blocks [] (lines ++ Orders block (content command) ∷ []))) }
     {
         match fault_of_block(block, self.least, bounds) {
             Some(kind) => return Err(refused(self.number, kind)),
@@ -148,8 +152,8 @@ impl Progress {
         }
     }
 
-    /// Takes MIDI bytes at a block.
-    fn take_bytes(
+    /// Adds what comes of MIDI bytes at a block.
+    fn add_bytes(
         &mut self,
         alloc: Global,
         block: u32,
@@ -159,11 +163,12 @@ impl Progress {
     ) -> Result<(), ScriptFault>
         requires order { HasOrder self.old bounds.room }
         requires number { self.old.number < 2 ^ 32 - 1 }
-        ensures behind { OnOk result ((lines : List Said) → IsBehind self.old bounds.blocks lines → IsBehind self.new bounds.blocks (lines ++ Feeds block bytes.now ∷ [])) }
+        ensures after { OnOk result ((lines : List ParsedLine) → IsAfter self.old bounds.blocks lines
+            → IsAfter self.new bounds.blocks (lines ++ Feeds block bytes.now ∷ [])) }
         ensures order { OnOk result (HasOrder self.new bounds.room) }
         ensures number { OnOk result (self.new.number ≡ self.old.number + 1) }
-        ensures stops { IfErr result (λ why. (lines : List Said) → IsBehind self.old bounds.blocks lines
-            → Stops why bounds.room (outcomes_behind bounds.blocks [] (lines ++ Feeds block bytes.now ∷ []))) }
+        ensures stops { IfErr result (λ why. (lines : List ParsedLine) → IsAfter self.old bounds.blocks lines
+            → Stops why bounds.room (outcomes_after bounds.blocks [] (lines ++ Feeds block bytes.now ∷ []))) }
     {
         match fault_of_block(block, self.least, bounds) {
             Some(kind) => return Err(refused(self.number, kind)),
@@ -174,7 +179,7 @@ impl Progress {
             block,
         };
         let map = maps.map(self.curve);
-        match take_all(alloc, &mut self.feed, bytes, spot, map, bounds.room) {
+        match read_bytes(alloc, &mut self.feed, bytes, spot, map, bounds.room) {
             Ok(()) => {
                 self.least = block;
                 self.fed = self.number;

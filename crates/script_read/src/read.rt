@@ -1,3 +1,5 @@
+//! A script of any kind, by its first bytes.
+
 ghost use Rattle.std.specs.Prelude.{◌≡◌, ◌<◌, ◌≤◌, ◌||◌, [], ◌∷◌, bytes_eq, codes, length, All, Err, IfOk, IfSome, Option, ℕ};
 ghost use Rattle.script_plan.specs.Plan.{PlannedData};
 ghost use Rattle.script_outcome.specs.declared.fault.Place.{Place};
@@ -27,7 +29,8 @@ pub fn read_script(
 ) -> Result<Script, ScriptFault>
     requires { length bytes.now ≤ 536870912 }
     ensures ok { IfOk result (λ script. plan bytes.now bounds.blocks bounds.room ≡ Commands script) }
-    ensures refused { (at : Place) (why : ScriptKind) → result ≡ Err (ScriptFault.Refused at why) → plan bytes.now bounds.blocks bounds.room ≡ Refused at why }
+    ensures refused { (at : Place) (why : ScriptKind) → result ≡ Err (ScriptFault.Refused at why)
+        → plan bytes.now bounds.blocks bounds.room ≡ Refused at why }
     ensures many { result ≡ Err ScriptFault.TooMany → plan bytes.now bounds.blocks bounds.room ≡ TooMany }
     ensures few { IfOk result (λ script. length script ≤ bounds.room) }
     ensures early { IfOk result (λ script. IfSome bounds.blocks (λ blocks. 0 < blocks → All (λ (c : PlannedData). c.due < blocks) script)) }

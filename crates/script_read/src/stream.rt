@@ -31,12 +31,12 @@ pub(crate) fn read_stream(
     };
     let mut start = 0;
     for (at, byte) in bytes.iter().enumerate() {
-        let next = start_behind(start, at as u32, *byte, feed.reader.at_rest());
+        let next = start_after(start, at as u32, *byte, feed.reader.at_rest());
         let spot = Spot {
             place: Place::Byte(start),
             block: 0,
         };
-        match feed.take(alloc, *byte, spot, map, room) {
+        match feed.read_byte(alloc, *byte, spot, map, room) {
             Ok(()) => start = next,
             Err(fault) => return Err(fault),
         }
@@ -44,8 +44,8 @@ pub(crate) fn read_stream(
     end(feed, start)
 }
 
-/// Where the last message begins, behind the byte at a place.
-fn start_behind(start: u32, at: u32, byte: u8, at_rest: bool) -> u32
+/// Where the last message begins, after the byte at a place.
+fn start_after(start: u32, at: u32, byte: u8, at_rest: bool) -> u32
     ensures { result ≡ (if is_status byte || at_rest then at else start) }
 {
     if (0x80..0xF8).contains(&byte) || at_rest {

@@ -2,26 +2,26 @@
 
 ghost use Rattle.std.specs.Prelude.{◌≡◌, ◌≤◌, ◌↔◌, ◌&&◌, [], ◌∷◌, IfNone, IfSome, IsTrue, length, nat_le, if◌then◌else◌, Some, None};
 ghost use Rattle.std.specs.Int.{IsInRange};
-ghost use Rattle.script_read.specs.Words.{number_to, text_behind, words_of};
+ghost use Rattle.script_read.specs.Words.{number_to, text_after, words_of};
 
 use plain_text::split_once;
 
 /// The most digits of a number, zeros in front among them.
 const DIGITS: usize = 10;
 
-/// The first word of a line and what stands behind it and one space, where there is a word.
+/// The first word of a line and what stands after it and one space, where there is a word.
 #[tactic(auto, unfolding(crate::specs::Words::words_of))]
 pub(crate) fn next_word(line: &[u8]) -> Option<(&[u8], &[u8])>
     ensures none { IfNone result (words_of line.now ≡ []) }
     ensures some { IfSome result (λ r. words_of line.now ≡ r.0.now ∷ words_of r.1.now) }
-    ensures behind { IfSome result (λ r. text_behind line.now ≡ r.1.now) }
+    ensures after { IfSome result (λ r. text_after line.now ≡ r.1.now) }
 {
     let mut rest = line;
-    while let Some((word, behind)) = split_once(rest, b' ') {
+    while let Some((word, after)) = split_once(rest, b' ') {
         if !word.is_empty() {
-            return Some((word, behind));
+            return Some((word, after));
         }
-        rest = behind;
+        rest = after;
     }
     if rest.is_empty() {
         None

@@ -9,7 +9,7 @@ use Rattle.plain_text.specs.Split.{split}
 use Rattle.command_set.specs.Entries.{LoggedData}
 use Rattle.take_files.specs.Files.{entry_text, header_text, order, order_header, order_line}
 use Rattle.take_files.specs.Orders.{BeginsWith, HasFault, HasNoHeader, IsOrdered, IsRefused, IsWritable}
-use Rattle.take_files.specs.Pieces.{IsSeen, line_feeds, open_bytes}
+use Rattle.take_files.specs.Chunks.{IsSeen, line_feeds, open_bytes}
 use Rattle.take_files.specs.declared.read.OrderKind.{OrderKind}
 use Rattle.take_files.specs.declared.read.OrderKind.TheVariants.{Line, Block, Script, Sequence, Many}
 use Rattle.take_files.proofs.Laws.{lines, order_more, writable}

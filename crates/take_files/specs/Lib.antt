@@ -1,6 +1,6 @@
 pub mod Files
 pub mod Orders
-pub mod Pieces
+pub mod Chunks
 pub mod Playback
 pub mod Reading
 pub mod Playing

@@ -3,7 +3,7 @@ use Rattle.std.specs.Prelude.{ℕ, ◌≡◌, ◌+◌, ◌<◌, ◌≤◌, List,
 use Rattle.command_set.specs.Entries.{LoggedData, journal_data}
 use Rattle.take_files.specs.Files.{header_text, order}
 use Rattle.take_files.specs.Orders.{Follows, IsOrdered, OrderData, count_of, entry_limit, last_block}
-use Rattle.take_files.specs.Pieces.{Standing, Clean, Faulty, OutOfMemory, line_feeds}
+use Rattle.take_files.specs.Chunks.{Standing, Clean, Faulty, OutOfMemory, line_feeds}
 use Rattle.take_files.specs.declared.read.OrderFault.{OrderFault}
 use Rattle.take_files.specs.declared.read.OrderFault.TheVariants as fault
 use Rattle.take_files.specs.declared.listing.Listing.{Listing}

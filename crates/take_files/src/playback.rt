@@ -39,7 +39,8 @@ impl<'a> Model for Playback<'a> {
 
     ghost view = { λ p. record { journal = journal_data p.journal.now; block = p.block } };
 
-    ghost invariant = { λ p. (p.next ≤ length p.journal.now) × IsPlaying p.instrument (drop p.next p.journal.now) (journal_data p.journal.now) p.block };
+    ghost invariant = { λ p. (p.next ≤ length p.journal.now)
+        × IsPlaying p.instrument (drop p.next p.journal.now) (journal_data p.journal.now) p.block };
 }
 
 impl<'a> Playback<'a> {

@@ -1,10 +1,10 @@
-//! An order that is read in pieces.
+//! An order that is read in chunks.
 
 ghost use Rattle.std.specs.Prelude.{ℕ, List, ◌≡◌, ◌≢◌, ◌≤◌, ◌↔◌, [], ◌∷◌, ◌++◌, Err, IfOk, MatchResult, OnOk, length};
 ghost use Rattle.take_files.specs.declared.read.OrderKind.{OrderKind};
 ghost use Rattle.take_files.specs.declared.read.OrderFault.TheVariants.{Refused, Memory};
 ghost use Rattle.take_files.specs.Orders.{IsOrder, IsRefused, OrderData};
-ghost use Rattle.take_files.specs.Pieces.{Clean, Faulty, HasFed, IsSeen, IsSettled, OutOfMemory, answer, line_feeds};
+ghost use Rattle.take_files.specs.Chunks.{Clean, Faulty, HasFed, IsSeen, IsSettled, OutOfMemory, answer, line_feeds};
 ghost use Rattle.take_files.specs.Reading.{AreRead, IsListing, lines_read, listed, next_number, text_of};
 
 use crate::header::read_header;
@@ -16,7 +16,7 @@ use plain_text::{LineText, split_once};
 use std::alloc::{AllocError, Global};
 use std::marker::Model;
 
-/// Reads an order that comes in pieces, cut at any bytes. It holds the entries of the lines that have ended, and the
+/// Reads an order that comes in chunks, cut at any bytes. It holds the entries of the lines that have ended, and the
 /// part of a line that hasn't, which is at most 8256 bytes. Contracts see how it stands.
 #[derive(Drop)]
 pub struct OrderReader {
@@ -29,7 +29,7 @@ pub struct OrderReader {
 }
 
 impl Model for OrderReader {
-    ghost use Rattle.take_files.specs.Pieces.{Standing};
+    ghost use Rattle.take_files.specs.Chunks.{Standing};
     ghost use Rattle.take_files.specs.Reading.{IsReading, standing};
 
     ghost Value = { Standing };
@@ -73,7 +73,7 @@ impl OrderReader {
         }
     }
 
-    /// The order that all bytes so far are, else their first fault, in whatever pieces they came.
+    /// The order that all bytes so far are, else their first fault, in whatever chunks they came.
     pub fn finish(self) -> Result<Order, OrderFault>
         ensures order { (fed : List ℕ) → HasFed self fed → IfOk result (λ o. IsOrder fed o) }
         ensures refused { (fed : List ℕ) (line : ℕ) (kind : OrderKind) → HasFed self fed → result ≡ Err (Refused line kind)

@@ -49,7 +49,7 @@ fn sound_of(alloc: Global, text: &[u8]) -> Option<Vec<u8>> {
     }
 }
 
-/// What a reader answers to a text that is fed in two pieces, parted at a byte.
+/// What a reader answers to a text that is fed in two chunks, split at a byte.
 fn read_parted(alloc: Global, text: &[u8], at: usize) -> Result<Order, OrderFault> {
     let Ok(mut reader) = OrderReader::new(alloc) else {
         return Err(OrderFault::Memory);
@@ -60,13 +60,13 @@ fn read_parted(alloc: Global, text: &[u8], at: usize) -> Result<Order, OrderFaul
     reader.finish()
 }
 
-/// What a reader answers to a text that is fed in pieces of a size.
-fn read_pieces(alloc: Global, text: &[u8], size: usize) -> Result<Order, OrderFault> {
+/// What a reader answers to a text that is fed in chunks of a size.
+fn read_chunks(alloc: Global, text: &[u8], size: usize) -> Result<Order, OrderFault> {
     let Ok(mut reader) = OrderReader::new(alloc) else {
         return Err(OrderFault::Memory);
     };
-    for piece in text.chunks(size.max(1)) {
-        let _ = reader.feed(alloc, piece);
+    for chunk in text.chunks(size.max(1)) {
+        let _ = reader.feed(alloc, chunk);
     }
     reader.finish()
 }
@@ -240,14 +240,14 @@ fn drawn_order(alloc: Global, seed: u32) -> Result<Vec<u8>, AllocError> {
     Ok(text)
 }
 
-/// A drawn order says the same in pieces of any size.
+/// A drawn order says the same in chunks of any size.
 #[test]
-fn drawn_orders_in_pieces(rt: HostRuntime) -> Result<(), Fail> {
+fn drawn_orders_in_chunks(rt: HostRuntime) -> Result<(), Fail> {
     let alloc = rt.alloc();
     let text = drawn_order(alloc, 7)?;
     assert_eq!(rt; kept(alloc, text.as_slice()), Some(400));
     for size in [1, 2, 3, 7, 16, 25, 64, 100, 1000, 4096, 65_536] {
-        match read_pieces(alloc, text.as_slice(), size) {
+        match read_chunks(alloc, text.as_slice(), size) {
             Ok(order) => {
                 assert_eq!(rt; order.blocks(), 2000);
                 assert_eq!(rt; order.scripts(), 3);

@@ -9,7 +9,7 @@ use Rattle.take_files.specs.Orders.{IsOrder, OrderData}
 use Rattle.take_files.specs.declared.read.OrderKind.{OrderKind}
 use Rattle.take_files.specs.declared.read.OrderFault.{OrderFault}
 use Rattle.take_files.specs.declared.read.OrderFault.TheVariants as fault
-use Rattle.take_files.specs.Pieces.{HasFed, Standing}
+use Rattle.take_files.specs.Chunks.{HasFed, Standing}
 use Rattle.tool_core.specs.declared.failure.Failure.{Failure}
 use Rattle.tool_core.specs.declared.failure.Failure.TheVariants as failure
 use Rattle.tool_core.specs.Verdicts.{TooLarge}

@@ -4,7 +4,7 @@ ghost use Rattle.std.specs.Prelude.{ℕ, List, ◌≡◌, ◌≤◌, [], Some, I
 ghost use Rattle.std.specs.FinMap.{get};
 ghost use Rattle.take_files.specs.Orders as orders;
 ghost use Rattle.take_files.specs.Orders.{IsOrder};
-ghost use Rattle.take_files.specs.Pieces.{HasFed};
+ghost use Rattle.take_files.specs.Chunks.{HasFed};
 ghost use Rattle.tool_core.specs.Endings.{IsOfBytes, IsReadFailure};
 ghost use Rattle.tool_core.specs.Failures.{IsFault, IsReason};
 ghost use Rattle.tool_core.specs.Inputs.{AnOrder};

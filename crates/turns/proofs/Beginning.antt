@@ -6,7 +6,7 @@ use Rattle.std.proofs.Math.ListN as list
 use Rattle.command_queue.specs.Entries.{quota_at}
 use Rattle.command_queue.specs.Ends.{LineView, SendView, AreNewEnds, new_end, quota_of}
 use Rattle.lateness.specs.Late.{AllBelow}
-use Rattle.script_plan.specs.Plan.{PlannedData, dues}
+use Rattle.script_plan.specs.Plan.{PlannedData, due_blocks}
 use Rattle.players.specs.Players.{PlayerView}
 use Rattle.turns.specs.Turns.{plans_of, IsFresh, AreFresh}
 
@@ -57,9 +57,9 @@ none_in [] n none is = refl
 none_in (x ∷ xs) n none is = absurd (omega (arith, none, is))
 
 -- what holds of all plans holds of what is left of each player
-pub each_due : (blocks : ℕ) (players : List PlayerView) (plans : List (List PlannedData)) → plans_of players ≡ plans → All (λ (plan : List PlannedData). AllBelow blocks (dues plan)) plans
-    → (k : ℕ) (d : PlayerView) → k < length players → AllBelow blocks (dues (get_or players k d).left)
+pub each_due : (blocks : ℕ) (players : List PlayerView) (plans : List (List PlannedData)) → plans_of players ≡ plans → All (λ (plan : List PlannedData). AllBelow blocks (due_blocks plan)) plans
+    → (k : ℕ) (d : PlayerView) → k < length players → AllBelow blocks (due_blocks (get_or players k d).left)
 each_due blocks players plans is all k d lt =
     let l : length plans ≡ length players = sym (ap length is) ∙ length-map players (λ (p : PlayerView). p.left) in
-    subst (λ (plan : List PlannedData). AllBelow blocks (dues plan))
+    subst (λ (plan : List PlannedData). AllBelow blocks (due_blocks plan))
     (ap (λ (ps : List (List PlannedData)). get_or ps k d.left) (sym is) ∙ get_or-map (λ (p : PlayerView). p.left) players k d d.left lt) (all k d.left (omega (arith, l, lt)))

@@ -9,7 +9,7 @@ use Rattle.command_queue.specs.Entries.{quota_at, others_at}
 use Rattle.command_queue.specs.Ends.{LineView, new_end, others_of}
 use Rattle.lateness.specs.Late.{AreDue, AllBelow, AreTimed}
 use Rattle.lateness.proofs.Times.{times, due_more}
-use Rattle.script_plan.specs.Plan.{PlannedData, dues}
+use Rattle.script_plan.specs.Plan.{PlannedData, due_blocks}
 use Rattle.players.specs.Players.{PlayerView}
 use Rattle.players.proofs.Turns.{length-entries}
 use Rattle.live_renderer.specs.Renderer.{RendererView}
@@ -51,7 +51,7 @@ player_played line t k journal p q place number h = record {
   line_is = h.line ∙ place;
   number = h.number ∙ number;
   logged = h.kept.many ∙ length-map h.sent (λ (c : PlannedData). c.due) ∙ sym (ap length h.list ∙ length-entries k 0 h.sent);
-  due = subst (λ (ds : List ℕ). AreDue ds (blocks_of k journal)) (sym (ap dues h.split ∙ dues_append h.sent q.left)) (due_more (dues h.sent) (dues q.left) (blocks_of k journal) h.kept.due);
+  due = subst (λ (ds : List ℕ). AreDue ds (blocks_of k journal)) (sym (ap due_blocks h.split ∙ dues_append h.sent q.left)) (due_more (due_blocks h.sent) (due_blocks q.left) (blocks_of k journal) h.kept.due);
 }
 
 -- wherever the turns end
@@ -78,16 +78,16 @@ below_left : (t : ℕ) (xs ys : List ℕ) → AllBelow t (xs ++ ys) → AllBelow
 below_left t [] ys below = below
 below_left t (x ∷ xs) ys below = below_left t xs ys below.1
 
-player_timed : (blocks k : ℕ) (journal : List LoggedData) (p q : PlayerView) → AllBelow blocks (dues p.left) → HadTurns blocks journal k p q
-    → AreTimed p.end.line.places (others_of p.end) blocks (dues p.left) (blocks_of k journal) q.end.refusals
+player_timed : (blocks k : ℕ) (journal : List LoggedData) (p q : PlayerView) → AllBelow blocks (due_blocks p.left) → HadTurns blocks journal k p q
+    → AreTimed p.end.line.places (others_of p.end) blocks (due_blocks p.left) (blocks_of k journal) q.end.refusals
 player_timed blocks k journal p q below h =
-    let all : dues p.left ≡ dues h.sent ++ dues q.left = ap dues h.split ∙ dues_append h.sent q.left in
+    let all : due_blocks p.left ≡ due_blocks h.sent ++ due_blocks q.left = ap due_blocks h.split ∙ dues_append h.sent q.left in
     subst (λ (ds : List ℕ). AreTimed p.end.line.places (others_of p.end) blocks ds (blocks_of k journal) q.end.refusals) (sym all)
-    (times p.end.line.places (others_of p.end) blocks (dues h.sent) (dues q.left) (blocks_of k journal) q.end.refusals (below_left blocks (dues h.sent) (dues q.left) (subst (AllBelow blocks) all below)) h.kept)
+    (times p.end.line.places (others_of p.end) blocks (due_blocks h.sent) (due_blocks q.left) (blocks_of k journal) q.end.refusals (below_left blocks (due_blocks h.sent) (due_blocks q.left) (subst (AllBelow blocks) all below)) h.kept)
 
 -- after all turns
 pub are_on_time : (blocks : ℕ) (line : LineView) (before : List PlayerView) (r : RendererView) (players : List PlayerView) (journal : List LoggedData) → AreFresh line before
-    → ((k : ℕ) (d : PlayerView) → k < length before → AllBelow blocks (dues (get_or before k d).left)) → AfterTurns blocks line before r players → journal ≡ r.journal
+    → ((k : ℕ) (d : PlayerView) → k < length before → AllBelow blocks (due_blocks (get_or before k d).left)) → AfterTurns blocks line before r players → journal ≡ r.journal
     → AreOnTime line blocks (plans_of before) journal players
 are_on_time blocks line before r players journal fresh below h same k d lt =
     let inside : k < length before = omega (arith, lt, long before) in
@@ -98,8 +98,8 @@ are_on_time blocks line before r players journal fresh below h same k d lt =
     let other : others_of p.end ≡ others_than (plans_of before) k =
     (λ j. others_at (f.line_is j).quotas (f.number j)) ∙ ap (λ (qs : List ℕ). others_at qs k) quotas
     ∙ ap (λ (n : ℕ). sum (map length (plans_of before)) - n) (list.get_or-map length (plans_of before) k []) in
-    let t : AreTimed p.end.line.places (others_of p.end) blocks (dues p.left) (blocks_of k r.journal) q.end.refusals =
+    let t : AreTimed p.end.line.places (others_of p.end) blocks (due_blocks p.left) (blocks_of k r.journal) q.end.refusals =
     player_timed blocks k r.journal p q (below k (nobody line) inside) (h.played k (nobody line) inside) in
     let is : q ≡ get_or players k d = same_player players k (nobody line) d (omega (arith, inside, h.many)) in
-    subst (λ (y : ℕ × ℕ × List PlannedData × List LoggedData × PlayerView). AreTimed y.0 y.1 blocks (dues y.2) (blocks_of k y.3) y.4.end.refusals)
+    subst (λ (y : ℕ × ℕ × List PlannedData × List LoggedData × PlayerView). AreTimed y.0 y.1 blocks (due_blocks y.2) (blocks_of k y.3) y.4.end.refusals)
     (λ i. ((f.line_is i).places, other i, sym (plan_is line before k) i, sym same i, is i)) t

@@ -11,7 +11,7 @@ use Rattle.instrument.specs.Logging.{logged_at}
 use Rattle.instrument.specs.Journal.{sound}
 use Rattle.lateness.specs.Late.{AllFrom, HasKept}
 use Rattle.lateness.proofs.Turns.{one_turn, few_late, Ended}
-use Rattle.script_plan.specs.Plan.{PlannedData, dues}
+use Rattle.script_plan.specs.Plan.{PlannedData, due_blocks}
 use Rattle.players.specs.Players.{PlayerView, Stayed, WasStopped, Turned, IsReady, entries}
 use Rattle.players.proofs.Turns.{length-entries}
 use Rattle.live_renderer.specs.Renderer.{RendererView, KeepsSound}
@@ -20,7 +20,7 @@ use Rattle.turns.specs.Steps.{LogsSome, at_block, Noted, HadTurns, HaveTurned, A
 use Rattle.turns.proofs.Logging.{logs_join, prefix_logged}
 use Rattle.turns.proofs.Noting.{blocks_append}
 
-pub dues_append : (xs ys : List PlannedData) → dues (xs ++ ys) ≡ dues xs ++ dues ys
+pub dues_append : (xs ys : List PlannedData) → due_blocks (xs ++ ys) ≡ due_blocks xs ++ due_blocks ys
 dues_append xs ys = map-append (λ (c : PlannedData). c.due) xs ys
 
 entries_append : (script seq : ℕ) (xs ys : List PlannedData) → entries script seq (xs ++ ys) ≡ entries script seq xs ++ entries script (seq + length xs) ys
@@ -63,23 +63,23 @@ player_more t k journal xs p q q1 q2 small h turned end left logged met =
     let list : q1.end.list ≡ entries k 0 (h.sent ++ more) =
     a.list ∙ (λ i. h.list i ++ entries (number i) (prefix i) more) ∙ (λ i. entries k 0 h.sent ++ entries k (sym (zero-add (length h.sent)) i) more) ∙ sym (entries_append k 0 h.sent more) in
     let list2 : q2.end.list ≡ entries k 0 (h.sent ++ more) = ap (λ (e : SendView). e.list) end ∙ list in
-    let many : length (blocks_of k (journal ++ map (logged_at t) xs)) ≡ length (blocks_of k journal) + length (dues more) =
+    let many : length (blocks_of k (journal ++ map (logged_at t) xs)) ≡ length (blocks_of k journal) + length (due_blocks more) =
     let l : length q2.end.list ≡ length h.sent + length more = ap length list2 ∙ length-entries k 0 (h.sent ++ more) ∙ length-append h.sent more in
-    let d : length (dues more) ≡ length more = length-map more (λ (c : PlannedData). c.due) in
-    let s : length (dues h.sent) ≡ length h.sent = length-map h.sent (λ (c : PlannedData). c.due) in
+    let d : length (due_blocks more) ≡ length more = length-map more (λ (c : PlannedData). c.due) in
+    let s : length (due_blocks h.sent) ≡ length h.sent = length-map h.sent (λ (c : PlannedData). c.due) in
     omega (arith, logged, met, l, d, s, h.kept.many) in
-    let blocks = blocks_more k t journal xs (length (dues more)) many in
+    let blocks = blocks_more k t journal xs (length (due_blocks more)) many in
     let place : q1.end.line ≡ p.end.line = a.line ∙ h.line in
     let num : q1.end.number ≡ p.end.number = a.number ∙ h.number in
     let others : others_of q1.end ≡ others_of p.end = λ i. others_at (place i).quotas (num i) in
-    let count : length q1.end.list ≡ length (dues h.sent ++ dues more) =
+    let count : length q1.end.list ≡ length (due_blocks h.sent ++ due_blocks more) =
     ap length list ∙ length-entries k 0 (h.sent ++ more) ∙ length-append h.sent more
-    ∙ (λ i. sym (length-map h.sent (λ (c : PlannedData). c.due)) i + sym (length-map more (λ (c : PlannedData). c.due)) i) ∙ sym (length-append (dues h.sent) (dues more)) in
-    let kept : HasKept p.end.line.places (others_of p.end) t (dues h.sent) (dues more ++ dues q1.left) (blocks_of k journal) q.end.refusals =
-    subst (λ (ds : List ℕ). HasKept p.end.line.places (others_of p.end) t (dues h.sent) ds (blocks_of k journal) q.end.refusals) (ap dues a.split ∙ dues_append more q1.left) h.kept in
-    let few : q.end.refusals ≤ t = subst (λ (n : ℕ). n ≤ t) (sym kept.late) (few_late (dues h.sent ++ (dues more ++ dues q1.left)) (blocks_of k journal) t) in
-    let after : HasKept p.end.line.places (others_of p.end) (t + 1) (dues h.sent ++ dues more) (dues q1.left) (blocks_of k journal ++ replicate (length (dues more)) t) q1.end.refusals =
-    one_turn p.end.line.places (others_of p.end) t (dues h.sent) (dues more) (dues q1.left) (blocks_of k journal) q.end.refusals q1.end.refusals kept a.due
+    ∙ (λ i. sym (length-map h.sent (λ (c : PlannedData). c.due)) i + sym (length-map more (λ (c : PlannedData). c.due)) i) ∙ sym (length-append (due_blocks h.sent) (due_blocks more)) in
+    let kept : HasKept p.end.line.places (others_of p.end) t (due_blocks h.sent) (due_blocks more ++ due_blocks q1.left) (blocks_of k journal) q.end.refusals =
+    subst (λ (ds : List ℕ). HasKept p.end.line.places (others_of p.end) t (due_blocks h.sent) ds (blocks_of k journal) q.end.refusals) (ap due_blocks a.split ∙ dues_append more q1.left) h.kept in
+    let few : q.end.refusals ≤ t = subst (λ (n : ℕ). n ≤ t) (sym kept.late) (few_late (due_blocks h.sent ++ (due_blocks more ++ due_blocks q1.left)) (blocks_of k journal) t) in
+    let after : HasKept p.end.line.places (others_of p.end) (t + 1) (due_blocks h.sent ++ due_blocks more) (due_blocks q1.left) (blocks_of k journal ++ replicate (length (due_blocks more)) t) q1.end.refusals =
+    one_turn p.end.line.places (others_of p.end) t (due_blocks h.sent) (due_blocks more) (due_blocks q1.left) (blocks_of k journal) q.end.refusals q1.end.refusals kept a.due
     (ended turned.1 few place others count) in
     record {
       sent = h.sent ++ more;
@@ -90,10 +90,10 @@ player_more t k journal xs p q q1 q2 small h turned end left logged met =
       own = h.own;
       logged = logged;
       kept = subst (λ (y : List ℕ × List ℕ × List ℕ × ℕ). HasKept p.end.line.places (others_of p.end) (t + 1) y.0 y.1 y.2 y.3)
-          (λ i. (sym (dues_append h.sent more) i, dues (sym left i), sym blocks i, (sym end i).refusals)) after;
+          (λ i. (sym (dues_append h.sent more) i, due_blocks (sym left i), sym blocks i, (sym end i).refusals)) after;
     } where
-      ended : (Stayed t q q1 ⊎ WasStopped t q q1) → q.end.refusals ≤ t → q1.end.line ≡ p.end.line → others_of q1.end ≡ others_of p.end → length q1.end.list ≡ length (dues h.sent ++ dues turned.0.sent)
-          → Ended p.end.line.places (others_of p.end) t (length (dues h.sent ++ dues turned.0.sent)) (dues q1.left) q.end.refusals q1.end.refusals
+      ended : (Stayed t q q1 ⊎ WasStopped t q q1) → q.end.refusals ≤ t → q1.end.line ≡ p.end.line → others_of q1.end ≡ others_of p.end → length q1.end.list ≡ length (due_blocks h.sent ++ due_blocks turned.0.sent)
+          → Ended p.end.line.places (others_of p.end) t (length (due_blocks h.sent ++ due_blocks turned.0.sent)) (due_blocks q1.left) q.end.refusals q1.end.refusals
       ended (inl s) few place others count = inl s
       ended (inr s) few place others count =
           inr (
@@ -121,7 +121,7 @@ player_none line k p h = record {
     past = tt;
     due = tt;
     late = h.refusals;
-    in_time = record { early = []; later = []; behind = []; sent_is = refl; blocks_is = refl; why = inl (refl, refl, from_zero (dues p.left)) };
+    in_time = record { early = []; later = []; behind = []; sent_is = refl; blocks_is = refl; why = inl (refl, refl, from_zero (due_blocks p.left)) };
   };
 }
 

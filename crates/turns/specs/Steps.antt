@@ -6,7 +6,7 @@ use Rattle.instrument.specs.Journal.{sound}
 use Rattle.take_files.specs.Files.{wav_block}
 use Rattle.live_renderer.specs.Renderer.{RendererView, Logs, KeepsSound}
 use Rattle.lateness.specs.Late.{HasKept}
-use Rattle.script_plan.specs.Plan.{PlannedData, dues}
+use Rattle.script_plan.specs.Plan.{PlannedData, due_blocks}
 use Rattle.players.specs.Players.{PlayerView, IsReady, AreReady, AllTurned, entries}
 use Rattle.turns.specs.Turns.{blocks_of}
 
@@ -48,7 +48,7 @@ pub record HadTurns (t : ℕ) (journal : List LoggedData) (k : ℕ) (p q : Playe
   pub number : q.end.number ≡ p.end.number
   pub own : p.end.number ≡ k
   pub logged : q.logged ≡ length (blocks_of k journal)
-  pub kept : HasKept p.end.line.places (others_of p.end) t (dues sent) (dues q.left) (blocks_of k journal) q.end.refusals
+  pub kept : HasKept p.end.line.places (others_of p.end) t (due_blocks sent) (due_blocks q.left) (blocks_of k journal) q.end.refusals
 
 -- what holds after some turns: block t - 1 is the next to be rendered
 pub record AfterTurns (t : ℕ) (line : LineView) (before : List PlayerView) (r : RendererView) (players : List PlayerView) : Type 0 where

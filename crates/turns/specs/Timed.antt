@@ -3,7 +3,7 @@ use Rattle.std.specs.Prelude.{ℕ, ◌≡◌, ◌+◌, ◌<◌, ◌≤◌, List,
 use Rattle.command_set.specs.Command.{IsInRange}
 use Rattle.command_set.specs.Entries.{LoggedData, entries_of, sent_by}
 use Rattle.lateness.specs.Late.{AreDue, IsOff}
-use Rattle.script_plan.specs.Plan.{PlannedData, dues}
+use Rattle.script_plan.specs.Plan.{PlannedData, due_blocks}
 use Rattle.players.specs.Players.{entries}
 use Rattle.turns.specs.Turns.{plan_of, others_than, blocks_of}
 
@@ -13,7 +13,7 @@ pub record IsScriptBegun (journal : List LoggedData) (k : ℕ) (plan : List Plan
   pub left : List PlannedData
   pub split : plan ≡ sent ++ left
   pub entries_are : sent_by k (entries_of journal) ≡ entries k 0 sent
-  pub due : AreDue (dues plan) (blocks_of k journal)
+  pub due : AreDue (due_blocks plan) (blocks_of k journal)
 
 -- each entry is of one of the scripts, and each script was begun, or played to its end
 pub record ArePlayed (journal : List LoggedData) (plans : List (List PlannedData)) : Type 0 where
@@ -25,4 +25,4 @@ pub record ArePlayed (journal : List LoggedData) (plans : List (List PlannedData
 pub record IsTimed (journal : List LoggedData) (plans : List (List PlannedData)) (places : ℕ) : Type 0 where
   pub played : ArePlayed journal plans
   pub full : (k i : ℕ) → k < length plans → i < length (plan_of plans k)
-      → IsOff (dues (plan_of plans k)) (blocks_of k journal) i → places ≤ i + others_than plans k
+      → IsOff (due_blocks (plan_of plans k)) (blocks_of k journal) i → places ≤ i + others_than plans k

@@ -4,7 +4,7 @@ use Rattle.command_set.specs.Entries.{LoggedData}
 use Rattle.command_queue.specs.Ends.{LineView, quota_of, new_taker}
 use Rattle.live_renderer.specs.Renderer.{RendererView}
 use Rattle.lateness.specs.Late.{AreDue, AreTimed}
-use Rattle.script_plan.specs.Plan.{PlannedData, dues}
+use Rattle.script_plan.specs.Plan.{PlannedData, due_blocks}
 use Rattle.players.specs.Players.{PlayerView, entries}
 
 -- the commands that are left of each player
@@ -53,7 +53,7 @@ pub record HasPlayed (line : LineView) (k : ℕ) (plan : List PlannedData) (jour
   pub line_is : player.end.line ≡ line
   pub number : player.end.number ≡ k
   pub logged : length (blocks_of k journal) ≡ length player.end.list
-  pub due : AreDue (dues plan) (blocks_of k journal)
+  pub due : AreDue (due_blocks plan) (blocks_of k journal)
 
 -- the same of all scripts, whose players are all ends of the line, in order; each end's quota is the number of its script's commands
 pub record HavePlayed (line : LineView) (plans : List (List PlannedData)) (journal : List LoggedData) (players : List PlayerView) : Type 0 where
@@ -65,4 +65,4 @@ pub record HavePlayed (line : LineView) (plans : List (List PlannedData)) (journ
 -- the line has few places.
 abbrev pub AreOnTime : LineView → ℕ → List (List PlannedData) → List LoggedData → List PlayerView → Type 0
 AreOnTime line blocks plans journal players = (k : ℕ) (d : PlayerView) → k < length plans
-    → AreTimed line.places (others_than plans k) blocks (dues (plan_of plans k)) (blocks_of k journal) (slice_index_or players k d).end.refusals
+    → AreTimed line.places (others_than plans k) blocks (due_blocks (plan_of plans k)) (blocks_of k journal) (slice_index_or players k d).end.refusals

@@ -7,7 +7,7 @@ ghost use Rattle.outside.specs.Files.{Lacks};
 ghost use Rattle.outside.specs.Faults.{HasCause};
 ghost use Rattle.take_files.specs.Files.{wav_blocks};
 ghost use Rattle.lateness.specs.Late.{AllBelow};
-ghost use Rattle.script_plan.specs.Plan.{PlannedData, dues};
+ghost use Rattle.script_plan.specs.Plan.{PlannedData, due_blocks};
 ghost use Rattle.players.specs.Players.{PlayerView};
 ghost use Rattle.turns.specs.Turns.{AreFresh, IsFreshRenderer, HavePlayed, AreOnTime, plans_of, many_commands};
 ghost use Rattle.turns.specs.Timed.{ArePlayed, IsTimed};
@@ -90,7 +90,7 @@ pub fn play_scripts<R: Threads + Wait + Sync, S: Shelf, G: Gate>(
     requires empty { ends.items ≡ [] }
     requires room { vec_len players ≤ vec_capacity ends }
     requires blocks { (1 ≤ blocks) × (blocks ≤ 1048576) }
-    requires due { (k : ℕ) (d : PlayerView) → k < length players.items → AllBelow blocks (dues (slice_index_or players.items k d).left) }
+    requires due { (k : ℕ) (d : PlayerView) → k < length players.items → AllBelow blocks (due_blocks (slice_index_or players.items k d).left) }
     requires differ { sound.now ≢ order.now }
     requires has_sound { ¬ (Lacks (S.files shelf.old) sound.now) }
     requires has_order { ¬ (Lacks (S.files shelf.old) order.now) }

@@ -1,6 +1,6 @@
 ghost use Rattle.std.specs.Prelude.{◌≡◌, ◌+◌, ◌≤◌, All, IfOk, length, map, sum};
 ghost use Rattle.lateness.specs.Late.{AllBelow};
-ghost use Rattle.script_plan.specs.Plan.{dues};
+ghost use Rattle.script_plan.specs.Plan.{due_blocks};
 
 use crate::{new_players, play_scripts};
 use command_queue::Line;
@@ -43,7 +43,7 @@ impl Gate for AfterScript {
 // A script with a command due at each of these blocks, which don't fall and are at most `last`.
 fn script_at(alloc: Global, key: u8, blocks: &[u32], last: u32) -> Result<Script, Fail>
     requires { key ≤ 127 }
-    ensures { IfOk result (λ script. AllBelow (last + 1) (dues script)) }
+    ensures { IfOk result (λ script. AllBelow (last + 1) (due_blocks script)) }
 {
     let mut script = Script::new(alloc);
     for due in blocks {
@@ -59,7 +59,7 @@ fn script_at(alloc: Global, key: u8, blocks: &[u32], last: u32) -> Result<Script
 fn scripts_at(alloc: Global, count: u8, blocks: &[u32], last: u32) -> Result<Vec<Script>, Fail>
     requires { count ≤ 16 }
     ensures many { IfOk result (λ scripts. length scripts.items ≡ count) }
-    ensures due { IfOk result (λ scripts. All (λ script. AllBelow (last + 1) (dues script)) scripts.items) }
+    ensures due { IfOk result (λ scripts. All (λ script. AllBelow (last + 1) (due_blocks script)) scripts.items) }
 {
     let mut scripts = Vec::new(alloc);
     for key in 0..count {
@@ -105,7 +105,7 @@ fn play<R: Threads + Wait + Sync, G: Gate>(
     requires places { (1 ≤ places) × (places ≤ 1000000) }
     requires last { last ≤ 1000 }
     requires few { (1 ≤ length scripts.items) × (length scripts.items ≤ 16) }
-    requires due { All (λ script. AllBelow (last + 1) (dues script)) scripts.items }
+    requires due { All (λ script. AllBelow (last + 1) (due_blocks script)) scripts.items }
 {
     let counts = counts_of(alloc, scripts.as_slice())?;
     let reserve = sum_of(counts.as_slice()) as usize;

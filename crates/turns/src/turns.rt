@@ -5,7 +5,7 @@ ghost use Rattle.outside.specs.Faults.{HasCause};
 ghost use Rattle.take_files.specs.Files.{wav_blocks};
 ghost use Rattle.live_renderer.specs.Renderer.{IsLive};
 ghost use Rattle.lateness.specs.Late.{AllBelow};
-ghost use Rattle.script_plan.specs.Plan.{dues};
+ghost use Rattle.script_plan.specs.Plan.{due_blocks};
 ghost use Rattle.players.specs.Players.{PlayerView};
 ghost use Rattle.turns.specs.Turns.{AreFresh, IsFreshRenderer, HavePlayed, AreOnTime, plans_of, many_commands};
 ghost use Rattle.turns.specs.Written.{order_lines, both_appended, BothBegun, HoldsNothing};
@@ -37,7 +37,7 @@ pub fn run_turns<R: Threads + Wait + Sync, S: Shelf, G: Gate>(
     requires renderer { IsFreshRenderer line.now renderer.old }
     requires spare { many_commands (plans_of players.old) ≤ renderer.old.spare }
     requires blocks { (1 ≤ blocks) × (blocks ≤ 1048576) }
-    requires due { (k : ℕ) (d : PlayerView) → k < length players.old → AllBelow blocks (dues (slice_index_or players.old k d).left) }
+    requires due { (k : ℕ) (d : PlayerView) → k < length players.old → AllBelow blocks (due_blocks (slice_index_or players.old k d).left) }
     requires differ { sound.now ≢ order.now }
     requires has_sound { ¬ (Lacks (S.files shelf.old) sound.now) }
     requires has_order { ¬ (Lacks (S.files shelf.old) order.now) }
@@ -77,7 +77,7 @@ fn append_turns<R: Threads + Wait + Sync, S: Shelf, G: Gate>(
     requires renderer { IsFreshRenderer line.now renderer.old }
     requires spare { many_commands (plans_of players.old) ≤ renderer.old.spare }
     requires blocks { (1 ≤ blocks) × (blocks ≤ 1048576) }
-    requires due { (k : ℕ) (d : PlayerView) → k < length players.old → AllBelow blocks (dues (slice_index_or players.old k d).left) }
+    requires due { (k : ℕ) (d : PlayerView) → k < length players.old → AllBelow blocks (due_blocks (slice_index_or players.old k d).left) }
     requires differ { sound.now ≢ order.now }
     requires has_sound { ¬ (Lacks (S.files shelf.old) sound.now) }
     requires has_order { ¬ (Lacks (S.files shelf.old) order.now) }
@@ -135,7 +135,7 @@ pub fn play_turns<R: Threads + Wait + Sync, S: Shelf, G: Gate>(
     requires renderer { IsFreshRenderer line.now renderer.old }
     requires spare { many_commands (plans_of players.old) ≤ renderer.old.spare }
     requires blocks { (1 ≤ blocks) × (blocks ≤ 1048576) }
-    requires due { (k : ℕ) (d : PlayerView) → k < length players.old → AllBelow blocks (dues (slice_index_or players.old k d).left) }
+    requires due { (k : ℕ) (d : PlayerView) → k < length players.old → AllBelow blocks (due_blocks (slice_index_or players.old k d).left) }
     requires differ { sound.now ≢ order.now }
     requires has_sound { ¬ (Lacks (S.files shelf.old) sound.now) }
     requires has_order { ¬ (Lacks (S.files shelf.old) order.now) }

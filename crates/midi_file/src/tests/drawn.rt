@@ -35,7 +35,7 @@ fn draw(seed: &mut u64, below: u32) -> u32
     (*seed >> 33) as u32 % below
 }
 
-/// Draws an event, and writes it behind its delta time with or without its status.
+/// Draws an event, and writes it after its delta time with or without its status.
 fn draw_event(
     bytes: &mut Vec<u8>,
     seed: &mut u64,

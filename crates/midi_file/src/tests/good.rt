@@ -58,7 +58,7 @@ pub(crate) fn files_are_read(
             &[b"\0\xF0\x01\x43\0\xF0\x06\x43\x10\x01\x06\x10\xF7\0\xF0\x01\x43"],
             b"0 param 134 16\n",
         ),
-        // the end of a track, whatever its length; nothing behind it counts
+        // the end of a track, whatever its length; nothing after it counts
         (
             &[b"\0\x90\x3C\x64\0\xFF\x2F\x01\0\0\x3C"],
             b"0 on 0 60 100\n",
@@ -89,7 +89,7 @@ pub(crate) fn files_are_read(
     ];
     judge_tracks(rt, alloc, map, &rows)?;
     let rows: [(&[u8], &[u8]); 3] = [
-        // a longer header, another chunk before the track, and bytes behind it
+        // a longer header, another chunk before the track, and bytes after it
         (
             b"MThd\0\0\0\x08\0\0\0\x01\0\x60??MTrx\0\0\0\x01?MTrk\0\0\0\x04\0\x90\x3C\x64MTrk",
             b"0 on 0 60 100\n",

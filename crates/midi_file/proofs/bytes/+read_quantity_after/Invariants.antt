@@ -1,4 +1,4 @@
-use Rattle.midi_file.proofs.bytes.+read_quantity_behind.Given as goal
+use Rattle.midi_file.proofs.bytes.+read_quantity_after.Given as goal
 
-abbrev pub decreases-read_quantity_behind : goal.decreases-read_quantity_behind
-decreases-read_quantity_behind l = l.more
+abbrev pub decreases-read_quantity_after : goal.decreases-read_quantity_after
+decreases-read_quantity_after l = l.more

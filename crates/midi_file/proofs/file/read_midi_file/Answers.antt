@@ -10,5 +10,5 @@ returns-in-Err g c = faulty_file c.in-Err.fault c.args.bounds.blocks c.args.boun
 pub returns-in-Ok-sort_by_tick : goal.returns-in-Ok-sort_by_tick
 returns-in-Ok-sort_by_tick g c =
     subst (λ (os : List Outcome). Settles c.plan_acts.result c.args.bounds.room os)
-    (whole_file c.args.bounds.blocks c.args.bytes.now c.read_happenings.new.happened.items c.sort_by_tick.new.happened.items c.in-Ok.division
+    (whole_file c.args.bounds.blocks c.args.bytes.now c.read_acts.new.acts.items c.sort_by_tick.new.acts.items c.in-Ok.division
     c.in-Ok.ensures.come c.in-Ok-sort_by_tick.ensures.order c.in-Ok.ensures.division) c.plan_acts.ensures

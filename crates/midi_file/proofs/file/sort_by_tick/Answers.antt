@@ -6,7 +6,7 @@ use Rattle.midi_file.proofs.file.sort_by_tick.Goals as goal
 
 pub returns-in-Ok-clause-order : goal.returns-in-Ok-clause-order
 returns-in-Ok-clause-order c =
-    sorted_is c.args.happened.now.items c.sort_by_key.new.self.items
+    sorted_is c.args.acts.now.items c.sort_by_key.new.self.items
     (IsNonDecreasingBy-from_sort_by_key (λ (e : TimedData). e.tick) _ c.in-Ok.ensures.sorted (λ a r q k. search rules))
     (c.in-Ok.ensures.stable (λ (e : TimedData). e.tick) (answers_always _ _ _ (λ f a r g h. search rules)))
 

@@ -2,8 +2,8 @@ use Rattle.std.proofs.Common.{ap, sym, Err}
 use Rattle.script_read.proofs.Dumps.{voice_found, voice_missed}
 use Rattle.script_read.proofs.grammar.voice_of.Goals as goal
 
-pub returns-in-Ok-clause-said : goal.returns-in-Ok-clause-said
-returns-in-Ok-clause-said c = sym (voice_found _ _ c.in-Ok.ensures.read)
+pub returns-in-Ok-clause-parsed : goal.returns-in-Ok-clause-parsed
+returns-in-Ok-clause-parsed c = sym (voice_found _ _ c.in-Ok.ensures.read)
 
-pub returns-in-Err-NotCommand-clause-said : goal.returns-in-Err-NotCommand-clause-said
-returns-in-Err-NotCommand-clause-said c = sym (voice_missed _ (c.in-Err-NotCommand.ensures.refused (ap Err c.in-Err-NotCommand.field-0-is)))
+pub returns-in-Err-NotCommand-clause-parsed : goal.returns-in-Err-NotCommand-clause-parsed
+returns-in-Err-NotCommand-clause-parsed c = sym (voice_missed _ (c.in-Err-NotCommand.ensures.refused (ap Err c.in-Err-NotCommand.field-0-is)))

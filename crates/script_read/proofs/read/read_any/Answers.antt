@@ -1,5 +1,5 @@
 use Rattle.std.proofs.Common.{◌∙◌, sym}
-use Rattle.script_read.proofs.Answering.{midi_settled}
+use Rattle.script_read.proofs.Plans.{midi_settled}
 use Rattle.script_read.proofs.read.read_any.Goals as goal
 
 pub returns-then-is_midi_file : goal.returns-then-is_midi_file

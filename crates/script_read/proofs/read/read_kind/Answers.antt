@@ -1,6 +1,6 @@
 use Rattle.std.proofs.Common.{◌∙◌, sym}
 use Rattle.script_read.specs.Words.{lines_of}
-use Rattle.script_read.proofs.Answering.{edit_settled, other_refused}
+use Rattle.script_read.proofs.Plans.{edit_settled, other_refused}
 use Rattle.script_read.proofs.read.read_kind.Goals as goal
 
 pub returns-then-is_word-2 : goal.returns-then-is_word-2

@@ -1,5 +1,5 @@
 use Rattle.std.proofs.Common.{◌∙◌, sym}
-use Rattle.script_read.proofs.Answering.{nothing_alone, unknown_refused}
+use Rattle.script_read.proofs.Plans.{nothing_alone, unknown_refused}
 use Rattle.script_read.proofs.read.read_lone.Goals as goal
 
 pub returns-then-is_text_kind : goal.returns-then-is_text_kind

@@ -1,4 +1,4 @@
-use Rattle.script_read.proofs.Answering.{plan_ok, plan_refused, plan_many, plan_early}
+use Rattle.script_read.proofs.Plans.{plan_ok, plan_refused, plan_many, plan_early}
 use Rattle.script_read.proofs.read.read_script.Goals as goal
 
 pub returns-clause-ok : goal.returns-clause-ok

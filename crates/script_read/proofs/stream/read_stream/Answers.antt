@@ -4,11 +4,12 @@ use Rattle.midi_stream.specs.Reading.{Reads}
 use Rattle.velocity_map.specs.Map.{curve_of}
 use Rattle.velocity_map.specs.declared.curve.Curve.TheVariants.{Linear}
 use Rattle.script_outcome.specs.declared.fault.Place.TheVariants as place
-use Rattle.script_outcome.specs.Stream.{begun_at, heard_with}
+use Rattle.script_outcome.specs.Stream.{begun_at}
+use Rattle.midi_stream.specs.Ended.{ended_message}
 use Rattle.script_outcome.specs.Outcomes.{Outcome, fed_outcomes}
 use Rattle.script_outcome.specs.Reading.{Stops, all_given}
-use Rattle.script_outcome.proofs.Hearing.{take_next}
-use Rattle.script_read.proofs.Streaming.{fed_next, heard_same, nothing_fed, none_begun, start_next, stopped_within, stream_settled}
+use Rattle.script_outcome.proofs.EndedMessages.{take_next}
+use Rattle.script_read.proofs.StreamOutcomes.{fed_next, ended_same, nothing_fed, none_begun, start_next, stopped_within, stream_settled}
 use Rattle.script_outcome.proofs.Plans.{on_ok_more, on_err_more, few_of_none, due_of_none}
 use Rattle.script_read.proofs.stream.read_stream.Goals as goal
 
@@ -23,17 +24,17 @@ loop-at-init g c =
       due = due_of_none c.in-Ok.feed.script none;
     }
 
-pub returns-in-Err-take : goal.returns-in-Err-take
-returns-in-Err-take g c =
+pub returns-in-Err-read_byte : goal.returns-in-Err-read_byte
+returns-in-Err-read_byte g c =
     let i = c.loop-at.invariant in
     let at : ℕ = c.loop-at.at in
     let bytes : List ℕ = c.args.bytes.now in
     let byte : ℕ = get_or bytes at 0 in
-    stopped_within c.in-Err-take.fault c.args.room (at + 1) bytes
-    (subst (λ (os : List Outcome). Stops c.in-Err-take.fault c.args.room os)
-    (ap (λ (os : List Outcome). all_given c.loop-at.feed.script ++ os) (heard_same c.loop-at.start (begun_at (take at bytes)) (curve_of c.args.map.now) (heard_with (take at bytes) byte) i.start c.requires.linear)
+    stopped_within c.in-Err-read_byte.fault c.args.room (at + 1) bytes
+    (subst (λ (os : List Outcome). Stops c.in-Err-read_byte.fault c.args.room os)
+    (ap (λ (os : List Outcome). all_given c.loop-at.feed.script ++ os) (ended_same c.loop-at.start (begun_at (take at bytes)) (curve_of c.args.map.now) (ended_message (take at bytes) byte) i.start c.requires.linear)
     ∙ sym (fed_next bytes at byte c.loop-at.feed.script c.loop-at-test.true refl i.given))
-    (c.in-Err-take.ensures.stops (take at bytes) i.reads))
+    (c.in-Err-read_byte.ensures.stops (take at bytes) i.reads))
 
 pub loop-at-preserved : goal.loop-at-preserved
 loop-at-preserved g c =
@@ -42,13 +43,13 @@ loop-at-preserved g c =
     let bytes : List ℕ = c.args.bytes.now in
     let byte : ℕ = get_or bytes at 0 in
     record {
-      reads = subst (λ (s : List ℕ). Reads c.take.new.self.reader s) (sym (take_next bytes at byte c.loop-at-test.true refl)) (c.take.ensures.reads (take at bytes) i.reads);
-      start = start_next bytes at c.loop-at.start c.start_behind-next.result byte c.at_rest.result c.loop-at-test.true refl (c.at_rest.ensures (take at bytes) i.reads) i.start c.start_behind-next.ensures;
+      reads = subst (λ (s : List ℕ). Reads c.read_byte.new.self.reader s) (sym (take_next bytes at byte c.loop-at-test.true refl)) (c.read_byte.ensures.reads (take at bytes) i.reads);
+      start = start_next bytes at c.loop-at.start c.start_after-next.result byte c.at_rest.result c.loop-at-test.true refl (c.at_rest.ensures (take at bytes) i.reads) i.start c.start_after-next.ensures;
       given = fed_next bytes at byte c.loop-at.feed.script c.loop-at-test.true refl i.given
-          ∙ sym (c.in-Ok-take.ensures.given (take at bytes) i.reads
-          ∙ ap (λ (os : List Outcome). all_given c.loop-at.feed.script ++ os) (heard_same c.loop-at.start (begun_at (take at bytes)) (curve_of c.args.map.now) (heard_with (take at bytes) byte) i.start c.requires.linear));
-      few = c.in-Ok-take.ensures.few;
-      due = c.in-Ok-take.ensures.due;
+          ∙ sym (c.in-Ok-read_byte.ensures.given (take at bytes) i.reads
+          ∙ ap (λ (os : List Outcome). all_given c.loop-at.feed.script ++ os) (ended_same c.loop-at.start (begun_at (take at bytes)) (curve_of c.args.map.now) (ended_message (take at bytes) byte) i.start c.requires.linear));
+      few = c.in-Ok-read_byte.ensures.few;
+      due = c.in-Ok-read_byte.ensures.due;
     }
 
 pub returns : goal.returns

@@ -1,6 +1,6 @@
 use Rattle.std.proofs.Common.{◌∷◌, ◌++◌, ◌∙◌, Err, ap, refl}
 use Rattle.command_set.specs.Entries.{logged_data}
-use Rattle.take_files.specs.Pieces.{IsSeen}
+use Rattle.take_files.specs.Chunks.{IsSeen}
 use Rattle.take_files.specs.Reading.{listed, text_of}
 use Rattle.take_files.specs.declared.read.OrderKind.TheVariants.{Line}
 use Rattle.take_files.proofs.Results.{answered}

@@ -1,5 +1,5 @@
 use Rattle.std.proofs.Common.{◌∷◌, ◌++◌, ◌∙◌, ap, refl}
-use Rattle.take_files.specs.Pieces.{IsSeen}
+use Rattle.take_files.specs.Chunks.{IsSeen}
 use Rattle.take_files.specs.Reading.{text_of}
 use Rattle.take_files.specs.declared.read.OrderKind.TheVariants.{Line}
 use Rattle.take_files.proofs.Results.{answered}

@@ -1,7 +1,7 @@
 use Rattle.std.proofs.Common.{◌++◌, ◌∙◌, [], List, ℕ, sym, subst, ap, arith}
 use Rattle.std.proofs.lemmas.List.{append-nil}
 use Rattle.std.proofs.lemmas.Result.{err_from_is_err_and, IfOk-weaker}
-use Rattle.take_files.specs.Pieces.{IsSeen, line_feeds}
+use Rattle.take_files.specs.Chunks.{IsSeen, line_feeds}
 use Rattle.take_files.specs.Reading.{lines_read}
 use Rattle.take_files.proofs.Feeding.{cut_feeds, feeds_append, uncut_feeds}
 use Rattle.take_files.proofs.Lines.{cut_text}

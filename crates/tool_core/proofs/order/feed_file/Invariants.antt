@@ -1,7 +1,7 @@
 use Rattle.std.proofs.Common.{◌≡◌, ◌≤◌, ◌-◌, length, take}
 use Rattle.std.specs.Prelude.{IfSome}
 use Rattle.std.specs.FinMap.{get}
-use Rattle.take_files.specs.Pieces.{HasFed}
+use Rattle.take_files.specs.Chunks.{HasFed}
 use Rattle.tool_core.proofs.order.feed_file.Given as goal
 
 abbrev pub invariant-feeding : goal.invariant-feeding

@@ -1,4 +1,4 @@
-use Rattle.script_read.proofs.EditLining.{stops_bad}
+use Rattle.script_read.proofs.EditOutcomes.{stops_bad}
 use Rattle.script_read.proofs.editing.Editing.refuse.Goals as goal
 
 pub returns : goal.returns

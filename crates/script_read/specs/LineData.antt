@@ -1,16 +1,16 @@
--- What a line that was read says.
+-- A line that was read, as plain data.
 use Rattle.command_set.specs.Command.{IsInRange, content}
 use Rattle.script_read.specs.declared.line.Line.{Line}
 use Rattle.script_read.specs.declared.line.Line.TheVariants as line
-use Rattle.script_read.specs.Lines.{Said, Maps, Orders, Feeds, Wrong}
+use Rattle.script_read.specs.Lines.{ParsedLine, Maps, Orders, Feeds, Wrong}
 use Rattle.script_read.specs.Lines as lines
 
-abbrev pub says : Line → Said
-says line.Blank = lines.Blank
-says (line.Map curve) = Maps curve
-says (line.Command block command) = Orders block (content command)
-says (line.Bytes block bytes) = Feeds block bytes.items
-says line.Wrong = Wrong
+abbrev pub line_data : Line → ParsedLine
+line_data line.Blank = lines.Blank
+line_data (line.Map curve) = Maps curve
+line_data (line.Command block command) = Orders block (content command)
+line_data (line.Bytes block bytes) = Feeds block bytes.items
+line_data line.Wrong = Wrong
 
 -- its command is in range
 abbrev pub IsSound : Line → Type 0

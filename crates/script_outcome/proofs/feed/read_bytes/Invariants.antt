@@ -4,7 +4,7 @@ use Rattle.velocity_map.specs.Map.{curve_of}
 use Rattle.script_plan.specs.Plan.{last_due}
 use Rattle.script_outcome.specs.Outcomes.{fed_outcomes}
 use Rattle.script_outcome.specs.Reading.{all_given}
-use Rattle.script_outcome.proofs.feed.take_all.Given as goal
+use Rattle.script_outcome.proofs.feed.read_bytes.Given as goal
 
 abbrev pub invariant-loop-byte : goal.invariant-loop-byte
 invariant-loop-byte g l = record {

@@ -3,9 +3,9 @@ use Rattle.midi_stream.specs.Reading.{Reads}
 use Rattle.velocity_map.specs.Map.{curve_of}
 use Rattle.script_outcome.specs.Outcomes.{Outcome}
 use Rattle.script_outcome.specs.Reading.{all_given}
-use Rattle.script_outcome.proofs.Hearing.{take_next}
-use Rattle.script_outcome.proofs.Feeding.{fed_none, fed_step, fed_stopped}
-use Rattle.script_outcome.proofs.feed.take_all.Goals as goal
+use Rattle.script_outcome.proofs.EndedMessages.{take_next}
+use Rattle.script_outcome.proofs.FedBytes.{fed_none, fed_step, fed_stopped}
+use Rattle.script_outcome.proofs.feed.read_bytes.Goals as goal
 
 pub loop-byte-init : goal.loop-byte-init
 loop-byte-init g c = record {
@@ -31,10 +31,10 @@ loop-byte-preserved g c =
     let bytes : List ℕ = c.args.bytes.now in
     let next = take_next bytes at (get_or bytes at 0) c.loop-byte-test.true refl in
     record {
-      reads = λ stream reads. subst (λ (s : List ℕ). Reads c.take.new.self.reader s) (append_assoc stream (take at bytes) (get_or bytes at 0 ∷ []) ∙ ap (λ (s : List ℕ). stream ++ s) (sym next))
-          (c.take.ensures.reads (stream ++ take at bytes) (i.reads stream reads));
+      reads = λ stream reads. subst (λ (s : List ℕ). Reads c.read_byte.new.self.reader s) (append_assoc stream (take at bytes) (get_or bytes at 0 ∷ []) ∙ ap (λ (s : List ℕ). stream ++ s) (sym next))
+          (c.read_byte.ensures.reads (stream ++ take at bytes) (i.reads stream reads));
       given = λ stream reads. fed_step (λ before. c.args.spot.place) c.args.spot.block (curve_of c.args.map.now) stream bytes at (get_or bytes at 0)
-          c.args.feed.now.script c.loop-byte.feed.script c.take.new.self.script c.loop-byte-test.true refl (i.given stream reads)
+          c.args.feed.now.script c.loop-byte.feed.script c.read_byte.new.self.script c.loop-byte-test.true refl (i.given stream reads)
           (c.in-Ok.ensures.given (stream ++ take at bytes) (i.reads stream reads));
       few = c.in-Ok.ensures.few;
       due = c.in-Ok.ensures.due;

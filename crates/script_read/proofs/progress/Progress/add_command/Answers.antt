@@ -4,29 +4,29 @@ use Rattle.command_set.specs.Command.{CommandData, content}
 use Rattle.script_plan.specs.Plan.{planned_at}
 use Rattle.script_outcome.specs.declared.fault.ScriptFault.{ScriptFault}
 use Rattle.script_outcome.specs.Outcomes.{Outcome, Gives}
-use Rattle.script_read.specs.Outcomes.{curved, outcomes_behind, line_behind}
+use Rattle.script_read.specs.Outcomes.{curved, outcomes_after, line_after}
 use Rattle.script_read.specs.Lines.{Orders}
 use Rattle.script_outcome.specs.Reading.{Stops, all_given}
-use Rattle.script_read.proofs.Lining.{behind_more, stops_line, stops_in_line, order_outcomes, timed_some, timed_none}
-use Rattle.script_read.proofs.progress.Progress.take_command.Goals as goal
+use Rattle.script_read.proofs.LineOutcomes.{after_more, stops_line, stops_in_line, order_outcomes, timed_some, timed_none}
+use Rattle.script_read.proofs.progress.Progress.add_command.Goals as goal
 
 pub returns-in-Some-clause-stops : goal.returns-in-Some-clause-stops
 returns-in-Some-clause-stops g c = λ lines b.
     let p = c.args.self.now in
-    let said = Orders c.args.block (content c.args.command) in
-    subst (λ (why : ScriptFault). Stops why c.args.bounds.room (outcomes_behind c.args.bounds.blocks [] (lines ++ said ∷ []))) (sym c.refused.ensures)
-    (stops_line p c.args.bounds.blocks c.args.bounds.room lines said c.in-Some.kind b c.requires.order.few
-    (order_outcomes p c.args.bounds.blocks lines c.args.block (content c.args.command) b ∙ timed_some _ (line_behind lines) _ c.in-Some.kind (sym c.fault_of_block.ensures ∙ c.in-Some.is)))
+    let parsed = Orders c.args.block (content c.args.command) in
+    subst (λ (why : ScriptFault). Stops why c.args.bounds.room (outcomes_after c.args.bounds.blocks [] (lines ++ parsed ∷ []))) (sym c.refused.ensures)
+    (stops_line p c.args.bounds.blocks c.args.bounds.room lines parsed c.in-Some.kind b c.requires.order.few
+    (order_outcomes p c.args.bounds.blocks lines c.args.block (content c.args.command) b ∙ timed_some _ (line_after lines) _ c.in-Some.kind (sym c.fault_of_block.ensures ∙ c.in-Some.is)))
 
-pub returns-in-Ok-clause-behind : goal.returns-in-Ok-clause-behind
-returns-in-Ok-clause-behind g c = λ lines b.
+pub returns-in-Ok-clause-after : goal.returns-in-Ok-clause-after
+returns-in-Ok-clause-after g c = λ lines b.
     let p = c.args.self.now in
     let command = content c.args.command in
     let same : content c.on_curve-command.result ≡ curved p.curve command = c.on_curve-command.ensures.curved ∙ ap (λ (x : Curve). curved x command) c.map.ensures in
-    behind_more p _ c.args.bounds.blocks lines (Orders c.args.block command) b (rw append-nil b.reads) refl refl refl refl
+    after_more p _ c.args.bounds.blocks lines (Orders c.args.block command) b (rw append-nil b.reads) refl refl refl refl
     (c.in-Ok.ensures.given
     ∙ ap (λ (d : CommandData). all_given p.feed.script ++ Gives (planned_at c.args.block d) ∷ []) same
-    ∙ ap (λ (os : List Outcome). all_given p.feed.script ++ os) (sym (order_outcomes p c.args.bounds.blocks lines c.args.block command b ∙ timed_none _ (line_behind lines) _ (sym c.fault_of_block.ensures ∙ c.in-None.is))))
+    ∙ ap (λ (os : List Outcome). all_given p.feed.script ++ os) (sym (order_outcomes p c.args.bounds.blocks lines c.args.block command b ∙ timed_none _ (line_after lines) _ (sym c.fault_of_block.ensures ∙ c.in-None.is))))
 
 pub returns-in-Err-clause-stops : goal.returns-in-Err-clause-stops
 returns-in-Err-clause-stops g c = λ lines b.
@@ -36,5 +36,5 @@ returns-in-Err-clause-stops g c = λ lines b.
     stops_in_line p c.args.bounds.blocks c.args.bounds.room lines (Orders c.args.block command) c.in-Err.fault b
     (subst (λ (os : List Outcome). Stops c.in-Err.fault c.args.bounds.room os)
     (ap (λ (d : CommandData). all_given p.feed.script ++ Gives (planned_at c.args.block d) ∷ []) same
-    ∙ ap (λ (os : List Outcome). all_given p.feed.script ++ os) (sym (order_outcomes p c.args.bounds.blocks lines c.args.block command b ∙ timed_none _ (line_behind lines) _ (sym c.fault_of_block.ensures ∙ c.in-None.is))))
+    ∙ ap (λ (os : List Outcome). all_given p.feed.script ++ os) (sym (order_outcomes p c.args.bounds.blocks lines c.args.block command b ∙ timed_none _ (line_after lines) _ (sym c.fault_of_block.ensures ∙ c.in-None.is))))
     c.in-Err.ensures.stops)

@@ -9,16 +9,16 @@ use Rattle.script_outcome.specs.declared.fault.ScriptKind.{ScriptKind}
 use Rattle.script_outcome.specs.declared.fault.ScriptKind.TheVariants as kind
 use Rattle.script_outcome.specs.declared.fault.ScriptFault.{ScriptFault}
 use Rattle.script_outcome.specs.declared.fault.ScriptFault.TheVariants as faults
-use Rattle.script_read.specs.Lines.{sayings}
-use Rattle.script_read.specs.EditLines.{edit_sayings}
-use Rattle.script_read.specs.Edits.{edit_text_outcomes, edits_behind}
+use Rattle.script_read.specs.Lines.{parsed_lines}
+use Rattle.script_read.specs.EditLines.{parsed_edits}
+use Rattle.script_read.specs.Edits.{edit_text_outcomes, edits_after}
 use Rattle.script_outcome.specs.Outcomes.{Outcome}
-use Rattle.script_read.specs.Outcomes.{stream_of, outcomes_behind, text_outcomes}
+use Rattle.script_read.specs.Outcomes.{stream_of, outcomes_after, text_outcomes}
 use Rattle.script_outcome.specs.Plan.{Commands, Refused, TooMany, plan_of}
 use Rattle.midi_file.specs.File.{midi_outcomes}
 use Rattle.script_read.specs.Plan.{at_first, is_stream, is_midi_file, lines_outcomes, outcomes, plan}
 use Rattle.script_outcome.specs.Reading.{Settles, Stops, all_given}
-use Rattle.script_outcome.proofs.Plans.{fails_behind, stopped_refused, stopped_many, whole}
+use Rattle.script_outcome.proofs.Plans.{fails_after, stopped_refused, stopped_many, whole}
 use Rattle.script_outcome.proofs.Early.{AllEarly, given_early}
 use Rattle.script_read.proofs.Early.{all_early}
 
@@ -55,15 +55,15 @@ plan_early (Err why) bytes blocks room h = tt
 -- ---- first lines
 
 pub midi_first : (blocks : Option ℕ) (first : List ℕ) (lines : List (List ℕ)) → bytes_eq first (codes "midi 1") ≡ true
-    → lines_outcomes blocks (first ∷ lines) ≡ text_outcomes blocks (sayings lines)
+    → lines_outcomes blocks (first ∷ lines) ≡ text_outcomes blocks (parsed_lines lines)
 midi_first blocks first lines e = rw e refl
 
 edit_first : (blocks : Option ℕ) (first : List ℕ) (lines : List (List ℕ)) → bytes_eq first (codes "midi 1") ≡ false → bytes_eq first (codes "edit 1") ≡ true
-    → lines_outcomes blocks (first ∷ lines) ≡ edit_text_outcomes blocks (edit_sayings lines)
+    → lines_outcomes blocks (first ∷ lines) ≡ edit_text_outcomes blocks (parsed_edits lines)
 edit_first blocks first lines e f = rw (e, f) refl
 
 pub edit_settled : (r : Result (List PlannedData) ScriptFault) (room : ℕ) (blocks : Option ℕ) (first : List ℕ) (lines : List (List ℕ)) → bytes_eq first (codes "midi 1") ≡ false → bytes_eq first (codes "edit 1") ≡ true
-    → Settles r room (edit_text_outcomes blocks (edit_sayings lines)) → Settles r room (lines_outcomes blocks (first ∷ lines))
+    → Settles r room (edit_text_outcomes blocks (parsed_edits lines)) → Settles r room (lines_outcomes blocks (first ∷ lines))
 edit_settled r room blocks first lines e f h = subst (λ (os : List Outcome). Settles r room os) (sym (edit_first blocks first lines e f)) h
 
 other_first : (blocks : Option ℕ) (first : List ℕ) (lines : List (List ℕ)) → bytes_eq first (codes "midi 1") ≡ false → bytes_eq first (codes "edit 1") ≡ false
@@ -71,7 +71,7 @@ other_first : (blocks : Option ℕ) (first : List ℕ) (lines : List (List ℕ))
 other_first blocks first lines e f = rw (e, f) refl
 
 pub stops_first : (room : ℕ) (why : ScriptKind) → Stops (faults.Refused (place.Line 1) why) room (at_first why)
-stops_first room why = λ more. fails_behind room [] (place.Line 1) why more (omega arith)
+stops_first room why = λ more. fails_after room [] (place.Line 1) why more (omega arith)
 
 refused_with : (fault : ScriptFault) (room : ℕ) (why : ScriptKind) (os : List Outcome) → os ≡ at_first why → fault ≡ faults.Refused (place.Line 1) why → Stops fault room os
 refused_with fault room why os is e =
@@ -83,11 +83,11 @@ other_refused fault room blocks first lines e f is = refused_with fault room kin
 
 -- a text of its first line alone
 pub nothing_comes : (blocks : Option ℕ) → text_outcomes blocks [] ≡ []
-unfolding text_outcomes outcomes_behind stream_of is_unfinished
+unfolding text_outcomes outcomes_after stream_of is_unfinished
 nothing_comes blocks = refl
 
 no_edits : (blocks : Option ℕ) → edit_text_outcomes blocks [] ≡ []
-unfolding edits_behind
+unfolding edits_after
 no_edits blocks = refl
 
 neither : (a b : Bool) (xs ys zs : List Outcome) → xs ≡ [] → ys ≡ [] → (a || b) ≡ true → cond a xs (cond b ys zs) ≡ []

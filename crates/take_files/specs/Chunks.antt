@@ -1,4 +1,4 @@
--- An order that is read in pieces: how a reader stands once some bytes were fed.
+-- An order that is read in chunks: how a reader stands once some bytes were fed.
 use Rattle.std.specs.Prelude.{ℕ, ◌≡◌, ◌⊎◌, ◌+◌, ◌<◌, ◌≤◌, ◌==◌, if◌then◌else◌, List, [], ◌∷◌, Result, Ok, Err}
 use Rattle.std.specs.List.{count_by}
 use Rattle.take_files.specs.Orders.{IsRefused}
@@ -31,7 +31,7 @@ HasFed (Clean text) fed = (text ≡ fed) × ((line : ℕ) (kind : OrderKind) →
 HasFed (Faulty line kind) fed = IsSeen fed line kind
 HasFed OutOfMemory fed = Unit {0}
 
--- what a reader that stands so answers to a piece
+-- what a reader that stands so answers to a chunk
 abbrev pub answer : Standing → Result (Unit {0}) OrderFault
 answer (Clean text) = Ok tt
 answer (Faulty line kind) = Err (fault.Refused line kind)

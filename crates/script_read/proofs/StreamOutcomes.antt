@@ -12,14 +12,15 @@ use Rattle.script_outcome.specs.declared.fault.Place.TheVariants as place
 use Rattle.script_outcome.specs.declared.fault.ScriptKind.TheVariants as kind
 use Rattle.script_outcome.specs.declared.fault.ScriptFault.{ScriptFault}
 use Rattle.script_outcome.specs.declared.fault.ScriptFault.TheVariants as faults
-use Rattle.script_outcome.specs.Stream.{Heard, begun_at, begun_behind, heard_with, is_status, begins}
-use Rattle.script_outcome.specs.Outcomes.{Outcome, heard_outcomes, fed_outcomes}
+use Rattle.script_outcome.specs.Stream.{begun_at, begun_after, is_status, begins}
+use Rattle.midi_stream.specs.Ended.{EndedMessage, ended_message}
+use Rattle.script_outcome.specs.Outcomes.{Outcome, ended_outcomes, fed_outcomes}
 use Rattle.script_read.specs.Outcomes.{stream_end, stream_outcomes}
 use Rattle.script_outcome.specs.Plan.{Refused, plan_of}
 use Rattle.script_outcome.specs.Reading.{Settles, Stops, all_given}
 use Rattle.script_outcome.proofs.Plans.{fails, stops_more}
-use Rattle.script_outcome.proofs.Hearing.{begun_more, fed_more, take_next}
-use Rattle.script_outcome.proofs.Feeding.{fed_append}
+use Rattle.script_outcome.proofs.EndedMessages.{begun_more, fed_more, take_next}
+use Rattle.script_outcome.proofs.FedBytes.{fed_append}
 
 abbrev place_in : List ℕ → Place
 place_in before = place.Byte (begun_at before)
@@ -27,11 +28,11 @@ place_in before = place.Byte (begun_at before)
 pub fed_next : (bytes : List ℕ) (at byte : ℕ) (cs : List PlannedData) → at < length bytes → get_or bytes at 0 ≡ byte
     → fed_outcomes (λ before. place.Byte (begun_at before)) 0 Linear [] (take at bytes) ≡ all_given cs
     → fed_outcomes (λ before. place.Byte (begun_at before)) 0 Linear [] (take (at + 1) bytes)
-    ≡ all_given cs ++ heard_outcomes (place.Byte (begun_at (take at bytes))) 0 Linear (heard_with (take at bytes) byte)
+    ≡ all_given cs ++ ended_outcomes (place.Byte (begun_at (take at bytes))) 0 Linear (ended_message (take at bytes) byte)
 fed_next bytes at byte cs below is given =
     ap (fed_outcomes place_in 0 Linear []) (take_next bytes at byte below is)
     ∙ fed_more place_in 0 Linear [] (take at bytes) byte
-    ∙ ap (λ (os : List Outcome). os ++ heard_outcomes (place.Byte (begun_at (take at bytes))) 0 Linear (heard_with (take at bytes) byte)) given
+    ∙ ap (λ (os : List Outcome). os ++ ended_outcomes (place.Byte (begun_at (take at bytes))) 0 Linear (ended_message (take at bytes) byte)) given
 
 -- a stop before the stream's end
 pub stopped_within : (why : ScriptFault) (room at : ℕ) (bytes : List ℕ) → Stops why room (fed_outcomes (λ before. place.Byte (begun_at before)) 0 Linear [] (take at bytes))
@@ -67,7 +68,7 @@ stream_cut bytes room start cs given few cut is = λ more.
     ∙ fails room cs (place.Byte (begun_at bytes)) kind.Cut more few
     ∙ ap (λ (n : ℕ). Refused (place.Byte n) kind.Cut) (sym is)
 
--- where the last message begins, behind one more byte
+-- where the last message begins, after one more byte
 pub start_next : (bytes : List ℕ) (at start next byte : ℕ) (rest : Bool) → at < length bytes → get_or bytes at 0 ≡ byte
     → rest ≡ not (is_unfinished (take at bytes)) → start ≡ begun_at (take at bytes) → next ≡ (if is_status byte || rest then at else start)
     → next ≡ begun_at (take (at + 1) bytes)
@@ -80,16 +81,16 @@ start_next bytes at start next byte rest below is rests began ends =
     ∙ sym (ap begun_at (take_next bytes at byte below is) ∙ begun_more (take at bytes) byte)
 
 -- the place and the curve, by other names
-pub heard_same : (start began : ℕ) (curve : Curve) (heard : Option Heard) → start ≡ began → curve ≡ Linear
-    → heard_outcomes (place.Byte start) 0 curve heard ≡ heard_outcomes (place.Byte began) 0 Linear heard
-heard_same start began curve heard e l = ap (λ (n : ℕ). heard_outcomes (place.Byte n) 0 curve heard) e ∙ ap (λ (c : Curve). heard_outcomes (place.Byte began) 0 c heard) l
+pub ended_same : (start began : ℕ) (curve : Curve) (ended : Option EndedMessage) → start ≡ began → curve ≡ Linear
+    → ended_outcomes (place.Byte start) 0 curve ended ≡ ended_outcomes (place.Byte began) 0 Linear ended
+ended_same start began curve ended e l = ap (λ (n : ℕ). ended_outcomes (place.Byte n) 0 curve ended) e ∙ ap (λ (c : Curve). ended_outcomes (place.Byte began) 0 c ended) l
 
 pub nothing_fed : fed_outcomes (λ before. place.Byte (begun_at before)) 0 Linear [] [] ≡ []
 unfolding fed_outcomes
 nothing_fed = refl
 
 pub none_begun : begun_at [] ≡ 0
-unfolding begun_at begun_behind
+unfolding begun_at begun_after
 none_begun = refl
 
 -- the answer at the stream's end
