@@ -2,7 +2,7 @@
 
 ghost use Rattle.std.specs.Prelude.{◌≡◌};
 
-/// The stage that an envelope is in. The third waits for the key to go up, the fourth has no end.
+/// The stage that an envelope is in. The third lasts until key up, the fourth has no end.
 #[derive(Clone, Copy)]
 pub(crate) enum Stage {
     First,
