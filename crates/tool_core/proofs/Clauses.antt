@@ -1,4 +1,4 @@
--- What the ending of a command says, status by status.
+-- What the ending of a command means, status by status.
 use Rattle.std.proofs.Common.{◌≡◌, ◌≢◌, ◌≤◌, ◌⊎◌, inl, inr, ℕ, List, [], ◌∷◌, ◌++◌, refl, sym, ◌∙◌, ap, subst, arith}
 use Rattle.std.specs.Prelude.{Option, Some, None, IfSome, is_some, false}
 use Rattle.std.specs.FinMap.{get}
@@ -20,7 +20,7 @@ use Rattle.tool_core.specs.Words.{RequestData, Check, Names, Pick, Pack, Replay,
 use Rattle.tool_core.specs.Inputs.{Input, Kind, Midi, AnOrder, ASound, IsVerdict, IsJudged, AreGood, Decides}
 use Rattle.tool_core.specs.Orders.{IsOrderVerdict, IsRefusedFor, sound_verdict}
 use Rattle.tool_core.specs.Effects.{Effect, HasEffect, comparison, reads}
-use Rattle.tool_core.specs.Failures.{Stops, StopsAt, status_of, line_of}
+use Rattle.tool_core.specs.Failures.{Fails, FailsAt, status_of, line_of}
 use Rattle.tool_core.specs.Outcomes.{WasDone, IsDone, IsUnread, IsUnwritten, IsRefused, IsPastLimit, IsOutOfMemory, AnswersBy, IsComplete, Tells, statuses_of}
 use Rattle.tool_core.specs.Endings.{Finishes, Ends}
 
@@ -120,7 +120,7 @@ good_status : (s : ℕ) → WasDone s → IsOneOf s (statuses_of Good)
 good_status s (inl zero) = inl zero
 good_status s (inr seven) = inr (inr (inl seven))
 
--- ---- the statuses of a effect
+-- ---- the statuses of an effect
 compared_status : (place : Option ℕ) → ((comparison place).status ≡ 0) ⊎ ((comparison place).status ≡ 7)
 compared_status None = inl refl
 compared_status (Some place) = inr refl
@@ -226,27 +226,27 @@ module _ (request : RequestData) (s : ℕ) (b n : Snapshot) where
   pub seven_clause : Ends request s b n → s ≡ 7 → IsVerify request
   seven_clause ends is = let d = done_clause ends (inr is) in seven_verify request b.files d.effect d.does (sym d.status_is ∙ is)
 
-  unread_of : (f : Failure) (name : List ℕ) → Stops f (reads request) b.files name b.reading n.reading → s ≡ status_of f → Tells (line_of f name) b n → s ≡ 2 → IsUnread request b n
-  unread_of failure.Unread name stops is line q =
-      record { one = stops.one; reached = stops.reached; cause = stops.reason; line = subst (λ (l : List ℕ). Tells (cannot_read l) b n) stops.named line }
-  unread_of failure.TooLarge name stops is line q = absurd (omega (arith, is, q))
-  unread_of failure.TooMany name stops is line q = absurd (omega (arith, is, q))
-  unread_of (failure.Refused r) name stops is line q = absurd (omega (arith, is, q))
-  unread_of failure.Memory name stops is line q = absurd (omega (arith, is, q))
+  unread_of : (f : Failure) (name : List ℕ) → Fails f (reads request) b.files name b.reading n.reading → s ≡ status_of f → Tells (line_of f name) b n → s ≡ 2 → IsUnread request b n
+  unread_of failure.Unread name fails is line q =
+      record { one = fails.one; reached = fails.reached; cause = fails.reason; line = subst (λ (l : List ℕ). Tells (cannot_read l) b n) fails.named line }
+  unread_of failure.TooLarge name fails is line q = absurd (omega (arith, is, q))
+  unread_of failure.TooMany name fails is line q = absurd (omega (arith, is, q))
+  unread_of (failure.Refused r) name fails is line q = absurd (omega (arith, is, q))
+  unread_of failure.Memory name fails is line q = absurd (omega (arith, is, q))
 
-  refused_of : (f : Failure) (name : List ℕ) → Stops f (reads request) b.files name b.reading n.reading → s ≡ status_of f → Tells (line_of f name) b n → s ≡ 4 → IsRefused request b n
-  refused_of failure.Unread name stops is line q = absurd (omega (arith, is, q))
-  refused_of failure.TooLarge name stops is line q = absurd (omega (arith, is, q))
-  refused_of failure.TooMany name stops is line q = absurd (omega (arith, is, q))
-  refused_of (failure.Refused r) name stops is line q = record { one = stops.one; reached = stops.reached; why = r; refused = stops.reason.1; line = line }
-  refused_of failure.Memory name stops is line q = absurd (omega (arith, is, q))
+  refused_of : (f : Failure) (name : List ℕ) → Fails f (reads request) b.files name b.reading n.reading → s ≡ status_of f → Tells (line_of f name) b n → s ≡ 4 → IsRefused request b n
+  refused_of failure.Unread name fails is line q = absurd (omega (arith, is, q))
+  refused_of failure.TooLarge name fails is line q = absurd (omega (arith, is, q))
+  refused_of failure.TooMany name fails is line q = absurd (omega (arith, is, q))
+  refused_of (failure.Refused r) name fails is line q = record { one = fails.one; reached = fails.reached; why = r; refused = fails.reason.1; line = line }
+  refused_of failure.Memory name fails is line q = absurd (omega (arith, is, q))
 
-  limit_of : (f : Failure) (name : List ℕ) → Stops f (reads request) b.files name b.reading n.reading → s ≡ status_of f → Tells (line_of f name) b n → s ≡ 6 → IsPastLimit request b n
-  limit_of failure.Unread name stops is line q = absurd (omega (arith, is, q))
-  limit_of failure.TooLarge name stops is line q = record { one = stops.one; reached = stops.reached; limit = inl (stops.reason.1, line) }
-  limit_of failure.TooMany name stops is line q = record { one = stops.one; reached = stops.reached; limit = inr (stops.reason.1, line) }
-  limit_of (failure.Refused r) name stops is line q = absurd (omega (arith, is, q))
-  limit_of failure.Memory name stops is line q = absurd (omega (arith, is, q))
+  limit_of : (f : Failure) (name : List ℕ) → Fails f (reads request) b.files name b.reading n.reading → s ≡ status_of f → Tells (line_of f name) b n → s ≡ 6 → IsPastLimit request b n
+  limit_of failure.Unread name fails is line q = absurd (omega (arith, is, q))
+  limit_of failure.TooLarge name fails is line q = record { one = fails.one; reached = fails.reached; limit = inl (fails.reason.1, line) }
+  limit_of failure.TooMany name fails is line q = record { one = fails.one; reached = fails.reached; limit = inr (fails.reason.1, line) }
+  limit_of (failure.Refused r) name fails is line q = absurd (omega (arith, is, q))
+  limit_of failure.Memory name fails is line q = absurd (omega (arith, is, q))
 
   memory_of : (f : Failure) (name : List ℕ) → s ≡ status_of f → Tells (line_of f name) b n → s ≡ 8 → IsOutOfMemory b n
   memory_of failure.Unread name is line q = absurd (omega (arith, is, q))
@@ -255,12 +255,12 @@ module _ (request : RequestData) (s : ℕ) (b n : Snapshot) where
   memory_of (failure.Refused r) name is line q = absurd (omega (arith, is, q))
   memory_of failure.Memory name is line q = line
 
-  kept_of : (f : Failure) (name : List ℕ) → Stops f (reads request) b.files name b.reading n.reading → s ≡ status_of f → s ≢ 2 → n.reading ≡ b.reading
-  kept_of failure.Unread name stops is ne = absurd (ne is)
-  kept_of failure.TooLarge name stops is ne = stops.reason.0
-  kept_of failure.TooMany name stops is ne = stops.reason.0
-  kept_of (failure.Refused r) name stops is ne = stops.reason.0
-  kept_of failure.Memory name stops is ne = stops
+  kept_of : (f : Failure) (name : List ℕ) → Fails f (reads request) b.files name b.reading n.reading → s ≡ status_of f → s ≢ 2 → n.reading ≡ b.reading
+  kept_of failure.Unread name fails is ne = absurd (ne is)
+  kept_of failure.TooLarge name fails is ne = fails.reason.0
+  kept_of failure.TooMany name fails is ne = fails.reason.0
+  kept_of (failure.Refused r) name fails is ne = fails.reason.0
+  kept_of failure.Memory name fails is ne = fails
 
   -- a command that went on to its end has none of the other statuses
   on_end : (effect : Effect) → HasEffect request b.files effect → Finishes effect s b n → (q : ℕ) → s ≡ q → q ≢ 0 → q ≢ 7 → q ≢ 3 → ⊥
@@ -276,15 +276,15 @@ module _ (request : RequestData) (s : ℕ) (b n : Snapshot) where
 
   pub unread_clause : Ends request s b n → s ≡ 2 → IsUnread request b n
   unread_clause (inl x) q = absurd (on_end x.effect x.does x.finishes 2 q (λ a. omega (arith, a)) (λ a. omega (arith, a)) (λ a. omega (arith, a)))
-  unread_clause (inr x) q = unread_of x.why x.name x.stops x.status_is x.line q
+  unread_clause (inr x) q = unread_of x.why x.name x.fails x.status_is x.line q
 
   pub refused_clause : Ends request s b n → s ≡ 4 → IsRefused request b n
   refused_clause (inl x) q = absurd (on_end x.effect x.does x.finishes 4 q (λ a. omega (arith, a)) (λ a. omega (arith, a)) (λ a. omega (arith, a)))
-  refused_clause (inr x) q = refused_of x.why x.name x.stops x.status_is x.line q
+  refused_clause (inr x) q = refused_of x.why x.name x.fails x.status_is x.line q
 
   pub limit_clause : Ends request s b n → s ≡ 6 → IsPastLimit request b n
   limit_clause (inl x) q = absurd (on_end x.effect x.does x.finishes 6 q (λ a. omega (arith, a)) (λ a. omega (arith, a)) (λ a. omega (arith, a)))
-  limit_clause (inr x) q = limit_of x.why x.name x.stops x.status_is x.line q
+  limit_clause (inr x) q = limit_of x.why x.name x.fails x.status_is x.line q
 
   pub memory_clause : Ends request s b n → s ≡ 8 → IsOutOfMemory b n
   memory_clause (inl x) q = absurd (on_end x.effect x.does x.finishes 8 q (λ a. omega (arith, a)) (λ a. omega (arith, a)) (λ a. omega (arith, a)))
@@ -300,7 +300,7 @@ module _ (request : RequestData) (s : ℕ) (b n : Snapshot) where
 
   pub reads_clause : Ends request s b n → s ≢ 2 → n.reading ≡ b.reading
   reads_clause (inl x) ne = x.finishes.reading
-  reads_clause (inr x) ne = kept_of x.why x.name x.stops x.status_is ne
+  reads_clause (inr x) ne = kept_of x.why x.name x.fails x.status_is ne
 
   pub writes_clause : Ends request s b n → s ≢ 3 → n.writing ≡ b.writing
   writes_clause (inl x) ne = elim x.finishes.ends [ inl done ↦ done.1.writing | inr failed ↦ absurd (ne (failed.0)) ]
@@ -319,33 +319,33 @@ module _ (request : RequestData) (s : ℕ) (b n : Snapshot) where
   untouched_clause (inr x) never ne = x.files
 
   -- ---- what decides
-  stop_decides : (f : Failure) (name : List ℕ) (told : Files) (it v : Verdict) → b.files ≡ Some told → (stop : StopsAt f (reads request) b.files name b.reading n.reading)
-      → IsJudged stop.one told v → (v ≡ Good → ⊥) → Decides (reads request) told it → v ≡ it
-  stop_decides f name told it v is stop judged bad decides =
-      let good : AreGood stop.reached.earlier told = at_told (λ t. AreGood stop.reached.earlier t) b.files told is stop.reached.good in
+  failure_decides : (f : Failure) (name : List ℕ) (told : Files) (it v : Verdict) → b.files ≡ Some told → (fails : FailsAt f (reads request) b.files name b.reading n.reading)
+      → IsJudged fails.one told v → (v ≡ Good → ⊥) → Decides (reads request) told it → v ≡ it
+  failure_decides f name told it v is fails judged bad decides =
+      let good : AreGood fails.reached.earlier told = at_told (λ t. AreGood fails.reached.earlier t) b.files told is fails.reached.good in
       one_decides (reads request) told v it
-      (subst (λ (l : List Input). Decides l told v) (sym stop.reached.place) (reached_decides stop.reached.earlier stop.reached.later stop.one told v good judged bad)) decides
+      (subst (λ (l : List Input). Decides l told v) (sym fails.reached.place) (reached_decides fails.reached.earlier fails.reached.later fails.one told v good judged bad)) decides
 
-  by_failure : (f : Failure) (name : List ℕ) (told : Files) (it : Verdict) → b.files ≡ Some told → Stops f (reads request) b.files name b.reading n.reading → s ≡ status_of f
+  by_failure : (f : Failure) (name : List ℕ) (told : Files) (it : Verdict) → b.files ≡ Some told → Fails f (reads request) b.files name b.reading n.reading → s ≡ status_of f
       → Decides (reads request) told it → ¬ (Rose b.reading n.reading) → IsOneOf s (statuses_of it)
-  by_failure failure.Unread name told it is stops q decides never =
-      elim stops.reason [
+  by_failure failure.Unread name told it is fails q decides never =
+      elim fails.reason [
         | inl rose ↦ absurd (never rose)
         | inr lacks ↦
-            let there : Lacks (Some told) stops.one.name = subst (λ (o : Option Files). Lacks o stops.one.name) is lacks in
+            let there : Lacks (Some told) fails.one.name = subst (λ (o : Option Files). Lacks o fails.one.name) is lacks in
             subst (λ (v : Verdict). IsOneOf s (statuses_of v))
-            (stop_decides failure.Unread name told it Lacking is stops (lacks_verdict stops.one.kind (get told stops.one.name) there) (λ e. cc) decides) (inl q)
+            (failure_decides failure.Unread name told it Lacking is fails (lacks_verdict fails.one.kind (get told fails.one.name) there) (λ e. cc) decides) (inl q)
       ]
-  by_failure failure.TooLarge name told it is stops q decides never =
+  by_failure failure.TooLarge name told it is fails q decides never =
       subst (λ (v : Verdict). IsOneOf s (statuses_of v))
-      (stop_decides failure.TooLarge name told it TooLarge is stops (at_told (λ t. IsJudged stops.one t TooLarge) b.files told is (stops.reason.1)) (λ e. cc) decides) (inl q)
-  by_failure failure.TooMany name told it is stops q decides never =
+      (failure_decides failure.TooLarge name told it TooLarge is fails (at_told (λ t. IsJudged fails.one t TooLarge) b.files told is (fails.reason.1)) (λ e. cc) decides) (inl q)
+  by_failure failure.TooMany name told it is fails q decides never =
       subst (λ (v : Verdict). IsOneOf s (statuses_of v))
-      (stop_decides failure.TooMany name told it TooMany is stops (at_told (λ t. IsJudged stops.one t TooMany) b.files told is (stops.reason.1)) (λ e. cc) decides) (inl q)
-  by_failure (failure.Refused r) name told it is stops q decides never =
+      (failure_decides failure.TooMany name told it TooMany is fails (at_told (λ t. IsJudged fails.one t TooMany) b.files told is (fails.reason.1)) (λ e. cc) decides) (inl q)
+  by_failure (failure.Refused r) name told it is fails q decides never =
       subst (λ (v : Verdict). IsOneOf s (statuses_of v))
-      (stop_decides (failure.Refused r) name told it (Refused r) is stops (at_told (λ t. IsJudged stops.one t (Refused r)) b.files told is (stops.reason.1)) (λ e. cc) decides) (inl q)
-  by_failure failure.Memory name told it is stops q decides never = eight s it q
+      (failure_decides (failure.Refused r) name told it (Refused r) is fails (at_told (λ t. IsJudged fails.one t (Refused r)) b.files told is (fails.reason.1)) (λ e. cc) decides) (inl q)
+  by_failure failure.Memory name told it is fails q decides never = eight s it q
 
   answered : (told : Files) (it : Verdict) → b.files ≡ Some told → Ends request s b n → Decides (reads request) told it → ¬ (Rose b.reading n.reading) → IsOneOf s (statuses_of it)
   answered told it is (inl x) decides never =
@@ -355,7 +355,7 @@ module _ (request : RequestData) (s : ℕ) (b n : Snapshot) where
         | inl done ↦ good_status s (done_status s x.effect.status (done.0) (effect_status request b.files x.effect x.does))
         | inr failed ↦ inr (inl (failed.0))
       ])
-  answered told it is (inr x) decides never = by_failure x.why x.name told it is x.stops x.status_is decides never
+  answered told it is (inr x) decides never = by_failure x.why x.name told it is x.fails x.status_is decides never
 
   not_failed : Ends request s b n → ¬ (Rose b.writing n.writing) → ¬ (Rose b.faults n.faults) → s ≢ 3
   not_failed ends w f = λ q. elim (unwritten_clause ends q).failed [ inl file ↦ w file.cause | inr put ↦ f put.cause ]
@@ -390,7 +390,7 @@ complete_clause request s (Some told) now_files reading now_reading writing now_
     completed request s (record { files = Some told; reading = reading; writing = writing; written = written; faults = faults })
     (record { files = now_files; reading = now_reading; writing = now_writing; written = now_written; faults = now_faults }) told refl ends good r w f
 
--- ---- what holds of a request holds of what the words ask for
+-- ---- what holds of a request holds of what the words request
 pub known : (P : RequestData → Type 0) (request : RequestData) (o : Option RequestData) → Some request ≡ o → P request → IfSome o P
 known P request None e p = absurd (cc)
 known P request (Some a) e p = let same : request ≡ a = cc in subst P same p

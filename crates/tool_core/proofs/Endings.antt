@@ -10,18 +10,18 @@ use Rattle.fault_lines.specs.Lines.{cannot_write}
 use Rattle.cartridge.specs.Cartridge.{voice_at}
 use Rattle.sysex_frame.specs.Frame.{IsFrame, VoiceDump}
 use Rattle.tool_core.specs.declared.failure.Failure.{Failure}
-use Rattle.tool_core.specs.declared.failure.Failure.TheVariants as failure
 use Rattle.tool_core.specs.Verdicts.{Good}
 use Rattle.tool_core.specs.Words.{RequestData, Check, Names, Pick, Gen, Bench}
 use Rattle.tool_core.specs.Inputs.{Input, Kind, input, AreGood, IsJudged}
 use Rattle.tool_core.specs.Effects.{Effect, HasEffect, Output, prints, writes, written, reads, scripts_of, cartridge_of, picked}
 use Rattle.tool_core.specs.Lines.{bench_line, check_report, list_report, ok_line, scripts_line}
-use Rattle.tool_core.specs.Failures.{IsReason, Stops, StopsAt, status_of, line_of}
+use Rattle.tool_core.specs.Failures.{IsReason, Fails, FailsAt, status_of, line_of}
 use Rattle.tool_core.specs.Outcomes.{HasGood, BeginsOut, Tells}
-use Rattle.tool_core.specs.Scripts.{StopsIn}
+use Rattle.tool_core.specs.Scripts.{FailsWriting}
 use Rattle.tool_core.specs.Endings.{Puts, Finishes, Ends}
+use Rattle.tool_core.proofs.Meanings.{unless_reason}
 
--- ---- a effect that is done, or whose text could not be put
+-- ---- an effect that is done, or whose text could not be put
 pub put_ends : (effect : Effect) (status : ℕ) (before now : Snapshot) → now.reading ≡ before.reading → now.writing ≡ before.writing
     → now.files ≡ option_map (written effect.writes) before.files
     → Puts effect.status effect.prints status before.written now.written before.faults now.faults → Finishes effect status before now
@@ -89,11 +89,11 @@ pub performs : (request : RequestData) (status : ℕ) (before now : Snapshot) (e
 performs request status before now effect good does finishes = inl (record { good = good; effect = effect; does = does; finishes = finishes })
 
 pub refuses : (request : RequestData) (why : Failure) (name : List ℕ) (status : ℕ) (before now : Snapshot)
-    → Stops why (reads request) before.files name before.reading now.reading
+    → Fails why (reads request) before.files name before.reading now.reading
     → status ≡ status_of why → Tells (line_of why name) before now → now.files ≡ before.files → now.writing ≡ before.writing
     → Ends request status before now
-refuses request why name status before now stops is line files writing =
-    inr (record { why = why; name = name; stops = stops; status_is = is; line = line; files = files; writing = writing })
+refuses request why name status before now fails is line files writing =
+    inr (record { why = why; name = name; fails = fails; status_is = is; line = line; files = files; writing = writing })
 
 -- ---- one file that is read
 pub none_before : (files : Option Files) → IfSome files (λ told. AreGood [] told)
@@ -105,7 +105,7 @@ one_good one None good = tt
 one_good one (Some told) good = (good, tt)
 
 first_at : (why : Failure) (kind : Kind) (later : List Input) (files : Option Files) (name : List ℕ) (before now : ℕ)
-    → IsReason why kind files name before now → StopsAt why (input name kind ∷ later) files name before now
+    → IsReason why kind files name before now → FailsAt why (input name kind ∷ later) files name before now
 first_at why kind later files name before now reason = record {
   one = input name kind;
   named = refl;
@@ -113,13 +113,11 @@ first_at why kind later files name before now reason = record {
   reason = reason;
 }
 
-pub first_stops : (why : Failure) (kind : Kind) (later : List Input) (files : Option Files) (name : List ℕ) (before now : ℕ)
-    → IsReason why kind files name before now → Stops why (input name kind ∷ later) files name before now
-first_stops failure.Unread kind later files name before now reason = first_at failure.Unread kind later files name before now reason
-first_stops failure.TooLarge kind later files name before now reason = first_at failure.TooLarge kind later files name before now reason
-first_stops failure.TooMany kind later files name before now reason = first_at failure.TooMany kind later files name before now reason
-first_stops (failure.Refused why) kind later files name before now reason = first_at (failure.Refused why) kind later files name before now reason
-first_stops failure.Memory kind later files name before now reason = reason
+pub first_fails : (why : Failure) (kind : Kind) (later : List Input) (files : Option Files) (name : List ℕ) (before now : ℕ)
+    → IsReason why kind files name before now → Fails why (input name kind ∷ later) files name before now
+first_fails why kind later files name before now reason =
+    unless_reason why kind files name before now (FailsAt why (input name kind ∷ later) files name before now)
+    (first_at why kind later files name before now) reason
 
 -- ---- what a command prints or writes
 pub check_does : (files : Option Files) (name file text : List ℕ) → text ≡ file → IfSome files (λ told. get told name ≡ Some file)
@@ -166,18 +164,18 @@ gen_does files seed scripts commands count total outputs same counted summed =
 
 -- one of several files that could not be written
 pub several_unwritten : (effect : Effect) (at : ℕ) (status : ℕ) (before now : Snapshot) (name : List ℕ) → now.reading ≡ before.reading → status ≡ 3 → (Rose before.writing now.writing ⊎ ⊥)
-    → (stop : StopsIn at effect.writes before.files now.files) → name ≡ stop.file.name → Tells (cannot_write name) before now → Finishes effect status before now
-several_unwritten effect at status before now name reading is cause stop named line = record {
+    → (fails : FailsWriting at effect.writes before.files now.files) → name ≡ fails.file.name → Tells (cannot_write name) before now → Finishes effect status before now
+several_unwritten effect at status before now name reading is cause fails named line = record {
   reading = reading;
   ends = inr (
     is,
     inl (record {
-      file = stop.file;
-      earlier = stop.earlier;
-      later = stop.later;
-      place = stop.place;
+      file = fails.file;
+      earlier = fails.earlier;
+      later = fails.later;
+      place = fails.place;
       cause = elim cause [ inl rose ↦ rose | inr never ↦ absurd never ];
-      begun = stop.begun;
+      begun = fails.begun;
       line = subst (λ (n : List ℕ). Tells (cannot_write n) before now) named line;
     }),
   );

@@ -17,6 +17,7 @@ use Rattle.tool_core.specs.Inputs.{AnOrder}
 use Rattle.tool_core.specs.Orders.{IsOrderVerdict, order_limit}
 use Rattle.tool_core.specs.Failures.{IsFault, IsReason}
 use Rattle.tool_core.specs.Endings.{IsOfBytes, IsReadFailure}
+use Rattle.tool_core.proofs.Meanings.{limit_reason}
 
 -- what a reader was fed of a file that may not be told
 abbrev pub WasFed : Standing → ℕ → Option Files → List ℕ → Type 0
@@ -88,7 +89,7 @@ bytes_fault why (Some told) name s fed known = one (get told name) fed
 bytes_reason : (why : Failure) (files : Option Files) (name : List ℕ) (s : Standing) (before now : ℕ) → now ≡ before → WasFedWhole s files name → IsOfBytes why
     → ((file : List ℕ) → HasFed s file → length file ≤ order_limit → IsFault why AnOrder (Some file)) → IsReason why AnOrder files name before now
 bytes_reason failure.Unread files name s before now same fed of known = absurd of
-bytes_reason failure.TooLarge files name s before now same fed of known = absurd of
+bytes_reason failure.TooLarge files name s before now same fed of known = (same, bytes_fault failure.TooLarge files name s fed known)
 bytes_reason failure.TooMany files name s before now same fed of known = (same, bytes_fault failure.TooMany files name s fed known)
 bytes_reason (failure.Refused why) files name s before now same fed of known = (same, bytes_fault (failure.Refused why) files name s fed known)
 bytes_reason failure.Memory files name s before now same fed of known = same
@@ -99,21 +100,9 @@ pub order_reason : (r : Result OrderData Failure) (files : Option Files) (name :
 order_reason (Ok o) files name s before now same fed of known = tt
 order_reason (Err why) files name s before now same fed of known = bytes_reason why files name s before now same fed of known
 
-large_order : (files : Option Files) (name : List ℕ) → IfSome files (λ told. IsSomeAnd (get told name) (λ file. order_limit < length file))
-    → IfSome files (λ told. IsOrderVerdict (get told name) TooLarge)
-large_order None name h = tt
-large_order (Some told) name h = one (get told name) h
-  where
-    one : (f : Option (List ℕ)) → IsSomeAnd f (λ file. order_limit < length file) → IsOrderVerdict f TooLarge
-    one None k = absurd k
-    one (Some file) k = k
-
-pub limit_reason : (why : Failure) (files : Option Files) (name : List ℕ) (before now : ℕ) → IsReadFailure why order_limit files name before now → IsReason why AnOrder files name before now
-limit_reason failure.Unread files name before now reason = reason
-limit_reason failure.TooLarge files name before now reason = (reason.0, large_order files name (reason.1))
-limit_reason failure.TooMany files name before now reason = absurd reason
-limit_reason (failure.Refused why) files name before now reason = absurd reason
-limit_reason failure.Memory files name before now reason = reason
+pub order_limit_reason : (why : Failure) (files : Option Files) (name : List ℕ) (before now : ℕ) → IsReadFailure why order_limit files name before now
+    → IsReason why AnOrder files name before now
+order_limit_reason why files name before now reason = limit_reason why AnOrder order_limit files name before now (λ file past. past) reason
 
 -- bytes that are refused are no order
 pub no_order : (found : OrderFault) (line : ℕ) (kind : OrderKind) → found ≡ fault.Refused line kind → found ≡ fault.Memory → ⊥

@@ -1,10 +1,11 @@
 -- Verdicts on files that were read.
-use Rattle.std.proofs.Common.{◌≡◌, ℕ, ◌<◌, ◌≤◌, List, [], length, refl, sym, ◌∙◌, ap, subst, lt-ltb, if◌then◌else◌}
-use Rattle.std.specs.Prelude.{Option, Some, None, IfSome, IsSomeAnd, unwrap_or, is_none, Result, Ok, Err, OnOk, IfOk, IfErr, ok_or}
+use Rattle.std.proofs.Common.{◌≡◌, ◌⊎◌, ℕ, ◌<◌, ◌≤◌, List, [], length, refl, sym, ◌∙◌, ap, subst, lt-ltb, if◌then◌else◌}
+use Rattle.std.specs.Prelude.{Option, Some, None, IfSome, unwrap_or, is_none, Result, Ok, Err, OnOk, IfOk, IfErr, ok_or}
 use Rattle.std.specs.FinMap.{get}
 use Rattle.std.specs.Option.{option_or}
 use Rattle.std.proofs.lemmas.Bool.{le-ltb}
-use Rattle.outside.specs.Files.{Files}
+use Rattle.outside.specs.Files.{Files, Lacks}
+use Rattle.outside.specs.Faults.{Rose}
 use Rattle.tool_core.specs.declared.refusal.Refusal.{Refusal}
 use Rattle.tool_core.specs.declared.failure.Failure.{Failure}
 use Rattle.tool_core.specs.declared.failure.Failure.TheVariants as failure
@@ -14,6 +15,7 @@ use Rattle.tool_core.specs.SysEx.{sysex_messages}
 use Rattle.tool_core.specs.Refusals.{Wanted, AllMessages, OneVoice, OneCartridge, refusal, refusal_in, cut_refusal, missing_refusal, cartridge_in, voice_in, first_some, message_refusal, long_refusal}
 use Rattle.tool_core.specs.Scans.{IsScan}
 use Rattle.tool_core.proofs.Scanning.{or_none, or_assoc}
+use Rattle.tool_core.proofs.Meanings.{means, limit_reason}
 use Rattle.tool_core.specs.Verdicts.{Verdict, TooLarge, Good, verdict_on, judged, file_limit}
 use Rattle.tool_core.specs.Inputs.{Midi}
 use Rattle.tool_core.specs.Failures.{IsReason}
@@ -41,30 +43,19 @@ good_read wanted files name file found within none =
 pub content_reason : (why : Failure) (wanted : Wanted) (files : Option Files) (name file : List ℕ) (before now : ℕ)
     → IfSome files (λ told. get told name ≡ Some file) → length file ≤ 16777216 → now ≡ before
     → IsMidiFailure why wanted file → IsReason why (Midi wanted) files name before now
-content_reason failure.Unread wanted files name file before now found within same reason = absurd reason
-content_reason failure.TooLarge wanted files name file before now found within same reason = absurd reason
-content_reason failure.TooMany wanted files name file before now found within same reason = absurd reason
-content_reason (failure.Refused why) wanted files name file before now found within same reason =
-    (same, subst (λ (r : Option Refusal). HasVerdict wanted files name (judged r)) reason (found_judged wanted files name file found within))
-content_reason failure.Memory wanted files name file before now found within same reason = same
+content_reason why wanted files name file before now found within same reason =
+    means why ⊥ (Rose before now ⊎ Lacks files name) (λ it. judged (refusal wanted file) ≡ it) (λ it. (now ≡ before) × HasVerdict wanted files name it)
+    (Unit {0}) (now ≡ before) (λ none. absurd none)
+    (λ it is. (same, subst (λ (v : Verdict). HasVerdict wanted files name v) is (found_judged wanted files name file found within)))
+    (λ u. same) reason
 
-large : (wanted : Wanted) (o : Option (List ℕ)) → IsSomeAnd o (λ file. file_limit < length file) → verdict_on wanted o ≡ TooLarge
+large : (wanted : Wanted) (file : List ℕ) → file_limit < length file → verdict_on wanted (Some file) ≡ TooLarge
 unfolding verdict_on
-large wanted None h = absurd h
-large wanted (Some file) h = rw (lt-ltb file_limit (length file) h) refl
-
-files_large : (wanted : Wanted) (files : Option Files) (name : List ℕ) → IfSome files (λ told. IsSomeAnd (get told name) (λ file. file_limit < length file))
-    → HasVerdict wanted files name TooLarge
-files_large wanted None name h = tt
-files_large wanted (Some told) name h = large wanted (get told name) h
+large wanted file past = rw (lt-ltb file_limit (length file) past) refl
 
 pub read_reason : (why : Failure) (wanted : Wanted) (files : Option Files) (name : List ℕ) (before now : ℕ)
     → IsReadFailure why file_limit files name before now → IsReason why (Midi wanted) files name before now
-read_reason failure.Unread wanted files name before now reason = reason
-read_reason failure.TooLarge wanted files name before now reason = (reason.0, files_large wanted files name (reason.1))
-read_reason failure.TooMany wanted files name before now reason = absurd reason
-read_reason (failure.Refused why) wanted files name before now reason = absurd reason
-read_reason failure.Memory wanted files name before now reason = reason
+read_reason why wanted files name before now reason = limit_reason why (Midi wanted) file_limit files name before now (large wanted) reason
 
 -- what was found in a file that was read
 pub cartridge_known : (files : Option Files) (name file : List ℕ) (cartridge : List (List ℕ)) → IfSome files (λ told. get told name ≡ Some file)
@@ -163,7 +154,7 @@ cartridge_value file (Some x) r is found = rw is found
 
 pub cartridge_reason : (file : List ℕ) (o : Option (List (List ℕ))) (r : Result (List (List ℕ)) Failure) → r ≡ ok_or o (failure.Refused NoCartridge)
     → cartridge_in file ≡ o → refusal OneCartridge file ≡ missing_refusal OneCartridge file → IfErr r (λ why. IsMidiFailure why OneCartridge file)
-cartridge_reason file None r is found refused = rw is (refused ∙ cartridge_missing file None found)
+cartridge_reason file None r is found refused = rw is (ap judged (refused ∙ cartridge_missing file None found))
 cartridge_reason file (Some x) r is found refused = rw is tt
 
 pub voice_good : (file : List ℕ) (o : Option (List ℕ)) (r : Result (List ℕ) Failure) → r ≡ ok_or o (failure.Refused NoVoice)
@@ -178,5 +169,5 @@ voice_value file (Some x) r is found = rw is found
 
 pub voice_reason : (file : List ℕ) (o : Option (List ℕ)) (r : Result (List ℕ) Failure) → r ≡ ok_or o (failure.Refused NoVoice)
     → voice_in file ≡ o → refusal OneVoice file ≡ missing_refusal OneVoice file → IfErr r (λ why. IsMidiFailure why OneVoice file)
-voice_reason file None r is found refused = rw is (refused ∙ voice_missing file None found)
+voice_reason file None r is found refused = rw is (ap judged (refused ∙ voice_missing file None found))
 voice_reason file (Some x) r is found refused = rw is tt

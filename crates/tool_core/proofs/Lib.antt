@@ -3,13 +3,15 @@ pub mod Scanning
 pub mod Paging
 pub mod EachName
 pub mod Writings
+pub mod Meanings
 pub mod Judging
 pub mod Reports
 pub mod Endings
 pub mod Clauses
 pub mod Packs
 pub mod Several
-pub mod Fronts
+pub mod Prefixes
 pub mod Sounds
 pub mod OrderEndings
 pub mod Feeding
+pub mod NeverFailing

@@ -7,17 +7,17 @@ use Rattle.outside.specs.Files.{Files, Lacks, content, file_of}
 use Rattle.take_files.specs.Files.{wav}
 use Rattle.take_files.specs.Orders.{IsOrder, OrderData}
 use Rattle.tool_core.specs.declared.failure.Failure.{Failure}
-use Rattle.tool_core.specs.declared.failure.Failure.TheVariants as failure
 use Rattle.tool_core.specs.Verdicts.{TooLarge, Good}
 use Rattle.tool_core.specs.Words.{Replay, Verify}
 use Rattle.tool_core.specs.Comparisons.{IsCompared}
 use Rattle.tool_core.specs.Inputs.{AnOrder, ASound, AreGood, IsJudged, input}
 use Rattle.tool_core.specs.Orders.{IsOrderVerdict, sound_verdict, sound_limit, order_limit}
 use Rattle.tool_core.specs.Effects.{HasEffect, comparison, writes}
-use Rattle.tool_core.specs.Failures.{IsReason, Stops, StopsAt}
+use Rattle.tool_core.specs.Failures.{IsReason, Fails, FailsAt}
 use Rattle.outside.specs.Snapshot.{Snapshot}
 use Rattle.tool_core.specs.Endings.{IsReadFailure, Puts, Finishes}
 use Rattle.tool_core.proofs.Endings.{none_written, put_ends}
+use Rattle.tool_core.proofs.Meanings.{unless_reason, limit_reason}
 
 -- ---- an order that serves
 abbrev pub IsRead : Option Files → List ℕ → OrderData → Type 0
@@ -43,33 +43,20 @@ replay_does files order out o is = (o, refl, known files is)
     known (Some told) h = order_in (get told order) o h
 
 -- ---- a sound file
-sound_large : (g : Option (List ℕ)) → IsSomeAnd g (λ file. sound_limit < length file) → sound_verdict g ≡ TooLarge
+sound_large : (file : List ℕ) → sound_limit < length file → sound_verdict (Some file) ≡ TooLarge
 unfolding sound_verdict
-sound_large None h = absurd h
-sound_large (Some file) h = rw (lt-ltb sound_limit (length file) h) refl
+sound_large file past = rw (lt-ltb sound_limit (length file) past) refl
 
 sound_good : (g : Option (List ℕ)) (file : List ℕ) → g ≡ Some file → length file ≤ sound_limit → sound_verdict g ≡ Good
 unfolding sound_verdict
 sound_good g file is within = rw (is, le-ltb sound_limit (length file) within) refl
-
-large_sound : (files : Option Files) (sound : List ℕ) → IfSome files (λ told. IsSomeAnd (get told sound) (λ file. sound_limit < length file))
-    → IfSome files (λ told. sound_verdict (get told sound) ≡ TooLarge)
-large_sound None sound h = tt
-large_sound (Some told) sound h = sound_large (get told sound) h
-
-sound_reason : (why : Failure) (files : Option Files) (sound : List ℕ) (before now : ℕ) → IsReadFailure why sound_limit files sound before now → IsReason why ASound files sound before now
-sound_reason failure.Unread files sound before now reason = reason
-sound_reason failure.TooLarge files sound before now reason = (reason.0, large_sound files sound (reason.1))
-sound_reason failure.TooMany files sound before now reason = absurd reason
-sound_reason (failure.Refused why) files sound before now reason = absurd reason
-sound_reason failure.Memory files sound before now reason = reason
 
 pair_good : (files : Option Files) (order : List ℕ) (o : OrderData) → IsRead files order o → IfSome files (λ told. AreGood (input order AnOrder ∷ []) told)
 pair_good None order o read = tt
 pair_good (Some told) order o read = (good_order (get told order) o read, tt)
 
 second_at : (why : Failure) (order sound : List ℕ) (o : OrderData) (files : Option Files) (before now : ℕ) → IsRead files order o
-    → IsReason why ASound files sound before now → StopsAt why (input order AnOrder ∷ (input sound ASound ∷ [])) files sound before now
+    → IsReason why ASound files sound before now → FailsAt why (input order AnOrder ∷ (input sound ASound ∷ [])) files sound before now
 second_at why order sound o files before now read reason = record {
   one = input sound ASound;
   named = refl;
@@ -77,22 +64,20 @@ second_at why order sound o files before now read reason = record {
   reason = reason;
 }
 
-second_stops : (why : Failure) (order sound : List ℕ) (o : OrderData) (files : Option Files) (before now : ℕ) → IsRead files order o
-    → IsReason why ASound files sound before now → Stops why (input order AnOrder ∷ (input sound ASound ∷ [])) files sound before now
-second_stops failure.Unread order sound o files before now read reason = second_at failure.Unread order sound o files before now read reason
-second_stops failure.TooLarge order sound o files before now read reason = second_at failure.TooLarge order sound o files before now read reason
-second_stops failure.TooMany order sound o files before now read reason = second_at failure.TooMany order sound o files before now read reason
-second_stops (failure.Refused why) order sound o files before now read reason = second_at (failure.Refused why) order sound o files before now read reason
-second_stops failure.Memory order sound o files before now read reason = reason
+second_fails : (why : Failure) (order sound : List ℕ) (o : OrderData) (files : Option Files) (before now : ℕ) → IsRead files order o
+    → IsReason why ASound files sound before now → Fails why (input order AnOrder ∷ (input sound ASound ∷ [])) files sound before now
+second_fails why order sound o files before now read reason =
+    unless_reason why ASound files sound before now (FailsAt why (input order AnOrder ∷ (input sound ASound ∷ [])) files sound before now)
+    (second_at why order sound o files before now read) reason
 
 -- the same after a read of the order
-pub sound_stops : (why : Failure) (order sound : List ℕ) (o : OrderData) (files mid : Option Files) (before mid_reading now : ℕ) → mid ≡ files → mid_reading ≡ before
+pub sound_fails : (why : Failure) (order sound : List ℕ) (o : OrderData) (files mid : Option Files) (before mid_reading now : ℕ) → mid ≡ files → mid_reading ≡ before
     → IsRead files order o → IsReadFailure why sound_limit mid sound mid_reading now
-    → Stops why (input order AnOrder ∷ (input sound ASound ∷ [])) files sound before now
-sound_stops why order sound o files mid before mid_reading now same kept read reason =
-    second_stops why order sound o files before now read
+    → Fails why (input order AnOrder ∷ (input sound ASound ∷ [])) files sound before now
+sound_fails why order sound o files mid before mid_reading now same kept read reason =
+    second_fails why order sound o files before now read
     (subst (λ (b : ℕ). IsReason why ASound files sound b now) kept
-    (subst (λ (f : Option Files). IsReason why ASound f sound mid_reading now) same (sound_reason why mid sound mid_reading now reason)))
+    (subst (λ (f : Option Files). IsReason why ASound f sound mid_reading now) same (limit_reason why ASound sound_limit mid sound mid_reading now sound_large reason)))
 
 -- ---- a sound file that was compared
 record IsThere (g : Option (List ℕ)) : Type 0 where

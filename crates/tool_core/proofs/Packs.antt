@@ -16,8 +16,9 @@ use Rattle.tool_core.specs.Verdicts.{Good}
 use Rattle.tool_core.specs.Inputs.{Input, Midi, input, AreGood, IsJudged}
 use Rattle.tool_core.specs.Words.{Pack}
 use Rattle.tool_core.specs.Effects.{HasEffect, voice_of, packed, writes}
-use Rattle.tool_core.specs.Failures.{IsReason, Stops, StopsAt}
+use Rattle.tool_core.specs.Failures.{IsReason, Fails, FailsAt}
 use Rattle.tool_core.specs.Packing.{voices, IsBadAt, IsPackFailure}
+use Rattle.tool_core.proofs.Meanings.{unless, unless_reason}
 
 good_push : (told : Files) (inputs : List Input) (one : Input) → AreGood inputs told → IsJudged one told Good → AreGood (inputs ++ one ∷ []) told
 good_push told [] one good here = (here, tt)
@@ -33,8 +34,8 @@ name_at [] i d below = absurd (omega arith)
 name_at (n ∷ names) zero d below = refl
 name_at (n ∷ names) (suc i) d below = name_at names i d (omega arith)
 
-take_one : (names : List (List ℕ)) (i : ℕ) (q : List ℕ) → i < length names → q ≡ get_or names i [] → take (i + 1) names ≡ take i names ++ q ∷ []
-take_one names i q below is = (take_at_read names i [] below).1 ∙ ap (λ (n : List ℕ). take i names ++ n ∷ []) (sym is)
+prefix_more : (names : List (List ℕ)) (i : ℕ) (q : List ℕ) → i < length names → q ≡ get_or names i [] → take (i + 1) names ≡ take i names ++ q ∷ []
+prefix_more names i q below is = (take_at_read names i [] below).1 ∙ ap (λ (n : List ℕ). take i names ++ n ∷ []) (sym is)
 
 pub good_more : (files now : Option Files) (names : List (List ℕ)) (i : ℕ) (q : List ℕ)
     → i < length names → q ≡ get_or names i [] → now ≡ files
@@ -43,30 +44,18 @@ pub good_more : (files now : Option Files) (names : List (List ℕ)) (i : ℕ) (
 good_more None now names i q below is same before here = tt
 good_more (Some told) now names i q below is same before here =
     let at : IsJudged (input q (Midi OneVoice)) told Good = subst (λ (o : Option Files). IfSome o (λ t. IsJudged (input q (Midi OneVoice)) t Good)) same here in
-    subst (λ (l : List Input). AreGood l told) (sym (voices_push (take i names) q) ∙ ap voices (sym (take_one names i q below is)))
+    subst (λ (l : List Input). AreGood l told) (sym (voices_push (take i names) q) ∙ ap voices (sym (prefix_more names i q below is)))
     (good_push told (voices (take i names)) (input q (Midi OneVoice)) before at)
 
-bad_at : (why : Failure) (files mid : Option Files) (names : List (List ℕ)) (i : ℕ) (q : List ℕ) (first before now : ℕ)
-    → q ≡ get_or names i [] → mid ≡ files → before ≡ first
-    → IfSome files (λ told. AreGood (voices (take i names)) told) → IsReason why (Midi OneVoice) mid q before now
-    → IsBadAt i why files names first now
-bad_at why files mid names i q first before now is same kept good reason = record {
-  good = good;
-  reason =
-      subst (λ (t : List ℕ). IsReason why (Midi OneVoice) files t first now) is
-      (subst (λ (b : ℕ). IsReason why (Midi OneVoice) files q b now) kept
-      (subst (λ (o : Option Files). IsReason why (Midi OneVoice) o q before now) same reason));
-}
-
-pub stopped : (why : Failure) (files mid : Option Files) (names : List (List ℕ)) (i : ℕ) (q : List ℕ) (first before now : ℕ)
+pub fails_at : (why : Failure) (files mid : Option Files) (names : List (List ℕ)) (i : ℕ) (q : List ℕ) (first before now : ℕ)
     → q ≡ get_or names i [] → mid ≡ files → before ≡ first
     → IfSome files (λ told. AreGood (voices (take i names)) told) → IsReason why (Midi OneVoice) mid q before now
     → IsPackFailure i why files names first now
-stopped failure.Unread files mid names i q first before now is same kept good reason = bad_at failure.Unread files mid names i q first before now is same kept good reason
-stopped failure.TooLarge files mid names i q first before now is same kept good reason = bad_at failure.TooLarge files mid names i q first before now is same kept good reason
-stopped failure.TooMany files mid names i q first before now is same kept good reason = bad_at failure.TooMany files mid names i q first before now is same kept good reason
-stopped (failure.Refused why) files mid names i q first before now is same kept good reason = bad_at (failure.Refused why) files mid names i q first before now is same kept good reason
-stopped failure.Memory files mid names i q first before now is same kept good reason = reason ∙ kept
+fails_at why files mid names i q first before now is same kept good reason =
+    unless_reason why (Midi OneVoice) files (get_or names i []) first now (IsBadAt i why files names first now) (λ r. record { good = good; reason = r })
+    (subst (λ (t : List ℕ). IsReason why (Midi OneVoice) files t first now) is
+    (subst (λ (b : ℕ). IsReason why (Midi OneVoice) files q b now) kept
+    (subst (λ (o : Option Files). IsReason why (Midi OneVoice) o q before now) same reason)))
 
 -- the names parted at one of them
 record Parts (names : List (List ℕ)) (i : ℕ) : Type 0 where
@@ -84,9 +73,9 @@ voices_append : (xs ys : List (List ℕ)) → voices (xs ++ ys) ≡ voices xs ++
 voices_append [] ys = refl
 voices_append (x ∷ xs) ys = ap (λ (l : List Input). input x (Midi OneVoice) ∷ l) (voices_append xs ys)
 
-stops_here : (why : Failure) (place : ℕ) (files : Option Files) (names : List (List ℕ)) (name : List ℕ) (before now : ℕ) → place < length names → name ≡ get_or names place []
-    → IsBadAt place why files names before now → StopsAt why (voices names) files name before now
-stops_here why place files names name before now below is bad =
+fails_here : (why : Failure) (place : ℕ) (files : Option Files) (names : List (List ℕ)) (name : List ℕ) (before now : ℕ) → place < length names → name ≡ get_or names place []
+    → IsBadAt place why files names before now → FailsAt why (voices names) files name before now
+fails_here why place files names name before now below is bad =
     let p = parts names place below in
     record {
       one = input (get_or names place []) (Midi OneVoice);
@@ -100,13 +89,11 @@ stops_here why place files names name before now below is bad =
       reason = bad.reason;
     }
 
-pub pack_stops : (why : Failure) (place : ℕ) (files : Option Files) (names : List (List ℕ)) (name : List ℕ) (before now : ℕ) → place < length names → name ≡ get_or names place []
-    → IsPackFailure place why files names before now → Stops why (voices names) files name before now
-pack_stops failure.Unread place files names name before now below is stop = stops_here failure.Unread place files names name before now below is stop
-pack_stops failure.TooLarge place files names name before now below is stop = stops_here failure.TooLarge place files names name before now below is stop
-pack_stops failure.TooMany place files names name before now below is stop = stops_here failure.TooMany place files names name before now below is stop
-pack_stops (failure.Refused why) place files names name before now below is stop = stops_here (failure.Refused why) place files names name before now below is stop
-pack_stops failure.Memory place files names name before now below is stop = stop
+pub pack_fails : (why : Failure) (place : ℕ) (files : Option Files) (names : List (List ℕ)) (name : List ℕ) (before now : ℕ) → place < length names → name ≡ get_or names place []
+    → IsPackFailure place why files names before now → Fails why (voices names) files name before now
+pack_fails why place files names name before now below is fails =
+    unless why (IsBadAt place why files names before now) (FailsAt why (voices names) files name before now) (now ≡ before)
+    (fails_here why place files names name before now below is) fails
 
 -- ---- the voices so far
 set_seam : (xs ys : List (List ℕ)) (y v : List ℕ) → set (xs ++ y ∷ ys) (length xs) v ≡ (xs ++ v ∷ []) ++ ys
@@ -143,7 +130,7 @@ filled_more (Some told) now names i q before after below most is same was set_is
     here
     ∙ ap (λ (l : List (List ℕ)). set l i (voice_of told q)) was
     ∙ fill told (take i names) q i (omega arith) count
-    ∙ ap (λ (l : List (List ℕ)). filled told l (i + 1)) (sym (take_one names i q below is))
+    ∙ ap (λ (l : List (List ℕ)). filled told l (i + 1)) (sym (prefix_more names i q below is))
 
 pub voice_set : (files : Option Files) (q voice : List ℕ) (before after : List (List ℕ)) (i : ℕ) → after ≡ set before i voice
     → IfSome files (λ told. voice_of told q ≡ voice) → IfSome files (λ told. after ≡ set before i (voice_of told q))
@@ -174,9 +161,9 @@ all_filled (Some told) names i cartridge text ended voices message =
     ∙ ap (filled told names) ended in
     subst (λ (v : List (List ℕ)). IsMessageOf v 0 text) whole message
 
-pub memory_stop : (stop : PackFailure) (names : List (List ℕ)) (files : Option Files) (before now : ℕ) → stop.why ≡ failure.Memory → now ≡ before
-    → IsPackFailure stop.place stop.why files names before now
-memory_stop stop names files before now is same = rw is same
+pub memory_failure : (found : PackFailure) (names : List (List ℕ)) (files : Option Files) (before now : ℕ) → found.why ≡ failure.Memory → now ≡ before
+    → IsPackFailure found.place found.why files names before now
+memory_failure found names files before now is same = rw is same
 
 pub count_names : (names : List (String Global)) → length (map string_bytes names) ≡ length names
 count_names names = length-map names string_bytes

@@ -9,24 +9,24 @@ use Rattle.fault_lines.proofs.Pieces.{some_behind, some_before}
 pub page_put : (o before now : Option (List ℕ)) (page put text : List ℕ) → put ≡ page → now ≡ option_map (said put) before
     → Holds o before page text → Holds o now [] text
 page_put o before now page put text same is p = record {
-  front = p.front ++ page;
-  was_put = is ∙ ap (λ (l : List ℕ). option_map (said l) before) same ∙ ap (option_map (said page)) p.was_put ∙ then_said o p.front page;
-  whole = append-nil (p.front ++ page) ∙ p.whole;
+  prefix = p.prefix ++ page;
+  was_put = is ∙ ap (λ (l : List ℕ). option_map (said l) before) same ∙ ap (option_map (said page)) p.was_put ∙ then_said o p.prefix page;
+  whole = append-nil (p.prefix ++ page) ∙ p.whole;
 }
 
 pub page_failed : (o before now : Option (List ℕ)) (page put text : List ℕ) → put ≡ page → (now ≡ before) ⊎ SaidSome put before now
     → Holds o before page text → FailsIn text o now
 page_failed o before now page put text same some p =
     let part : (now ≡ before) ⊎ SaidSome page before now = subst (λ (l : List ℕ). (now ≡ before) ⊎ SaidSome l before now) same some in
-    subst (λ (t : List ℕ). FailsIn t o now) p.whole (some_behind o before now p.front page p.was_put part)
+    subst (λ (t : List ℕ). FailsIn t o now) p.whole (some_behind o before now p.prefix page p.was_put part)
 
 pub line_added : (o now : Option (List ℕ)) (page more text line : List ℕ) → more ≡ page ++ line → Holds o now page text → Holds o now more (text ++ line)
 line_added o now page more text line is p = record {
-  front = p.front;
+  prefix = p.prefix;
   was_put = p.was_put;
-  whole = ap (λ (l : List ℕ). p.front ++ l) is ∙ sym (append_assoc p.front page line) ∙ ap (λ (l : List ℕ). l ++ line) p.whole;
+  whole = ap (λ (l : List ℕ). p.prefix ++ l) is ∙ sym (append_assoc p.prefix page line) ∙ ap (λ (l : List ℕ). l ++ line) p.whole;
 }
 
--- of some of a text and more behind it
+-- of some of a text and more after it
 pub fails_longer : (text more : List ℕ) (o now : Option (List ℕ)) → FailsIn text o now → FailsIn (text ++ more) o now
 fails_longer text more o now some = some_before o now text more some

@@ -22,10 +22,10 @@ flat-append : (f : SysExMessage → List ℕ) (xs ys : List SysExMessage) → fl
 flat-append f [] ys = refl
 flat-append f (x ∷ xs) ys = ap (λ (l : List ℕ). f x ++ l) (flat-append f xs ys) ∙ sym (append_assoc (f x) (flat_map f xs) (flat_map f ys))
 
-lines_next : (file : List ℕ) (place : ℕ) → lines_before file (place + 1) ≡ lines_before file place ++ flat_map message_line (option_to_list (sysex_at file place))
+lines_next : (file : List ℕ) (offset : ℕ) → lines_before file (offset + 1) ≡ lines_before file offset ++ flat_map message_line (option_to_list (sysex_at file offset))
 unfolding lines_before
-lines_next file place =
-    ap (flat_map message_line) (sysex_next file place) ∙ flat-append message_line (sysex_before file place) (option_to_list (sysex_at file place))
+lines_next file offset =
+    ap (flat_map message_line) (sysex_next file offset) ∙ flat-append message_line (sysex_before file offset) (option_to_list (sysex_at file offset))
 
 -- the message that an answer tells of
 pub told_none : (o : Option SysExMessage) → TellsOf None o → o ≡ None
@@ -41,79 +41,79 @@ pub told_some : (ended : Ended) (o : Option SysExMessage) → TellsOf (Some ende
 told_some ended None t = absurd t
 told_some ended (Some e) t = record { sysex = e; is = refl; tells = t }
 
-pub none_put : (o now : Option (List ℕ)) (page file : List ℕ) (place : ℕ) → sysex_at file place ≡ None
-    → Holds o now page (lines_before file place) → Holds o now page (lines_before file (place + 1))
-none_put o now page file place is puts =
-    let same : lines_before file (place + 1) ≡ lines_before file place =
-    lines_next file place ∙ ap (λ e. lines_before file place ++ flat_map message_line (option_to_list e)) is ∙ append-nil (lines_before file place) in
+pub none_put : (o now : Option (List ℕ)) (page file : List ℕ) (offset : ℕ) → sysex_at file offset ≡ None
+    → Holds o now page (lines_before file offset) → Holds o now page (lines_before file (offset + 1))
+none_put o now page file offset is puts =
+    let same : lines_before file (offset + 1) ≡ lines_before file offset =
+    lines_next file offset ∙ ap (λ e. lines_before file offset ++ flat_map message_line (option_to_list e)) is ∙ append-nil (lines_before file offset) in
     subst (λ (t : List ℕ). Holds o now page t) (sym same) puts
 
-pub some_put : (o now : Option (List ℕ)) (page file : List ℕ) (place : ℕ) (e : SysExMessage) (line : List ℕ) → sysex_at file place ≡ Some e → line ≡ message_line e
-    → Holds o now page (lines_before file place ++ line) → Holds o now page (lines_before file (place + 1))
-some_put o now page file place e line is same puts =
-    let next : lines_before file (place + 1) ≡ lines_before file place ++ line =
-    lines_next file place ∙ ap (λ x. lines_before file place ++ flat_map message_line (option_to_list x)) is
-    ∙ ap (λ (l : List ℕ). lines_before file place ++ l) (append-nil (message_line e) ∙ sym same) in
+pub some_put : (o now : Option (List ℕ)) (page file : List ℕ) (offset : ℕ) (e : SysExMessage) (line : List ℕ) → sysex_at file offset ≡ Some e → line ≡ message_line e
+    → Holds o now page (lines_before file offset ++ line) → Holds o now page (lines_before file (offset + 1))
+some_put o now page file offset e line is same puts =
+    let next : lines_before file (offset + 1) ≡ lines_before file offset ++ line =
+    lines_next file offset ∙ ap (λ x. lines_before file offset ++ flat_map message_line (option_to_list x)) is
+    ∙ ap (λ (l : List ℕ). lines_before file offset ++ l) (append-nil (message_line e) ∙ sym same) in
     subst (λ (t : List ℕ). Holds o now page t) (sym next) puts
 
-pub count_next : (file : List ℕ) (place count more : ℕ) → count ≡ length (sysex_before file place) → more ≡ length (option_to_list (sysex_at file place))
-    → count + more ≡ length (sysex_before file (place + 1))
-count_next file place count more was is =
-    let next : length (sysex_before file (place + 1)) ≡ length (sysex_before file place) + length (option_to_list (sysex_at file place)) =
-    ap length (sysex_next file place) ∙ length-append (sysex_before file place) (option_to_list (sysex_at file place)) in
+pub count_next : (file : List ℕ) (offset count more : ℕ) → count ≡ length (sysex_before file offset) → more ≡ length (option_to_list (sysex_at file offset))
+    → count + more ≡ length (sysex_before file (offset + 1))
+count_next file offset count more was is =
+    let next : length (sysex_before file (offset + 1)) ≡ length (sysex_before file offset) + length (option_to_list (sysex_at file offset)) =
+    ap length (sysex_next file offset) ∙ length-append (sysex_before file offset) (option_to_list (sysex_at file offset)) in
     omega arith
 
 pub nothing_put : (o : Option (List ℕ)) (file : List ℕ) → Holds o o [] (lines_before file 0)
 unfolding lines_before sysex_before
-nothing_put None file = record { front = []; was_put = refl; whole = refl }
-nothing_put (Some w) file = record { front = []; was_put = ap (λ (l : List ℕ). Some l) (sym (append-nil w)); whole = refl }
+nothing_put None file = record { prefix = []; was_put = refl; whole = refl }
+nothing_put (Some w) file = record { prefix = []; was_put = ap (λ (l : List ℕ). Some l) (sym (append-nil w)); whole = refl }
 
 -- the lines so far begin the report
 pub record Begins (text whole : List ℕ) : Type 0 where
   pub rest : List ℕ
   pub is : whole ≡ text ++ rest
 
-longer : (file : List ℕ) (place more : ℕ) → Begins (lines_before file place) (lines_before file (place + more))
-longer file place zero = record { rest = []; is = ap (lines_before file) (let e : place + 0 ≡ place = omega arith in e) ∙ sym (append-nil (lines_before file place)) }
-longer file place (suc more) =
-    let before = longer file place more in
-    let e : place + suc more ≡ place + more + 1 = omega arith in
+longer : (file : List ℕ) (offset more : ℕ) → Begins (lines_before file offset) (lines_before file (offset + more))
+longer file offset zero = record { rest = []; is = ap (lines_before file) (let e : offset + 0 ≡ offset = omega arith in e) ∙ sym (append-nil (lines_before file offset)) }
+longer file offset (suc more) =
+    let before = longer file offset more in
+    let e : offset + suc more ≡ offset + more + 1 = omega arith in
     record {
-      rest = before.rest ++ flat_map message_line (option_to_list (sysex_at file (place + more)));
-      is = ap (lines_before file) e ∙ lines_next file (place + more)
-          ∙ ap (λ (l : List ℕ). l ++ flat_map message_line (option_to_list (sysex_at file (place + more)))) before.is
-          ∙ append_assoc (lines_before file place) before.rest (flat_map message_line (option_to_list (sysex_at file (place + more))));
+      rest = before.rest ++ flat_map message_line (option_to_list (sysex_at file (offset + more)));
+      is = ap (lines_before file) e ∙ lines_next file (offset + more)
+          ∙ ap (λ (l : List ℕ). l ++ flat_map message_line (option_to_list (sysex_at file (offset + more)))) before.is
+          ∙ append_assoc (lines_before file offset) before.rest (flat_map message_line (option_to_list (sysex_at file (offset + more))));
     }
 
 report_is : (file : List ℕ) → check_report file ≡ lines_before file (length file) ++ count_line (length (sysex_messages file))
 unfolding check_report
 report_is file = refl
 
-pub report_begins : (file : List ℕ) (place : ℕ) → place ≤ length file → Begins (lines_before file place) (check_report file)
-report_begins file place within =
-    let part = longer file place (length file - place) in
-    let e : place + (length file - place) ≡ length file = omega arith in
+pub report_begins : (file : List ℕ) (offset : ℕ) → offset ≤ length file → Begins (lines_before file offset) (check_report file)
+report_begins file offset within =
+    let part = longer file offset (length file - offset) in
+    let e : offset + (length file - offset) ≡ length file = omega arith in
     record {
       rest = part.rest ++ count_line (length (sysex_messages file));
       is = report_is file
           ∙ ap (λ (l : List ℕ). l ++ count_line (length (sysex_messages file))) (ap (lines_before file) (sym e) ∙ part.is)
-          ∙ append_assoc (lines_before file place) part.rest (count_line (length (sysex_messages file)));
+          ∙ append_assoc (lines_before file offset) part.rest (count_line (length (sysex_messages file)));
     }
 
-pub lines_fail : (o now : Option (List ℕ)) (file : List ℕ) (place : ℕ) → place ≤ length file → FailsIn (lines_before file place) o now → FailsIn (check_report file) o now
-lines_fail o now file place within some =
-    let b = report_begins file place within in
-    subst (λ (t : List ℕ). FailsIn t o now) (sym b.is) (fails_longer (lines_before file place) b.rest o now some)
+pub lines_fail : (o now : Option (List ℕ)) (file : List ℕ) (offset : ℕ) → offset ≤ length file → FailsIn (lines_before file offset) o now → FailsIn (check_report file) o now
+lines_fail o now file offset within some =
+    let b = report_begins file offset within in
+    subst (λ (t : List ℕ). FailsIn t o now) (sym b.is) (fails_longer (lines_before file offset) b.rest o now some)
 
-pub whole_report : (file line : List ℕ) (place count : ℕ) → place ≡ length file → count ≡ length (sysex_before file place) → line ≡ count_line count
-    → lines_before file place ++ line ≡ check_report file
-whole_report file line place count ended is same =
-    ap (λ (l : List ℕ). lines_before file place ++ l) (same ∙ ap count_line (is ∙ ap (λ (p : ℕ). length (sysex_before file p)) ended))
+pub whole_report : (file line : List ℕ) (offset count : ℕ) → offset ≡ length file → count ≡ length (sysex_before file offset) → line ≡ count_line count
+    → lines_before file offset ++ line ≡ check_report file
+whole_report file line offset count ended is same =
+    ap (λ (l : List ℕ). lines_before file offset ++ l) (same ∙ ap count_line (is ∙ ap (λ (p : ℕ). length (sysex_before file p)) ended))
     ∙ ap (λ (p : ℕ). lines_before file p ++ count_line (length (sysex_messages file))) ended
     ∙ sym (report_is file)
 
 pub all_put : (o now : Option (List ℕ)) (text : List ℕ) → Holds o now [] text → now ≡ option_map (said text) o
-all_put o now text puts = puts.was_put ∙ ap (λ (l : List ℕ). option_map (said l) o) (sym (append-nil puts.front) ∙ puts.whole)
+all_put o now text puts = puts.was_put ∙ ap (λ (l : List ℕ). option_map (said l) o) (sym (append-nil puts.prefix) ∙ puts.whole)
 
 -- ---- the line of a message
 pub frame_shown : (e : SysExMessage) (long : Bool) (text line : List ℕ) (held : Content) → long ≡ false → long ≡ is_too_long e → text ≡ e.text → IsFrame text held
@@ -139,7 +139,7 @@ count_none file = refl
 pub nothing_yet : (o : Option (List ℕ)) (page file : List ℕ) → page ≡ [] → Holds o o page (lines_before file 0)
 nothing_yet o page file is = subst (λ (l : List ℕ). Holds o o l (lines_before file 0)) (sym is) (nothing_put o file)
 
--- ---- what an answer says, further on
+-- ---- what an answer tells, further on
 pub ok_put : {T E : Type 0} (r : Result T E) (o mid now : Option (List ℕ)) (page text : List ℕ) → Holds o mid page text
     → OnOk r ((before : Option (List ℕ)) (lines : List ℕ) → Holds before mid page lines → Holds before now [] lines)
     → OnOk r (now ≡ option_map (said text) o)
@@ -155,9 +155,9 @@ err_put (Err e) o mid now page text puts along = along o text puts
 pub cause_from : {T E : Type 0} (r : Result T E) (first before now : ℕ) → before ≡ first → HasCause before now 0 0 ⊥ r → HasCause first now 0 0 ⊥ r
 cause_from r first before now same cause = subst (λ (b : ℕ). HasCause b now 0 0 ⊥ r) same cause
 
-pub report_put : (o now : Option (List ℕ)) (page file line : List ℕ) (place count : ℕ) → place ≡ length file → count ≡ length (sysex_before file place) → line ≡ count_line count
-    → Holds o now page (lines_before file place ++ line) → Holds o now page (check_report file)
-report_put o now page file line place count ended is same puts = subst (λ (t : List ℕ). Holds o now page t) (whole_report file line place count ended is same) puts
+pub report_put : (o now : Option (List ℕ)) (page file line : List ℕ) (offset count : ℕ) → offset ≡ length file → count ≡ length (sysex_before file offset) → line ≡ count_line count
+    → Holds o now page (lines_before file offset ++ line) → Holds o now page (check_report file)
+report_put o now page file line offset count ended is same puts = subst (λ (t : List ℕ). Holds o now page t) (whole_report file line offset count ended is same) puts
 
 -- ---- the names of a cartridge
 pub names_none : (voices : List (List ℕ)) → name_lines voices 0 ≡ []

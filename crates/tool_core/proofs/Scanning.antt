@@ -35,11 +35,11 @@ first_more : {X : Type 0} (f : SysExMessage → Option X) (messages : List SysEx
 first_more f [] e = or_none (f e)
 first_more f (m ∷ messages) e = ap (option_or (f m)) (first_more f messages e) ∙ or_assoc (f m) (first_some f messages) (f e)
 
-pub surveys_more : (old now : Scan) (messages : List SysExMessage) (e : SysExMessage) → IsScan old messages
+pub scans_more : (old now : Scan) (messages : List SysExMessage) (e : SysExMessage) → IsScan old messages
     → now.bad ≡ option_or old.bad (message_refusal e) → now.long ≡ option_or old.long (long_refusal e)
     → now.voice ≡ option_or old.voice (message_voice e) → now.cartridge ≡ option_or old.cartridge (message_cartridge e)
     → IsScan now (messages ++ e ∷ [])
-surveys_more old now messages e was bad long voice cartridge = record {
+scans_more old now messages e was bad long voice cartridge = record {
   bad = bad ∙ ap (λ o. option_or o (message_refusal e)) was.bad ∙ sym (first_more message_refusal messages e);
   long = long ∙ ap (λ o. option_or o (long_refusal e)) was.long ∙ sym (first_more long_refusal messages e);
   voice = voice ∙ ap (λ o. option_or o (message_voice e)) was.voice ∙ sym (first_more message_voice messages e);
@@ -108,10 +108,10 @@ pub record Gives (e : SysExMessage) (bad long : Option Refusal) (voice : Option 
   pub voice_is : message_voice e ≡ voice
   pub cartridge_is : message_cartridge e ≡ cartridge
 
-pub long_gives : (e : SysExMessage) → is_too_long e ≡ true → Gives e (Some (TooLong e.place)) (Some (TooLong e.place)) None None
+pub long_gives : (e : SysExMessage) → is_too_long e ≡ true → Gives e (Some (TooLong e.offset)) (Some (TooLong e.offset)) None None
 long_gives e h = record { bad_is = rw h refl; long_is = rw h refl; voice_is = rw h refl; cartridge_is = rw h refl }
 
-pub fault_gives : (e : SysExMessage) (fault : FrameFault) → is_too_long e ≡ false → first_fault e.text ≡ Some fault → Gives e (fault_at e.place (Some fault)) None None None
+pub fault_gives : (e : SysExMessage) (fault : FrameFault) → is_too_long e ≡ false → first_fault e.text ≡ Some fault → Gives e (fault_at e.offset (Some fault)) None None None
 fault_gives e fault h is =
     let nothing : content e.text ≡ None = no_content e.text fault is in
     record { bad_is = rw (h, is) refl; long_is = rw h refl; voice_is = rw (h, nothing) refl; cartridge_is = rw (h, nothing) refl }
@@ -129,31 +129,31 @@ pub given_more : (old now : Scan) (messages : List SysExMessage) (e : SysExMessa
     → now.voice ≡ option_or old.voice voice → now.cartridge ≡ option_or old.cartridge cartridge
     → IsScan now (messages ++ e ∷ [])
 given_more old now messages e bad long voice cartridge was g a b c d =
-    surveys_more old now messages e was
+    scans_more old now messages e was
     (a ∙ ap (option_or old.bad) (sym g.bad_is)) (b ∙ ap (option_or old.long) (sym g.long_is))
     (c ∙ ap (option_or old.voice) (sym g.voice_is)) (d ∙ ap (option_or old.cartridge) (sym g.cartridge_is))
 
--- whatever messages there were, the one that ended is behind them
+-- whatever messages there were, the one that ended is after them
 abbrev pub Takes : Scan → Scan → Ended → List ℕ → Type 0
 Takes old now ended text =
-    (messages : List SysExMessage) (sysex : SysExMessage) → (ended.place ≡ sysex.place) × (ended.is_too_long ≡ is_too_long sysex)
+    (messages : List SysExMessage) (sysex : SysExMessage) → (ended.offset ≡ sysex.offset) × (ended.is_too_long ≡ is_too_long sysex)
     → (is_too_long sysex ≡ false → text ≡ sysex.text) → IsScan old messages → IsScan now (messages ++ sysex ∷ [])
 
 -- one more byte
-pub none_taken : (scan : Scan) (file : List ℕ) (place : ℕ) → TellsOf None (sysex_at file place)
-    → IsScan scan (sysex_before file place) → IsScan scan (sysex_before file (place + 1))
-none_taken scan file place tells was = rw (sysex_next file place) (by_end (sysex_at file place) tells)
+pub none_taken : (scan : Scan) (file : List ℕ) (offset : ℕ) → TellsOf None (sysex_at file offset)
+    → IsScan scan (sysex_before file offset) → IsScan scan (sysex_before file (offset + 1))
+none_taken scan file offset tells was = rw (sysex_next file offset) (by_end (sysex_at file offset) tells)
   where
-    by_end : (e : Option SysExMessage) → TellsOf None e → IsScan scan (sysex_before file place ++ option_to_list e)
+    by_end : (e : Option SysExMessage) → TellsOf None e → IsScan scan (sysex_before file offset ++ option_to_list e)
     by_end None t = rw append-nil was
     by_end (Some e) t = absurd t
 
-pub some_taken : (scan : Scan) (file : List ℕ) (place : ℕ) (ended : Ended) → TellsOf (Some ended) (sysex_at file place)
-    → ((e : SysExMessage) → sysex_at file place ≡ Some e → TellsOf (Some ended) (Some e) → IsScan scan (sysex_before file place ++ e ∷ []))
-    → IsScan scan (sysex_before file (place + 1))
-some_taken scan file place ended tells more = rw (sysex_next file place) (by_end (sysex_at file place) refl tells)
+pub some_taken : (scan : Scan) (file : List ℕ) (offset : ℕ) (ended : Ended) → TellsOf (Some ended) (sysex_at file offset)
+    → ((e : SysExMessage) → sysex_at file offset ≡ Some e → TellsOf (Some ended) (Some e) → IsScan scan (sysex_before file offset ++ e ∷ []))
+    → IsScan scan (sysex_before file (offset + 1))
+some_taken scan file offset ended tells more = rw (sysex_next file offset) (by_end (sysex_at file offset) refl tells)
   where
-    by_end : (e : Option SysExMessage) → sysex_at file place ≡ e → TellsOf (Some ended) e → IsScan scan (sysex_before file place ++ option_to_list e)
+    by_end : (e : Option SysExMessage) → sysex_at file offset ≡ e → TellsOf (Some ended) e → IsScan scan (sysex_before file offset ++ option_to_list e)
     by_end None is t = absurd t
     by_end (Some e) is t = more e is t
 
@@ -163,21 +163,21 @@ on_ok_more (Err e) p along = tt
 
 -- one more message
 pub long_taken : (old now : Scan) (ended : Ended) (text : List ℕ) → ended.is_too_long ≡ true
-    → now.bad ≡ option_or old.bad (Some (TooLong ended.place)) → now.long ≡ option_or old.long (Some (TooLong ended.place))
+    → now.bad ≡ option_or old.bad (Some (TooLong ended.offset)) → now.long ≡ option_or old.long (Some (TooLong ended.offset))
     → now.voice ≡ old.voice → now.cartridge ≡ old.cartridge
     → Takes old now ended text
 long_taken old now ended text long a b c d = λ messages e tells same was.
-    given_more old now messages e (Some (TooLong e.place)) (Some (TooLong e.place)) None None was (long_gives e (sym (tells.1) ∙ long))
+    given_more old now messages e (Some (TooLong e.offset)) (Some (TooLong e.offset)) None None was (long_gives e (sym (tells.1) ∙ long))
     (a ∙ ap (λ (p : ℕ). option_or old.bad (Some (TooLong p))) (tells.0)) (b ∙ ap (λ (p : ℕ). option_or old.long (Some (TooLong p))) (tells.0))
     (c ∙ sym (or_none old.voice)) (d ∙ sym (or_none old.cartridge))
 
 pub fault_taken : (old now : Scan) (ended : Ended) (text : List ℕ) (fault : FrameFault) → ended.is_too_long ≡ false → first_fault text ≡ Some fault
-    → now.bad ≡ option_or old.bad (fault_at ended.place (Some fault)) → now.long ≡ old.long
+    → now.bad ≡ option_or old.bad (fault_at ended.offset (Some fault)) → now.long ≡ old.long
     → now.voice ≡ old.voice → now.cartridge ≡ old.cartridge
     → Takes old now ended text
 fault_taken old now ended text fault short is a b c d = λ messages e tells same was.
     let e_short : is_too_long e ≡ false = sym (tells.1) ∙ short in
-    given_more old now messages e (fault_at e.place (Some fault)) None None None was (fault_gives e fault e_short (ap first_fault (sym (same e_short)) ∙ is))
+    given_more old now messages e (fault_at e.offset (Some fault)) None None None was (fault_gives e fault e_short (ap first_fault (sym (same e_short)) ∙ is))
     (a ∙ ap (λ (p : ℕ). option_or old.bad (fault_at p (Some fault))) (tells.0)) (b ∙ sym (or_none old.long))
     (c ∙ sym (or_none old.voice)) (d ∙ sym (or_none old.cartridge))
 
@@ -193,7 +193,7 @@ frame_taken (Ok x) old now ended text held short is a b c d = λ messages e tell
     (frame_gives e held e_short (subst (λ (t : List ℕ). IsFrame t held) (same e_short) is))
     (a ∙ sym (or_none old.bad)) (b ∙ sym (or_none old.long)) c d
 
-pub surveys_none : (file : List ℕ) (scan : Scan) → scan.bad ≡ None → scan.long ≡ None → scan.voice ≡ None → scan.cartridge ≡ None
+pub scans_none : (file : List ℕ) (scan : Scan) → scan.bad ≡ None → scan.long ≡ None → scan.voice ≡ None → scan.cartridge ≡ None
     → IsScan scan (sysex_before file 0)
 unfolding sysex_before
-surveys_none file scan a b c d = record { bad = a; long = b; voice = c; cartridge = d }
+scans_none file scan a b c d = record { bad = a; long = b; voice = c; cartridge = d }

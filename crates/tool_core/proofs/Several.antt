@@ -10,7 +10,7 @@ use Rattle.tool_core.specs.declared.generate.ScriptFile.{ScriptFile}
 use Rattle.tool_core.specs.Lines.{script_name}
 use Rattle.tool_core.specs.Effects.{Output, output, written, scripts_of}
 use Rattle.tool_core.specs.Outcomes.{BeginsOut}
-use Rattle.tool_core.specs.Scripts.{StopsIn, shown}
+use Rattle.tool_core.specs.Scripts.{FailsWriting, shown}
 
 written_push : (files : Files) (outputs : List Output) (one : Output) → written (outputs ++ one ∷ []) files ≡ insert (written outputs files) one.name one.text
 written_push files [] one = refl
@@ -53,11 +53,11 @@ one_more (Some told) mid now files i file below is was made =
     ∙ sym (written_push told (map shown (take i files)) (shown (get_or files i file)))
     ∙ ap (λ (l : List Output). written l told) (sym p.next))
 
-pub stopped_in : (o mid now : Option Files) (files : List ScriptFile) (i : ℕ) (file : ScriptFile) → i < length files → file ≡ get_or files i file
+pub failed_in : (o mid now : Option Files) (files : List ScriptFile) (i : ℕ) (file : ScriptFile) → i < length files → file ≡ get_or files i file
     → mid ≡ option_map (written (map shown (take i files))) o
     → IfSome mid (λ (told : Files). BeginsOut told now (string_bytes file.name) file.text.items)
-    → StopsIn i (map shown files) o now
-stopped_in o mid now files i file below is was begun =
+    → FailsWriting i (map shown files) o now
+failed_in o mid now files i file below is was begun =
     let p = parts files i file below in
     record {
       file = shown file;
@@ -109,8 +109,8 @@ named_at [] (e ∷ earlier) later file d same = absurd (cc)
 named_at (f ∷ files) [] later file d same = let first : shown f ≡ file = cc in ap (λ (o : Output). o.name) first
 named_at (f ∷ files) (e ∷ earlier) later file d same = let rest : map shown files ≡ earlier ++ file ∷ later = cc in named_at files earlier later file d rest
 
-pub named_stop : (files : List ScriptFile) (at : ℕ) (file : ScriptFile) (o now : Option Files) (stop : StopsIn at (map shown files) o now)
-    → string_bytes (get_or files at file).name ≡ stop.file.name
-named_stop files at file o now stop =
-    ap (λ (n : ℕ). string_bytes (get_or files n file).name) stop.number
-    ∙ named_at files stop.earlier stop.later stop.file file stop.place
+pub named_failure : (files : List ScriptFile) (at : ℕ) (file : ScriptFile) (o now : Option Files) (fails : FailsWriting at (map shown files) o now)
+    → string_bytes (get_or files at file).name ≡ fails.file.name
+named_failure files at file o now fails =
+    ap (λ (n : ℕ). string_bytes (get_or files n file).name) fails.number
+    ∙ named_at files fails.earlier fails.later fails.file file fails.place

@@ -9,9 +9,9 @@ use Rattle.command_set.specs.Entries.{LoggedData}
 use Rattle.instrument.specs.State.{State, samples, modulation, mix_of, output_of}
 use Rattle.instrument.specs.Journal.{sound, state_at}
 use Rattle.take_files.specs.Files.{wav, wav_header, wav_block, wav_blocks, sample_bytes}
-use Rattle.tool_core.specs.Comparisons.{IsFront}
+use Rattle.tool_core.specs.Comparisons.{IsPrefix}
 use Rattle.tool_core.proofs.Writings.{with_out}
-use Rattle.tool_core.proofs.Fronts.{first_differs, front_more, front_differs}
+use Rattle.tool_core.proofs.Prefixes.{first_differs, front_more, front_differs}
 
 -- the header and the first blocks
 abbrev pub begun : List LoggedData → ℕ → ℕ → List ℕ
@@ -59,10 +59,10 @@ pub begun_more : (journal : List LoggedData) (blocks from to : ℕ) (piece : Lis
 begun_more journal blocks from to piece is =
     ap (λ (l : List ℕ). wav_header blocks ++ l) is ∙ sym (append_assoc (wav_header blocks) (wav_blocks journal from) piece)
 
--- what is begun is a front of the whole
-pub record Begins (front whole : List ℕ) : Type 0 where
+-- what is begun is a prefix of the whole
+pub record Begins (prefix whole : List ℕ) : Type 0 where
   pub more : List ℕ
-  pub is : whole ≡ front ++ more
+  pub is : whole ≡ prefix ++ more
 
 further : (journal : List LoggedData) (b more : ℕ) → Begins (wav_blocks journal b) (wav_blocks journal (b + more))
 unfolding wav_blocks
@@ -87,34 +87,34 @@ begins journal blocks b within =
     }
 
 -- ---- a file that is compared with it
-pub header_differs : (journal : List LoggedData) (file header : List ℕ) (blocks place : ℕ) → header ≡ wav_header blocks → IsFront (drop 0 file) header (Some place)
-    → IsFront file (wav journal blocks) (Some place)
-header_differs journal file header blocks place is differs =
+pub header_differs : (journal : List LoggedData) (file header : List ℕ) (blocks offset : ℕ) → header ≡ wav_header blocks → IsPrefix (drop 0 file) header (Some offset)
+    → IsPrefix file (wav journal blocks) (Some offset)
+header_differs journal file header blocks offset is differs =
     let b = begins journal blocks 0 (omega arith) in
-    subst (λ (w : List ℕ). IsFront file w (Some place))
+    subst (λ (w : List ℕ). IsPrefix file w (Some offset))
     (ap (λ (h : List ℕ). h ++ b.more) (is ∙ sym (begun_none journal blocks)) ∙ sym b.is)
-    (first_differs file header b.more place differs)
+    (first_differs file header b.more offset differs)
 
-pub header_front : (journal : List LoggedData) (file header : List ℕ) (blocks : ℕ) → header ≡ wav_header blocks → IsFront (drop 0 file) header None
-    → IsFront file (begun journal blocks 0) None
+pub header_front : (journal : List LoggedData) (file header : List ℕ) (blocks : ℕ) → header ≡ wav_header blocks → IsPrefix (drop 0 file) header None
+    → IsPrefix file (begun journal blocks 0) None
 header_front journal file header blocks is (rest, same) = (rest, same ∙ ap (λ (h : List ℕ). h ++ rest) (is ∙ sym (begun_none journal blocks)))
 
 module _ (journal : List LoggedData) (file piece : List ℕ) (blocks from to at : ℕ) (is_at : at ≡ 44 + 128 * from)
-    (is : wav_blocks journal to ≡ wav_blocks journal from ++ piece) (front : IsFront file (begun journal blocks from) None) where
-  pub piece_front : IsFront (drop at file) piece None → IsFront file (begun journal blocks to) None
+    (is : wav_blocks journal to ≡ wav_blocks journal from ++ piece) (prefix : IsPrefix file (begun journal blocks from) None) where
+  pub piece_front : IsPrefix (drop at file) piece None → IsPrefix file (begun journal blocks to) None
   piece_front next =
-      subst (λ (l : List ℕ). IsFront file l None) (sym (begun_more journal blocks from to piece is))
-      (front_more file (begun journal blocks from) piece at front (is_at ∙ sym (length-begun journal blocks from)) next)
+      subst (λ (l : List ℕ). IsPrefix file l None) (sym (begun_more journal blocks from to piece is))
+      (front_more file (begun journal blocks from) piece at prefix (is_at ∙ sym (length-begun journal blocks from)) next)
 
-  pub sound_differs : (place : ℕ) → to ≤ blocks → IsFront (drop at file) piece (Some place) → IsFront file (wav journal blocks) (Some (at + place))
-  sound_differs place within differs =
+  pub sound_differs : (offset : ℕ) → to ≤ blocks → IsPrefix (drop at file) piece (Some offset) → IsPrefix file (wav journal blocks) (Some (at + offset))
+  sound_differs offset within differs =
       let b = begins journal blocks to within in
-      subst (λ (w : List ℕ). IsFront file w (Some (at + place)))
+      subst (λ (w : List ℕ). IsPrefix file w (Some (at + offset)))
       (ap (λ (l : List ℕ). l ++ b.more) (sym (begun_more journal blocks from to piece is)) ∙ sym b.is)
-      (front_differs file (begun journal blocks from) piece b.more at place front (is_at ∙ sym (length-begun journal blocks from)) differs)
+      (front_differs file (begun journal blocks from) piece b.more at offset prefix (is_at ∙ sym (length-begun journal blocks from)) differs)
 
-pub sound_front : (journal : List LoggedData) (file : List ℕ) (blocks b : ℕ) → b ≡ blocks → IsFront file (begun journal blocks b) None → IsFront file (wav journal blocks) None
-sound_front journal file blocks b is front = subst (λ (l : List ℕ). IsFront file l None) (begun_all journal blocks b is) front
+pub sound_front : (journal : List LoggedData) (file : List ℕ) (blocks b : ℕ) → b ≡ blocks → IsPrefix file (begun journal blocks b) None → IsPrefix file (wav journal blocks) None
+sound_front journal file blocks b is prefix = subst (λ (l : List ℕ). IsPrefix file l None) (begun_all journal blocks b is) prefix
 
 -- ---- a file that is written with it
 pub header_begins : (journal : List LoggedData) (blocks : ℕ) (header : List ℕ) → header ≡ wav_header blocks → Begins header (wav journal blocks)

@@ -10,8 +10,8 @@ use Rattle.midi_stream.specs.Messages.{messages, last_sysex}
 use Rattle.midi_stream.specs.Standing.{Answers}
 use Rattle.tool_core.specs.SysEx.{SysExMessage, message_at, start_before, placed, is_sysex, is_too_long, sysex_at, sysex_before}
 
-pub take_next : (file : List ℕ) (place byte : ℕ) → place < length file → get_or file place 0 ≡ byte → take (place + 1) file ≡ take place file ++ byte ∷ []
-take_next file place byte below is = (take_at_read file place 0 below).1 ∙ ap (λ (b : ℕ). take place file ++ b ∷ []) is
+pub take_next : (file : List ℕ) (offset byte : ℕ) → offset < length file → get_or file offset 0 ≡ byte → take (offset + 1) file ≡ take offset file ++ byte ∷ []
+take_next file offset byte below is = (take_at_read file offset 0 below).1 ∙ ap (λ (b : ℕ). take offset file ++ b ∷ []) is
 
 answered : (r : Option MidiMessage) (before now : List MidiMessage) → Answers r before now → slice_get now (length before) ≡ r
 answered None before now e = slice_get_past now (length before) (let same : length now ≡ length before = ap length e in omega arith)
@@ -19,31 +19,31 @@ answered (Some m) before now e =
     rw e (slice_get-get_or (before ++ m ∷ []) (length before) m (let more : length (before ++ m ∷ []) ≡ length before + 1 = length-append before (m ∷ []) in omega arith)
     ∙ ap (λ (x : MidiMessage). Some x) (get_or-append_seam before m [] m))
 
-pub message_told : (r : Option MidiMessage) (file : List ℕ) (place : ℕ) → Answers r (messages (take place file)) (messages (take (place + 1) file)) → message_at file place ≡ r
+pub message_told : (r : Option MidiMessage) (file : List ℕ) (offset : ℕ) → Answers r (messages (take offset file)) (messages (take (offset + 1) file)) → message_at file offset ≡ r
 unfolding message_at
-message_told r file place e = answered r (messages (take place file)) (messages (take (place + 1) file)) e
+message_told r file offset e = answered r (messages (take offset file)) (messages (take (offset + 1) file)) e
 
-pub start_next : (file : List ℕ) (place : ℕ) → start_before file (place + 1) ≡ (if get_or file place 0 == 240 then place else start_before file place)
+pub start_next : (file : List ℕ) (offset : ℕ) → start_before file (offset + 1) ≡ (if get_or file offset 0 == 240 then offset else start_before file offset)
 unfolding start_before
-start_next file place = rw add-one refl
+start_next file offset = rw add-one refl
 
-pub sysex_next : (file : List ℕ) (place : ℕ) → sysex_before file (place + 1) ≡ sysex_before file place ++ option_to_list (sysex_at file place)
+pub sysex_next : (file : List ℕ) (offset : ℕ) → sysex_before file (offset + 1) ≡ sysex_before file offset ++ option_to_list (sysex_at file offset)
 unfolding sysex_before
-sysex_next file place = rw add-one refl
+sysex_next file offset = rw add-one refl
 
-chosen_text : (t : Bool) (place : ℕ) (text : Option (List ℕ)) (e : SysExMessage)
-    → (if t then Rattle.std.specs.Prelude.option_map (λ bytes. record { place = place; text = bytes }) text else None) ≡ Some e → text ≡ Some e.text
-chosen_text true place None e h = absurd (cc)
-chosen_text true place (Some bytes) e h = let is : record { place = place; text = bytes } ≡ e = cc in ap (λ (x : SysExMessage). Some x.text) is
-chosen_text false place text e h = absurd (cc)
+chosen_text : (t : Bool) (offset : ℕ) (text : Option (List ℕ)) (e : SysExMessage)
+    → (if t then Rattle.std.specs.Prelude.option_map (λ bytes. record { offset = offset; text = bytes }) text else None) ≡ Some e → text ≡ Some e.text
+chosen_text true offset None e h = absurd (cc)
+chosen_text true offset (Some bytes) e h = let is : record { offset = offset; text = bytes } ≡ e = cc in ap (λ (x : SysExMessage). Some x.text) is
+chosen_text false offset text e h = absurd (cc)
 
-pub placed_text : (m : Option MidiMessage) (place : ℕ) (text : Option (List ℕ)) (e : SysExMessage) → placed m place text ≡ Some e → text ≡ Some e.text
-placed_text None place text e h = absurd (cc)
-placed_text (Some m) place text e h = chosen_text (is_sysex m) place text e h
+pub placed_text : (m : Option MidiMessage) (offset : ℕ) (text : Option (List ℕ)) (e : SysExMessage) → placed m offset text ≡ Some e → text ≡ Some e.text
+placed_text None offset text e h = absurd (cc)
+placed_text (Some m) offset text e h = chosen_text (is_sysex m) offset text e h
 
-pub exclusive_text : (file : List ℕ) (place : ℕ) (e : SysExMessage) → sysex_at file place ≡ Some e → last_sysex (take (place + 1) file) ≡ Some e.text
+pub sysex_text : (file : List ℕ) (offset : ℕ) (e : SysExMessage) → sysex_at file offset ≡ Some e → last_sysex (take (offset + 1) file) ≡ Some e.text
 unfolding sysex_at
-exclusive_text file place e h = placed_text (message_at file place) (start_before file place) (last_sysex (take (place + 1) file)) e h
+sysex_text file offset e h = placed_text (message_at file offset) (start_before file offset) (last_sysex (take (offset + 1) file)) e h
 
 pub kept_text : (text : Option (List ℕ)) (e : SysExMessage) (kept : List ℕ) → text ≡ Some e.text → is_too_long e ≡ false
     → IfSome text (λ bytes. length bytes ≤ 5000 → kept ≡ bytes) → kept ≡ e.text

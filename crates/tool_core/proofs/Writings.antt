@@ -15,8 +15,8 @@ with_out out text files = insert files out text
 begun_none : (m : Files) (out text : List ℕ) → BeginsOut m (Some m) out text
 begun_none m out text = record { begun = inl refl; others = λ name ne. refl }
 
-begun_front : (m : Files) (out text : List ℕ) (count : ℕ) → BeginsOut m (Some (insert m out (take count text))) out text
-begun_front m out text count = record {
+begun_prefix : (m : Files) (out text : List ℕ) (count : ℕ) → BeginsOut m (Some (insert m out (take count text))) out text
+begun_prefix m out text count = record {
   begun = inr (count, get-insert_same m out (take count text));
   others = λ name ne. get-insert_other m out (take count text) name ne;
 }
@@ -31,18 +31,18 @@ some_appended o first now out piece made is =
     is ∙ ap (option_map (appended out piece)) made ∙ then_mapped (created out) (appended out piece) o
     ∙ mapped_alike _ _ (λ m. appended_created m out piece) o
 
-front_begun : (o now : Option Files) (out text : List ℕ) (count : ℕ) → now ≡ option_map (with_out out (take count text)) o
+prefix_begun : (o now : Option Files) (out text : List ℕ) (count : ℕ) → now ≡ option_map (with_out out (take count text)) o
     → IfSome o (λ m. BeginsOut m now out text)
-front_begun None now out text count is = tt
-front_begun (Some m) now out text count is = rw is (begun_front m out text count)
+prefix_begun None now out text count is = tt
+prefix_begun (Some m) now out text count is = rw is (begun_prefix m out text count)
 
 none_appended : (o first : Option Files) (out : List ℕ) → first ≡ option_map (created out) o → first ≡ option_map (with_out out []) o
 none_appended o first out made = made
 
 pub begun_at_append : (o first now : Option Files) (out text : List ℕ) → first ≡ option_map (created out) o → AppendedSome out text first now
     → IfSome o (λ m. BeginsOut m now out text)
-begun_at_append o first now out text made (inl same) = front_begun o now out text 0 (same ∙ made)
-begun_at_append o first now out text made (inr (count, fits, is)) = front_begun o now out text count (some_appended o first now out (take count text) made is)
+begun_at_append o first now out text made (inl same) = prefix_begun o now out text 0 (same ∙ made)
+begun_at_append o first now out text made (inr (count, fits, is)) = prefix_begun o now out text count (some_appended o first now out (take count text) made is)
 
 pub written_whole : (o first now : Option Files) (out text : List ℕ) → first ≡ option_map (created out) o → now ≡ option_map (appended out text) first
     → now ≡ option_map (with_out out text) o
@@ -56,23 +56,23 @@ has_created (Some m) first out is lacks =
     cc
 
 -- ---- a file that is written piece by piece
-pub piece_written : (o before now : Option Files) (out front piece : List ℕ) → before ≡ option_map (with_out out front) o → now ≡ option_map (appended out piece) before
-    → now ≡ option_map (with_out out (front ++ piece)) o
-piece_written o before now out front piece was is =
-    is ∙ ap (option_map (appended out piece)) was ∙ then_mapped (with_out out front) (appended out piece) o
-    ∙ mapped_alike _ _ (λ m. appended_second m out front piece) o
+pub piece_written : (o before now : Option Files) (out prefix piece : List ℕ) → before ≡ option_map (with_out out prefix) o → now ≡ option_map (appended out piece) before
+    → now ≡ option_map (with_out out (prefix ++ piece)) o
+piece_written o before now out prefix piece was is =
+    is ∙ ap (option_map (appended out piece)) was ∙ then_mapped (with_out out prefix) (appended out piece) o
+    ∙ mapped_alike _ _ (λ m. appended_second m out prefix piece) o
 
-pub begun_at_piece : (o before now : Option Files) (out front piece more whole : List ℕ) → before ≡ option_map (with_out out front) o → whole ≡ (front ++ piece) ++ more
+pub begun_at_piece : (o before now : Option Files) (out prefix piece more whole : List ℕ) → before ≡ option_map (with_out out prefix) o → whole ≡ (prefix ++ piece) ++ more
     → AppendedSome out piece before now → IfSome o (λ m. BeginsOut m now out whole)
-begun_at_piece o before now out front piece more whole was is (inl same) =
-    front_begun o now out whole (length front)
+begun_at_piece o before now out prefix piece more whole was is (inl same) =
+    prefix_begun o now out whole (length prefix)
     (same ∙ was ∙ ap (λ (l : List ℕ). option_map (with_out out l) o)
-    (sym (ap (take (length front)) (is ∙ append_assoc front piece more) ∙ take-append_seam front (piece ++ more))))
-begun_at_piece o before now out front piece more whole was is (inr (count, fits, part)) =
-    front_begun o now out whole (length front + count)
-    (piece_written o before now out front (take count piece) was part ∙ ap (λ (l : List ℕ). option_map (with_out out l) o)
-    (sym (ap (take (length front + count)) (is ∙ append_assoc front piece more) ∙ take-append-add front (piece ++ more) count
-    ∙ ap (λ (l : List ℕ). front ++ l) (take-append-le count piece more fits))))
+    (sym (ap (take (length prefix)) (is ∙ append_assoc prefix piece more) ∙ take-append_seam prefix (piece ++ more))))
+begun_at_piece o before now out prefix piece more whole was is (inr (count, fits, part)) =
+    prefix_begun o now out whole (length prefix + count)
+    (piece_written o before now out prefix (take count piece) was part ∙ ap (λ (l : List ℕ). option_map (with_out out l) o)
+    (sym (ap (take (length prefix + count)) (is ∙ append_assoc prefix piece more) ∙ take-append-add prefix (piece ++ more) count
+    ∙ ap (λ (l : List ℕ). prefix ++ l) (take-append-le count piece more fits))))
 
 pub has_written : (o now : Option Files) (out text : List ℕ) → now ≡ option_map (with_out out text) o → Lacks now out → ⊥
 has_written None now out text is lacks = rw is at lacks

@@ -3,27 +3,27 @@ use Rattle.std.specs.Prelude.{ℕ, ◌≡◌, ◌≢◌, ◌<◌, ◌≤◌, Lis
 use Rattle.tool_core.specs.declared.comparison.Step.{Step}
 use Rattle.tool_core.specs.declared.comparison.Step.TheVariants.{Same, Differs}
 
--- the first place at which two files differ: they have the same bytes before it, and another byte at it, or one of them ends there
-pub record DiffersAt (file other : List ℕ) (place : ℕ) : Type 0 where
-  pub front : take place file ≡ take place other
-  pub differs : slice_get file place ≢ slice_get other place
+-- the first offset at which two files differ: they have the same bytes before it, and another byte at it, or one of them ends there
+pub record DiffersAt (file other : List ℕ) (offset : ℕ) : Type 0 where
+  pub prefix : take offset file ≡ take offset other
+  pub differs : slice_get file offset ≢ slice_get other offset
 
--- the first place at which they differ, or none where they are the same
+-- the first offset at which they differ, or none where they are the same
 abbrev pub IsCompared : List ℕ → List ℕ → Option ℕ → Type 0
 IsCompared file other None = file ≡ other
-IsCompared file other (Some place) = DiffersAt file other place
+IsCompared file other (Some offset) = DiffersAt file other offset
 
--- the first place at which a file differs from the bytes that it should begin with, or none where it begins with them
-abbrev pub IsFront : List ℕ → List ℕ → Option ℕ → Type 0
-IsFront file front None = (rest : List ℕ) × (file ≡ front ++ rest)
-IsFront file front (Some place) = (place < length front) × DiffersAt file front place
+-- the first offset at which a file differs from the bytes that it should begin with, or none where it begins with them
+abbrev pub IsPrefix : List ℕ → List ℕ → Option ℕ → Type 0
+IsPrefix file prefix None = (rest : List ℕ) × (file ≡ prefix ++ rest)
+IsPrefix file prefix (Some offset) = (offset < length prefix) × DiffersAt file prefix offset
 
 -- a step goes at least one byte further, and within so many
 abbrev pub IsWithin : Step → ℕ → Type 0
 IsWithin (Same count) most = (0 < count) × (count ≤ most)
-IsWithin (Differs place) most = place < most
+IsWithin (Differs offset) most = offset < most
 
 -- the first bytes are the same, or they differ
 abbrev pub IsStep : Step → List ℕ → List ℕ → Type 0
-IsStep (Same count) file front = take count file ≡ take count front
-IsStep (Differs place) file front = DiffersAt file front place
+IsStep (Same count) file prefix = take count file ≡ take count prefix
+IsStep (Differs offset) file prefix = DiffersAt file prefix offset

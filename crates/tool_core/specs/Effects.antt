@@ -61,10 +61,10 @@ abbrev pub scripts_of : ℕ → ℕ → ℕ → List Output
 scripts_of seed commands zero = []
 scripts_of seed commands (suc k) = scripts_of seed commands k ++ output (script_name k) (generated_text seed k commands) ∷ []
 
--- a comparison: 0 where the files are the same, and 7 where they differ, at this place first
+-- a comparison: 0 where the files are the same, and 7 where they differ, at this offset first
 abbrev pub comparison : Option ℕ → Effect
 comparison None = record { status = 0; writes = []; prints = same_line }
-comparison (Some place) = record { status = 7; writes = []; prints = differs_line place }
+comparison (Some offset) = record { status = 7; writes = []; prints = differs_line offset }
 
 -- the files that a command reads, in order
 abbrev pub reads : RequestData → List Input
@@ -77,7 +77,7 @@ reads (Verify order sound) = input order AnOrder ∷ (input sound ASound ∷ [])
 reads (Gen seed scripts commands) = []
 reads (Bench seed blocks) = []
 
--- What the command does. What is said of a file's bytes holds where the files are told; all else holds of every shelf.
+-- What the command does. What this states of a file's bytes holds where the files are told; all else holds over every shelf.
 -- Messages that are written have the device number 0.
 abbrev pub HasEffect : RequestData → Option Files → Effect → Type 0
 HasEffect (Check file) files d = (text : List ℕ) × (d ≡ prints text) × IfSome files (λ told. text ≡ check_report (content told file))
@@ -88,8 +88,8 @@ HasEffect (Pack out names) files d = (text : List ℕ) × (d ≡ writes out text
 HasEffect (Replay order out) files d =
     (o : OrderData) × (d ≡ writes out (wav o.journal o.blocks)) × IfSome files (λ told. IsOrder (content told order) o)
 HasEffect (Verify order sound) files d =
-    (o : OrderData) × (place : Option ℕ) × (d ≡ comparison place)
-    × IfSome files (λ told. IsOrder (content told order) o × IsCompared (content told sound) (wav o.journal o.blocks) place)
+    (o : OrderData) × (offset : Option ℕ) × (d ≡ comparison offset)
+    × IfSome files (λ told. IsOrder (content told order) o × IsCompared (content told sound) (wav o.journal o.blocks) offset)
 HasEffect (Gen seed scripts commands) files d =
     d ≡ record { status = 0; writes = scripts_of seed commands scripts; prints = scripts_line scripts (scripts * commands) }
 HasEffect (Bench seed blocks) files d =

@@ -1,41 +1,31 @@
 -- What the functions of this crate promise to each other: how a command ends, in two cases.
-use Rattle.std.specs.Prelude.{◌≡◌, ◌⊎◌, ℕ, ◌<◌, List, length, Option, Some, IfSome, IsSomeAnd, option_map}
+use Rattle.std.specs.Prelude.{◌≡◌, ◌⊎◌, ℕ, ◌<◌, List, length, Option, IfSome, IsSomeAnd, option_map}
 use Rattle.std.specs.FinMap.{get}
 use Rattle.outside.specs.Files.{Files, Lacks, said, SaidSome}
 use Rattle.outside.specs.Faults.{Rose}
 use Rattle.outside.specs.Snapshot.{Snapshot}
 use Rattle.tool_core.specs.declared.failure.Failure.{Failure}
-use Rattle.tool_core.specs.declared.failure.Failure.TheVariants as failure
 use Rattle.tool_core.specs.Refusals.{Wanted, refusal}
 use Rattle.tool_core.specs.Words.{RequestData}
 use Rattle.tool_core.specs.Effects.{Effect, HasEffect, reads, written}
-use Rattle.tool_core.specs.Failures.{Stops, status_of, line_of}
+use Rattle.tool_core.specs.Verdicts.{TooLarge, judged}
+use Rattle.tool_core.specs.Failures.{Means, Fails, status_of, line_of}
 use Rattle.tool_core.specs.Outcomes.{HasGood, FailsFile, FailsReport, Tells}
 
--- why a file of at most so many bytes was not read, with the count of reading faults before and after
+-- why a file of at most so many bytes was not read, with the count of reading faults before and after: of its bytes only their count is judged
 abbrev pub IsReadFailure : Failure → ℕ → Option Files → List ℕ → ℕ → ℕ → Type 0
-IsReadFailure failure.Unread limit files name before now = Rose before now ⊎ Lacks files name
-IsReadFailure failure.TooLarge limit files name before now =
-    (now ≡ before) × IfSome files (λ told. IsSomeAnd (get told name) (λ file. limit < length file))
-IsReadFailure failure.TooMany limit files name before now = ⊥
-IsReadFailure (failure.Refused why) limit files name before now = ⊥
-IsReadFailure failure.Memory limit files name before now = now ≡ before
+IsReadFailure why limit files name before now =
+    Means why (Rose before now ⊎ Lacks files name)
+    (λ it. (it ≡ TooLarge) × (now ≡ before) × IfSome files (λ told. IsSomeAnd (get told name) (λ file. limit < length file)))
+    (now ≡ before)
 
 -- the failure is one of the bytes that were read, or of memory
 abbrev pub IsOfBytes : Failure → Type 0
-IsOfBytes failure.Unread = ⊥
-IsOfBytes failure.TooLarge = ⊥
-IsOfBytes failure.TooMany = Unit {0}
-IsOfBytes (failure.Refused why) = Unit {0}
-IsOfBytes failure.Memory = Unit {0}
+IsOfBytes why = Means why ⊥ (λ it. Unit {0}) (Unit {0})
 
--- why MIDI bytes don't serve
+-- why MIDI bytes that were read don't serve
 abbrev pub IsMidiFailure : Failure → Wanted → List ℕ → Type 0
-IsMidiFailure failure.Unread wanted file = ⊥
-IsMidiFailure failure.TooLarge wanted file = ⊥
-IsMidiFailure failure.TooMany wanted file = ⊥
-IsMidiFailure (failure.Refused why) wanted file = refusal wanted file ≡ Some why
-IsMidiFailure failure.Memory wanted file = Unit {0}
+IsMidiFailure why wanted file = Means why ⊥ (λ it. judged (refusal wanted file) ≡ it) (Unit {0})
 
 -- a text was put, with this status; or the output failed, and a prefix of it was put
 abbrev pub Puts : ℕ → List ℕ → ℕ → Option (List ℕ) → Option (List ℕ) → ℕ → ℕ → Type 0
@@ -62,11 +52,11 @@ pub record Performs (request : RequestData) (status : ℕ) (before now : Snapsho
   pub does : HasEffect request before.files effect
   pub finishes : Finishes effect status before now
 
--- it stopped before it wrote
+-- it failed before it wrote
 pub record Refuses (request : RequestData) (status : ℕ) (before now : Snapshot) : Type 0 where
   pub why : Failure
   pub name : List ℕ
-  pub stops : Stops why (reads request) before.files name before.reading now.reading
+  pub fails : Fails why (reads request) before.files name before.reading now.reading
   pub status_is : status ≡ status_of why
   pub line : Tells (line_of why name) before now
   pub files : now.files ≡ before.files

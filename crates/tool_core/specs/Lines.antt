@@ -1,11 +1,11 @@
 -- The lines that are printed.
-use Rattle.std.specs.Prelude.{ℕ, ℤ, zero, suc, ◌&&◌, nat_le, List, [], ◌∷◌, ◌++◌, length, map, slice_range, codes, decimal, Option, Some, None, if◌then◌else◌}
+use Rattle.std.specs.Prelude.{ℕ, ℤ, zero, suc, ◌&&◌, nat_le, List, [], ◌∷◌, ◌++◌, length, map, slice_range, codes, decimal}
+use Rattle.std.specs.Prelude.{Option, Some, None, if◌then◌else◌}
 use Rattle.std.specs.List.{flat_map}
 use Rattle.std.specs.Fmt.{signed_decimal}
 use Rattle.cartridge.specs.Cartridge.{voice_at}
+use Rattle.fault_text.specs.Text.{frame_text}
 use Rattle.sysex_frame.specs.Frame.{Content, VoiceDump, CartridgeDump, ParamChange, OtherChange, DumpRequest}
-use Rattle.sysex_frame.specs.declared.frame.FrameFault.{FrameFault}
-use Rattle.sysex_frame.specs.declared.frame.FrameFault.TheVariants.{NotFramed, NotYamaha, DataByte, Short, UnknownSubstatus, UnknownFormat, CountBytes, Length, Checksum, ParamValue}
 use Rattle.tool_core.specs.declared.refusal.Refusal.{Refusal}
 use Rattle.take_files.specs.declared.read.OrderKind.{OrderKind}
 use Rattle.take_files.specs.declared.read.OrderKind.TheVariants.{Line, Block, Script, Sequence, Many}
@@ -22,9 +22,9 @@ ok_line = codes "ok" ++ 10 ∷ []
 unfoldable pub same_line : List ℕ
 same_line = codes "same" ++ 10 ∷ []
 
--- the first place at which two files differ
+-- the first offset at which two files differ
 unfoldable pub differs_line : ℕ → List ℕ
-differs_line place = codes "differs at " ++ (decimal place ++ 10 ∷ [])
+differs_line offset = codes "differs at " ++ (decimal offset ++ 10 ∷ [])
 
 -- the name of the file of a generated script
 unfoldable pub script_name : ℕ → List ℕ
@@ -47,23 +47,10 @@ kind_text Script = codes "script"
 kind_text Sequence = codes "sequence"
 kind_text Many = codes "many"
 
--- the text of a fault
-unfoldable pub fault_text : FrameFault → List ℕ
-fault_text NotFramed = codes "not framed"
-fault_text NotYamaha = codes "not yamaha"
-fault_text (DataByte place) = codes "byte " ++ decimal place
-fault_text (Short length) = codes "short " ++ decimal length
-fault_text (UnknownSubstatus found) = codes "substatus " ++ decimal found
-fault_text (UnknownFormat found) = codes "format " ++ decimal found
-fault_text (CountBytes high low) = codes "count " ++ (decimal high ++ (32 ∷ decimal low))
-fault_text (Length found wanted) = codes "length " ++ (decimal found ++ (codes " wanted " ++ decimal wanted))
-fault_text (Checksum found wanted) = codes "checksum " ++ (decimal found ++ (codes " wanted " ++ decimal wanted))
-fault_text (ParamValue number value) = codes "value " ++ (decimal value ++ (codes " of " ++ decimal number))
-
--- the line of a refusal; a place is where the message begins
+-- the line of a refusal; an offset is where the message begins
 unfoldable pub refusal_line : Refusal → List ℕ
-refusal_line (TooLong place) = codes "fault " ++ (decimal place ++ (codes " long" ++ 10 ∷ []))
-refusal_line (Fault place fault) = codes "fault " ++ (decimal place ++ (32 ∷ (fault_text fault ++ 10 ∷ [])))
+refusal_line (TooLong offset) = codes "fault " ++ (decimal offset ++ (codes " long" ++ 10 ∷ []))
+refusal_line (Fault offset fault) = codes "fault " ++ (decimal offset ++ (32 ∷ (frame_text fault ++ 10 ∷ [])))
 refusal_line Cut = codes "cut" ++ 10 ∷ []
 refusal_line NoVoice = codes "no voice" ++ 10 ∷ []
 refusal_line NoCartridge = codes "no cartridge" ++ 10 ∷ []
@@ -93,9 +80,9 @@ message_line sysex = content_line (message_content sysex)
 unfoldable pub count_line : ℕ → List ℕ
 count_line count = codes "messages " ++ (decimal count ++ 10 ∷ [])
 
--- the lines of the messages that end before a place
+-- the lines of the messages that end before an offset
 unfoldable pub lines_before : List ℕ → ℕ → List ℕ
-lines_before file place = flat_map message_line (sysex_before file place)
+lines_before file offset = flat_map message_line (sysex_before file offset)
 
 -- a line for each message of a file, and their number
 unfoldable pub check_report : List ℕ → List ℕ

@@ -19,8 +19,8 @@ IsNoOrder file = (o : OrderData) → IsOrder file o → ⊥
 
 -- the first fault of the bytes is in this line, and it isn't that there are too many entries
 abbrev pub IsRefusedFor : Refusal → List ℕ → Type 0
-IsRefusedFor (TooLong place) file = ⊥
-IsRefusedFor (Fault place fault) file = ⊥
+IsRefusedFor (TooLong offset) file = ⊥
+IsRefusedFor (Fault offset fault) file = ⊥
 IsRefusedFor Cut file = ⊥
 IsRefusedFor NoVoice file = ⊥
 IsRefusedFor NoCartridge file = ⊥

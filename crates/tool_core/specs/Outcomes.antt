@@ -98,7 +98,8 @@ statuses_of Good = 0 ∷ 3 ∷ 7 ∷ 8 ∷ []
 -- where no read failed, the status is one of the verdict that decides
 abbrev pub AnswersBy : RequestData → ℕ → Snapshot → Snapshot → Type 0
 AnswersBy request status before now =
-    IfSome before.files (λ told. (it : Verdict) → Decides (reads request) told it → ¬ (Rose before.reading now.reading) → IsOneOf status (statuses_of it))
+    IfSome before.files (λ told. (it : Verdict) → Decides (reads request) told it → ¬ (Rose before.reading now.reading)
+    → IsOneOf status (statuses_of it))
 
 -- where every file is good and no count of faults rises, the effect is done, unless memory runs out
 abbrev pub IsComplete : RequestData → ℕ → Snapshot → Snapshot → Type 0

@@ -2,10 +2,9 @@
 use Rattle.std.specs.Prelude.{ℕ, ◌≡◌, List, [], map, take, slice_index_or, Option, IfSome}
 use Rattle.outside.specs.Files.{Files}
 use Rattle.tool_core.specs.declared.failure.Failure.{Failure}
-use Rattle.tool_core.specs.declared.failure.Failure.TheVariants as failure
 use Rattle.tool_core.specs.Refusals.{OneVoice}
 use Rattle.tool_core.specs.Inputs.{Input, Midi, input, AreGood}
-use Rattle.tool_core.specs.Failures.{IsReason}
+use Rattle.tool_core.specs.Failures.{IsReason, UnlessMemory}
 
 -- the files of these names, each with a voice
 abbrev pub voices : List (List ℕ) → List Input
@@ -18,8 +17,4 @@ pub record IsBadAt (place : ℕ) (why : Failure) (files : Option Files) (names :
 
 -- the same, or memory was wanting
 abbrev pub IsPackFailure : ℕ → Failure → Option Files → List (List ℕ) → ℕ → ℕ → Type 0
-IsPackFailure place failure.Unread files names before now = IsBadAt place failure.Unread files names before now
-IsPackFailure place failure.TooLarge files names before now = IsBadAt place failure.TooLarge files names before now
-IsPackFailure place failure.TooMany files names before now = IsBadAt place failure.TooMany files names before now
-IsPackFailure place (failure.Refused why) files names before now = IsBadAt place (failure.Refused why) files names before now
-IsPackFailure place failure.Memory files names before now = now ≡ before
+IsPackFailure place why files names before now = UnlessMemory why (IsBadAt place why files names before now) (now ≡ before)

@@ -4,9 +4,9 @@ use Rattle.outside.specs.Files.{said, SaidSome}
 
 -- of the text so far some was put, and the rest waits on the page
 pub record Holds (before now : Option (List ℕ)) (page text : List ℕ) : Type 0 where
-  pub front : List ℕ
-  pub was_put : now ≡ option_map (said front) before
-  pub whole : front ++ page ≡ text
+  pub prefix : List ℕ
+  pub was_put : now ≡ option_map (said prefix) before
+  pub whole : prefix ++ page ≡ text
 
 -- the output failed: a prefix of the text was put
 abbrev pub FailsIn : List ℕ → Option (List ℕ) → Option (List ℕ) → Type 0

@@ -1,5 +1,6 @@
 -- Why a file is refused.
-use Rattle.std.specs.Prelude.{ℕ, ◌%◌, min, Bool, true, false, List, [], ◌∷◌, length, map, slice_index, Option, Some, None, is_none, option_map, option_and_then, if◌then◌else◌}
+use Rattle.std.specs.Prelude.{ℕ, ◌%◌, min, Bool, true, false, List, [], ◌∷◌, length, map, slice_index, Option, Some, None}
+use Rattle.std.specs.Prelude.{is_none, option_map, option_and_then, if◌then◌else◌}
 use Rattle.std.specs.List.{range_with_len}
 use Rattle.std.specs.Option.{option_or}
 use Rattle.midi_stream.specs.Messages.{is_unfinished}
@@ -9,7 +10,8 @@ use Rattle.sysex_frame.specs.Frame.{Content, VoiceDump, CartridgeDump, ParamChan
 use Rattle.sysex_frame.specs.FrameFault.{first_fault}
 use Rattle.sysex_frame.specs.Reading.{reading}
 use Rattle.sysex_frame.specs.declared.frame.FrameFault.{FrameFault}
-use Rattle.sysex_frame.specs.declared.frame.FrameFault.TheVariants.{NotFramed, NotYamaha, DataByte, Short, UnknownSubstatus, UnknownFormat, CountBytes, Length, Checksum, ParamValue}
+use Rattle.sysex_frame.specs.declared.frame.FrameFault.TheVariants.{NotFramed, NotYamaha, DataByte, Short, UnknownSubstatus}
+use Rattle.sysex_frame.specs.declared.frame.FrameFault.TheVariants.{UnknownFormat, CountBytes, Length, Checksum, ParamValue}
 use Rattle.tool_core.specs.declared.refusal.Refusal.{Refusal}
 use Rattle.tool_core.specs.declared.refusal.Refusal.TheVariants.{TooLong, Fault, Cut, NoVoice, NoCartridge}
 use Rattle.tool_core.specs.SysEx.{SysExMessage, sysex_messages, is_too_long}
@@ -27,7 +29,7 @@ first_some f (sysex ∷ later) = option_or (f sysex) (first_some f later)
 abbrev pub is_foreign : FrameFault → Bool
 is_foreign NotFramed = false
 is_foreign NotYamaha = true
-is_foreign (DataByte place) = false
+is_foreign (DataByte offset) = false
 is_foreign (Short length) = false
 is_foreign (UnknownSubstatus found) = true
 is_foreign (UnknownFormat found) = true
@@ -37,17 +39,17 @@ is_foreign (Checksum found wanted) = false
 is_foreign (ParamValue number value) = false
 
 abbrev pub fault_at : ℕ → Option FrameFault → Option Refusal
-fault_at place None = None
-fault_at place (Some fault) = if is_foreign fault then None else Some (Fault place fault)
+fault_at offset None = None
+fault_at offset (Some fault) = if is_foreign fault then None else Some (Fault offset fault)
 
 -- a message that is too long is refused everywhere
 abbrev pub long_refusal : SysExMessage → Option Refusal
-long_refusal sysex = if is_too_long sysex then Some (TooLong sysex.place) else None
+long_refusal sysex = if is_too_long sysex then Some (TooLong sysex.offset) else None
 
 -- one with another fault where all messages are looked at
 abbrev pub message_refusal : SysExMessage → Option Refusal
 message_refusal sysex =
-    if is_too_long sysex then Some (TooLong sysex.place) else fault_at sysex.place (first_fault sysex.text)
+    if is_too_long sysex then Some (TooLong sysex.offset) else fault_at sysex.offset (first_fault sysex.text)
 
 -- the bytes of a voice that a message holds
 abbrev pub voice_bytes : Content → Option (List ℕ)

@@ -8,17 +8,17 @@ use Rattle.tool_core.specs.declared.scan.Scan.{Scan}
 use Rattle.tool_core.specs.SysEx.{SysExMessage, is_too_long, start_before}
 use Rattle.tool_core.specs.Refusals.{first_some, message_refusal, long_refusal, message_voice, message_cartridge}
 
--- the scanner has been fed the bytes before a place
-pub record Follows (scanner : Scanner) (file : List ℕ) (place : ℕ) : Type 0 where
-  pub reads : Reads scanner.reader (take place file)
-  pub start : scanner.start ≡ start_before file place
+-- the scanner has been fed the bytes before an offset
+pub record Follows (scanner : Scanner) (file : List ℕ) (offset : ℕ) : Type 0 where
+  pub reads : Reads scanner.reader (take offset file)
+  pub start : scanner.start ≡ start_before file offset
 
 -- an answer tells of this message, or of none
 abbrev pub TellsOf : Option Ended → Option SysExMessage → Type 0
 TellsOf None None = Unit {0}
 TellsOf None (Some sysex) = ⊥
 TellsOf (Some ended) None = ⊥
-TellsOf (Some ended) (Some sysex) = (ended.place ≡ sysex.place) × (ended.is_too_long ≡ is_too_long sysex)
+TellsOf (Some ended) (Some sysex) = (ended.offset ≡ sysex.offset) × (ended.is_too_long ≡ is_too_long sysex)
 
 -- the bytes that a message holds are as many as its kind has
 abbrev pub HasSizes : Content → Type 0

@@ -10,7 +10,7 @@ abbrev pub shown : ScriptFile → Output
 shown file = output (string_bytes file.name) file.text.items
 
 -- of these files those before one are written, and that one is as before or begun
-pub record StopsIn (at : ℕ) (files : List Output) (before now : Option Files) : Type 0 where
+pub record FailsWriting (at : ℕ) (files : List Output) (before now : Option Files) : Type 0 where
   pub file : Output
   pub earlier : List Output
   pub later : List Output

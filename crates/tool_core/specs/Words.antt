@@ -1,11 +1,12 @@
 -- The words that the program takes.
-use Rattle.std.specs.Prelude.{ℕ, ◌<◌, ◌≤◌, ◌-◌, ◌*◌, ◌^◌, List, [], ◌∷◌, map, string_bytes, Option, None, Some, option_map, Bool, not, ◌&&◌, nat_lt, nat_le, length, bytes_eq, codes, if◌then◌else◌}
+use Rattle.std.specs.Prelude.{ℕ, ◌<◌, ◌≤◌, ◌-◌, ◌*◌, ◌^◌, List, [], ◌∷◌, map, string_bytes, Option, None, Some, option_map, Bool}
+use Rattle.std.specs.Prelude.{not, ◌&&◌, nat_lt, nat_le, length, bytes_eq, codes, if◌then◌else◌}
 use Rattle.std.specs.List.{list_all}
 use Rattle.tool_core.specs.declared.words.Request.{Request}
 use Rattle.tool_core.specs.declared.words.Request.TheVariants as request
 use Rattle.plain_text.specs.Number.{number}
 
--- what is asked for: `check FILE`, `list FILE`, `pick FILE SLOT OUT`, `pack OUT FILE...`, `replay ORDER OUT`, `verify ORDER WAV`,
+-- what is requested: `check FILE`, `list FILE`, `pick FILE SLOT OUT`, `pack OUT FILE...`, `replay ORDER OUT`, `verify ORDER WAV`,
 -- `gen SEED SCRIPTS COMMANDS` or `bench SEED BLOCKS`
 pub data RequestData : Type 0 where
   Check : List ℕ → RequestData

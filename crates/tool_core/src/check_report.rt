@@ -1,6 +1,7 @@
 //! The report of a check: a line for each message, and their number.
 
-ghost use Rattle.std.specs.Prelude.{ℕ, ◌≡◌, ◌≤◌, ◌<◌, ◌+◌, List, Option, Some, None, false, length, slice_index, OnOk, OnErr, IfOk, option_map, option_to_list};
+ghost use Rattle.std.specs.Prelude.{ℕ, ◌≡◌, ◌≤◌, ◌<◌, ◌+◌, List, Option, Some, None, false, length, slice_index, OnOk, OnErr};
+ghost use Rattle.std.specs.Prelude.{IfOk, option_map, option_to_list};
 ghost use Rattle.outside.specs.Faults.{HasCause};
 ghost use Rattle.outside.specs.Files.{said};
 ghost use Rattle.sysex_frame.specs.Frame.{content_of, ParamChange, VoiceDump};
@@ -12,10 +13,11 @@ ghost use Rattle.tool_core.specs.Pages.{FailsIn, Holds};
 ghost use Rattle.tool_core.specs.Scans.{Follows, TellsOf};
 ghost use Rattle.tool_core.specs.Scans.{HasSizes};
 
-use crate::line::{Line, line_of, push_name, push_number, push_text};
+use crate::line::{Line, line_of, push_name};
 use crate::page::{Page, put_line, put_page};
 use crate::scan::{Ended, Scanner, clamp};
 use outside::{Failed, Out};
+use plain_text::{push_number, push_text};
 use sysex_frame::{Frame, read_frame};
 
 /// Puts a line for each SysEx message of a file, and then their number.
@@ -28,8 +30,8 @@ fn put_messages<O: Out>(out: &mut O, mut scanner: Scanner, file: &[u8]) -> Resul
 {
     let mut page = Page::new();
     let mut count = 0u32;
-    for (place, byte) in file.iter().enumerate() {
-        match put_byte(out, &mut page, &mut scanner, place as u32, *byte) {
+    for (offset, byte) in file.iter().enumerate() {
+        match put_byte(out, &mut page, &mut scanner, offset as u32, *byte) {
             Ok(more) => count += more,
             Err(failed) => return Err(failed),
         }
@@ -53,24 +55,28 @@ pub fn put_check<O: Out>(out: &mut O, scanner: Scanner, file: &[u8]) -> u8
     }
 }
 
-/// Takes the byte at a place, and puts the line of the message that ends with it; answers how many ended.
+/// Takes the byte at an offset, and puts the line of the message that ends with it; answers how many ended.
 fn put_byte<O: Out>(
     out: &mut O,
     page: &mut Page,
     scanner: &mut Scanner,
-    place: u32,
+    offset: u32,
     byte: u8,
 ) -> Result<u32, Failed>
-    ensures follows { (file : List ℕ) → place < length file → slice_index file place ≡ byte → Follows scanner.old file place → Follows scanner.new file (place + 1) }
-    ensures count { IfOk result (λ count. (file : List ℕ) → place < length file → slice_index file place ≡ byte → Follows scanner.old file place
-        → count ≡ length (option_to_list (sysex_at file place))) }
+    ensures follows { (file : List ℕ) → offset < length file → slice_index file offset ≡ byte → Follows scanner.old file offset
+        → Follows scanner.new file (offset + 1) }
+    ensures count { IfOk result (λ count. (file : List ℕ) → offset < length file → slice_index file offset ≡ byte → Follows scanner.old file offset
+        → count ≡ length (option_to_list (sysex_at file offset))) }
     ensures one { IfOk result (λ count. count ≤ 1) }
-    ensures line { OnOk result ((file : List ℕ) (before : Option (List ℕ)) → place < length file → slice_index file place ≡ byte → Follows scanner.old file place
-        → Holds before (O.written out.old) page.old.items (lines_before file place) → Holds before (O.written out.new) page.new.items (lines_before file (place + 1))) }
-    ensures err { OnErr result ((before : Option (List ℕ)) (text : List ℕ) → Holds before (O.written out.old) page.old.items text → FailsIn text before (O.written out.new)) }
+    ensures line { OnOk result ((file : List ℕ) (before : Option (List ℕ)) → offset < length file → slice_index file offset ≡ byte
+        → Follows scanner.old file offset
+        → Holds before (O.written out.old) page.old.items (lines_before file offset)
+        → Holds before (O.written out.new) page.new.items (lines_before file (offset + 1))) }
+    ensures err { OnErr result ((before : Option (List ℕ)) (text : List ℕ) → Holds before (O.written out.old) page.old.items text
+        → FailsIn text before (O.written out.new)) }
     ensures cause { HasCause (O.faults out.old) (O.faults out.new) 0 0 ⊥ result }
 {
-    match scanner.feed(place, byte) {
+    match scanner.feed(offset, byte) {
         Some(ended) => {
             let line = message_line(ended, scanner.text());
             match put_line(out, page, line.as_slice()) {

@@ -4,7 +4,7 @@ ghost use Rattle.std.specs.Prelude.{ℕ, List, ◌≡◌, ◌+◌, ◌-◌, ◌*
 ghost use Rattle.take_files.specs.Files.{wav, wav_blocks};
 ghost use Rattle.outside.specs.Faults.{HasCause};
 ghost use Rattle.outside.specs.Files.{file_of, Lacks};
-ghost use Rattle.tool_core.specs.Comparisons.{IsCompared, IsFront, IsStep, IsWithin};
+ghost use Rattle.tool_core.specs.Comparisons.{IsCompared, IsPrefix, IsStep, IsWithin};
 ghost use Rattle.tool_core.specs.Orders.{sound_limit};
 ghost use Rattle.tool_core.specs.Endings.{IsReadFailure};
 
@@ -19,7 +19,7 @@ type SoundPiece = ArrayVec<u8, 65536>;
 /// The most bytes of a sound file.
 const SOUND_LIMIT: u32 = 140_000_000;
 
-/// The first place at which a file differs from the sound of a journal that is to be played. The file is read to its end first.
+/// The first offset at which a file differs from the sound of a journal that is to be played. The file is read to its end first.
 pub fn compare_file<S: Shelf>(
     shelf: &mut S,
     name: &str,
@@ -28,8 +28,8 @@ pub fn compare_file<S: Shelf>(
 ) -> Result<Option<u32>, Failure>
     requires few { blocks ≤ 1048576 }
     requires at { playback.block ≡ 0 }
-    ensures compared { IfOk result (λ place. (file : List ℕ) → file_of (S.files shelf.old) name.now ≡ Some file
-        → IsCompared file (wav playback.entry.journal blocks) place) }
+    ensures compared { IfOk result (λ offset. (file : List ℕ) → file_of (S.files shelf.old) name.now ≡ Some file
+        → IsCompared file (wav playback.entry.journal blocks) offset) }
     ensures within { OnOk result ((file : List ℕ) → file_of (S.files shelf.old) name.now ≡ Some file → length file ≤ sound_limit) }
     ensures lacks { Lacks (S.files shelf.old) name.now → IsErr result }
     ensures kept { OnOk result (S.reading shelf.new ≡ S.reading shelf.old) }
@@ -38,28 +38,28 @@ pub fn compare_file<S: Shelf>(
     ensures writing { S.writing shelf.new ≡ S.writing shelf.old }
 {
     let size = 44 + 128 * blocks;
-    let place = match compare_sound(shelf, name, playback, blocks) {
-        Ok(place) => place,
+    let offset = match compare_sound(shelf, name, playback, blocks) {
+        Ok(offset) => offset,
         Err(_) => return Err(Failure::Unread),
     };
-    match measure(shelf, name, place.unwrap_or(size)) {
-        Ok(count) => Ok(place_of(place, size, count)),
+    match measure(shelf, name, offset.unwrap_or(size)) {
+        Ok(count) => Ok(offset_of(offset, size, count)),
         Err(why) => Err(why),
     }
 }
 
-/// The first place at which a file of this length differs from a sound of this size, where the first that was found within the sound is known.
-fn place_of(place: Option<u32>, size: u32, count: u32) -> Option<u32>
-    ensures { (file whole : List ℕ) → size ≡ length whole → count ≡ length file → IsFront file whole place → IsCompared file whole result }
+/// The first offset at which a file of this length differs from a sound of this size, where the first that was found within the sound is known.
+fn offset_of(offset: Option<u32>, size: u32, count: u32) -> Option<u32>
+    ensures { (file whole : List ℕ) → size ≡ length whole → count ≡ length file → IsPrefix file whole offset → IsCompared file whole result }
 {
-    match place {
-        Some(place) => Some(place),
+    match offset {
+        Some(offset) => Some(offset),
         None if count > size => Some(size),
         None => None,
     }
 }
 
-/// The first place at which a file differs from the sound of a journal that is to be played, or none where it begins with it.
+/// The first offset at which a file differs from the sound of a journal that is to be played, or none where it begins with it.
 fn compare_sound<S: Shelf>(
     shelf: &mut S,
     name: &str,
@@ -68,16 +68,16 @@ fn compare_sound<S: Shelf>(
 ) -> Result<Option<u32>, Failed>
     requires few { blocks ≤ 1048576 }
     requires at { playback.block ≡ 0 }
-    ensures compared { IfOk result (λ place. (file : List ℕ) → file_of (S.files shelf.old) name.now ≡ Some file
-        → IsFront file (wav playback.entry.journal blocks) place) }
-    ensures within { IfOk result (λ place. IfSome place (λ p. p < 44 + 128 * blocks)) }
+    ensures compared { IfOk result (λ offset. (file : List ℕ) → file_of (S.files shelf.old) name.now ≡ Some file
+        → IsPrefix file (wav playback.entry.journal blocks) offset) }
+    ensures within { IfOk result (λ offset. IfSome offset (λ p. p < 44 + 128 * blocks)) }
     ensures cause { HasCause (S.reading shelf.old) (S.reading shelf.new) (S.writing shelf.old) (S.writing shelf.new)
         (Lacks (S.files shelf.old) name.now) result }
     ensures files { S.files shelf.new ≡ S.files shelf.old }
 {
     match compare_piece(shelf, name, 0, &wav_header(blocks)) {
         Ok(None) => {}
-        Ok(Some(place)) => return Ok(Some(place)),
+        Ok(Some(offset)) => return Ok(Some(offset)),
         Err(failed) => return Err(failed),
     }
     let mut piece = SoundPiece::new();
@@ -88,7 +88,7 @@ fn compare_sound<S: Shelf>(
         let at = 44 + 128 * from;
         match compare_piece(shelf, name, at, piece.as_slice()) {
             Ok(None) => {}
-            Ok(Some(place)) => return Ok(Some(at + place)),
+            Ok(Some(offset)) => return Ok(Some(at + offset)),
             Err(failed) => return Err(failed),
         }
         from += count;
@@ -125,7 +125,7 @@ fn add_chunk(into: &mut SoundPiece, chunk: &[u8])
     let _ = into.try_extend_from_slice(chunk);
 }
 
-/// The first place, counted from `at` on, at which a file differs from a piece that should stand there, or none where the piece does.
+/// The first offset, counted from `at` on, at which a file differs from a piece that should stand there, or none where the piece does.
 fn compare_piece<S: Shelf>(
     shelf: &mut S,
     name: &str,
@@ -134,9 +134,9 @@ fn compare_piece<S: Shelf>(
 ) -> Result<Option<u32>, Failed>
     requires low { at ≤ 140000000 }
     requires short { length piece.now ≤ 65536 }
-    ensures compared { IfOk result (λ place. (file : List ℕ) → file_of (S.files shelf.old) name.now ≡ Some file
-        → IsFront (drop at file) piece.now place) }
-    ensures within { IfOk result (λ place. IfSome place (λ p. p < length piece.now)) }
+    ensures compared { IfOk result (λ offset. (file : List ℕ) → file_of (S.files shelf.old) name.now ≡ Some file
+        → IsPrefix (drop at file) piece.now offset) }
+    ensures within { IfOk result (λ offset. IfSome offset (λ p. p < length piece.now)) }
     ensures cause { HasCause (S.reading shelf.old) (S.reading shelf.new) (S.writing shelf.old) (S.writing shelf.new)
         (Lacks (S.files shelf.old) name.now) result }
     ensures files { S.files shelf.new ≡ S.files shelf.old }
@@ -145,7 +145,7 @@ fn compare_piece<S: Shelf>(
     'comparing: while done < piece.len() {
         match compare_some(shelf, name, at + done as u32, &piece[done..]) {
             Ok(Step::Same(count)) => done += count,
-            Ok(Step::Differs(place)) => return Ok(Some((done + place) as u32)),
+            Ok(Step::Differs(offset)) => return Ok(Some((done + offset) as u32)),
             Err(failed) => return Err(failed),
         }
     }
@@ -159,7 +159,7 @@ pub enum Step {
     Differs(usize),
 }
 
-/// Compares the bytes that one read of a file gives at a place with those that should stand there.
+/// Compares the bytes that one read of a file gives at an offset with those that should stand there.
 fn compare_some<S: Shelf>(shelf: &mut S, name: &str, at: u32, wanted: &[u8]) -> Result<Step, Failed>
     requires { 0 < length wanted.now }
     ensures step { IfOk result (λ step. (file : List ℕ) → file_of (S.files shelf.old) name.now ≡ Some file → IsStep step (drop at file) wanted.now) }
@@ -178,7 +178,8 @@ fn compare_some<S: Shelf>(shelf: &mut S, name: &str, at: u32, wanted: &[u8]) -> 
 /// Compares the next bytes of a file, none where it has ended, with those that should stand there.
 fn compare_chunk(chunk: &[u8], wanted: &[u8]) -> Step
     requires { 0 < length wanted.now }
-    ensures step { (rest : List ℕ) → take (length chunk.now) rest ≡ chunk.now → (length chunk.now ≡ 0 → length rest ≡ 0) → IsStep result rest wanted.now }
+    ensures step { (rest : List ℕ) → take (length chunk.now) rest ≡ chunk.now → (length chunk.now ≡ 0 → length rest ≡ 0)
+        → IsStep result rest wanted.now }
     ensures within { IsWithin result (length wanted.now) }
 {
     let size = chunk.len().min(wanted.len());
@@ -194,10 +195,11 @@ fn compare_chunk(chunk: &[u8], wanted: &[u8]) -> Step
     }
 }
 
-/// The length of a file of at most 140,000,000 bytes that is read from a place on, at which it has not ended.
+/// The length of a file of at most 140,000,000 bytes that is read from an offset on, at which it has not ended.
 fn measure<S: Shelf>(shelf: &mut S, name: &str, from: u32) -> Result<u32, Failure>
     requires { from ≤ 140000000 }
-    ensures length { IfOk result (λ size. (file : List ℕ) → file_of (S.files shelf.old) name.now ≡ Some file → from ≤ length file → size ≡ length file) }
+    ensures length { IfOk result (λ size. (file : List ℕ) → file_of (S.files shelf.old) name.now ≡ Some file → from ≤ length file
+        → size ≡ length file) }
     ensures within { IfOk result (λ size. size ≤ sound_limit) }
     ensures lacks { Lacks (S.files shelf.old) name.now → IsErr result }
     ensures kept { OnOk result (S.reading shelf.new ≡ S.reading shelf.old) }
@@ -221,7 +223,7 @@ fn measure<S: Shelf>(shelf: &mut S, name: &str, from: u32) -> Result<u32, Failur
     }
 }
 
-/// How many bytes one read of a file gives at a place, none where it has ended.
+/// How many bytes one read of a file gives at an offset, none where it has ended.
 fn count_some<S: Shelf>(shelf: &mut S, name: &str, at: u32) -> Result<u32, Failed>
     ensures more { IfOk result (λ count. (file : List ℕ) → file_of (S.files shelf.old) name.now ≡ Some file → count ≤ length file - at) }
     ensures ended { IfOk result (λ count. (file : List ℕ) → file_of (S.files shelf.old) name.now ≡ Some file → count ≡ 0 → length file ≤ at) }

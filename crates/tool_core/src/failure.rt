@@ -1,4 +1,4 @@
-//! Why a command stops before it writes, and what is said then.
+//! Why a command fails before it writes, and what is told then.
 
 ghost use Rattle.std.specs.Prelude.{◌≡◌};
 ghost use Rattle.fault_lines.specs.Lines.{Says};
@@ -12,7 +12,7 @@ use fault_lines::{say, say_cannot_read, say_limit_commands, say_limit_file, say_
 use outside::Out;
 use std::alloc::AllocError;
 
-/// Why a command stops before it writes.
+/// Why a command fails before it writes.
 #[derive(Clone, Copy, Debug, PartialEq, Eq)]
 pub enum Failure {
     /// A file can't be read.
@@ -35,7 +35,7 @@ impl From<AllocError> for Failure {
     }
 }
 
-/// Puts the line of a refusal, and answers its status.
+/// Puts the line of a failure, and answers its status.
 pub fn refuse<O: Out>(out: &mut O, name: &str, why: Failure) -> u8
     ensures status { result ≡ status_of why }
     ensures line { Says (line_of why name.now) (O.written out.old) (O.written out.new) (O.faults out.old) (O.faults out.new) }
@@ -64,6 +64,7 @@ pub fn refuse<O: Out>(out: &mut O, name: &str, why: Failure) -> u8
     }
 }
 
+/// Puts the line that shows how the program is used.
 #[tactic(auto, unfolding(crate::specs::Lines::usage))]
 pub fn say_usage<O: Out>(out: &mut O)
     ensures { Says lines.usage (O.written out.old) (O.written out.new) (O.faults out.old) (O.faults out.new) }
@@ -71,6 +72,7 @@ pub fn say_usage<O: Out>(out: &mut O)
     say(out, b"usage: tool COMMAND WORDS...\n");
 }
 
+/// Puts the line of a refusal.
 pub fn say_refusal<O: Out>(out: &mut O, why: Refusal)
     ensures { Says (lines.refusal_line why) (O.written out.old) (O.written out.new) (O.faults out.old) (O.faults out.new) }
 {

@@ -10,7 +10,7 @@ ghost use Rattle.tool_core.specs.Endings.{Ends, Finishes};
 ghost use Rattle.tool_core.specs.Lines as lines;
 ghost use Rattle.tool_core.specs.Lines.{script_name};
 ghost use Rattle.tool_core.specs.Outcomes.{BeginsOut};
-ghost use Rattle.tool_core.specs.Scripts.{StopsIn, shown};
+ghost use Rattle.tool_core.specs.Scripts.{FailsWriting, shown};
 ghost use Rattle.tool_core.specs.Words as words;
 
 use crate::failure::{Failure, refuse};
@@ -119,7 +119,7 @@ fn finish_scripts<S: Shelf, O: Out>(
 fn write_scripts<S: Shelf>(shelf: &mut S, files: &[ScriptFile]) -> Result<(), usize>
     ensures whole { OnOk result (S.files shelf.new ≡ option_map (written (map shown files.now)) (S.files shelf.old)) }
     ensures at { IfErr result (λ at. at < length files.now) }
-    ensures stopped { IfErr result (λ at. StopsIn at (map shown files.now) (S.files shelf.old) (S.files shelf.new)) }
+    ensures failed { IfErr result (λ at. FailsWriting at (map shown files.now) (S.files shelf.old) (S.files shelf.new)) }
     ensures cause { HasCause (S.writing shelf.old) (S.writing shelf.new) (S.reading shelf.old) (S.reading shelf.new) ⊥ result }
 {
     for at in 0..files.len() {
@@ -133,8 +133,10 @@ fn write_scripts<S: Shelf>(shelf: &mut S, files: &[ScriptFile]) -> Result<(), us
 
 /// Writes a file.
 fn write_script<S: Shelf>(shelf: &mut S, file: &ScriptFile) -> Result<(), Failed>
-    ensures whole { OnOk result (S.files shelf.new ≡ option_map (λ files. insert files (string_bytes file.now.name) file.now.text.items) (S.files shelf.old)) }
-    ensures begun { OnErr result (IfSome (S.files shelf.old) (λ files. BeginsOut files (S.files shelf.new) (string_bytes file.now.name) file.now.text.items)) }
+    ensures whole { OnOk result (S.files shelf.new ≡ option_map (λ files.
+        insert files (string_bytes file.now.name) file.now.text.items) (S.files shelf.old)) }
+    ensures begun { OnErr result (IfSome (S.files shelf.old) (λ files.
+        BeginsOut files (S.files shelf.new) (string_bytes file.now.name) file.now.text.items)) }
     ensures cause { HasCause (S.writing shelf.old) (S.writing shelf.new) (S.reading shelf.old) (S.reading shelf.new) ⊥ result }
 {
     write_whole(shelf, file.name.as_str(), file.text.as_slice())

@@ -81,9 +81,9 @@ pub fn pack<S: Shelf, O: Out>(
 {
     match read_pack(alloc, shelf, files) {
         Ok(message) => finish(shelf, out, name, message.as_slice()),
-        Err(stop) => {
-            let file = name_at(files, stop.place);
-            refuse(out, file, stop.why)
+        Err(failure) => {
+            let file = name_at(files, failure.place);
+            refuse(out, file, failure.why)
         }
     }
 }

@@ -1,38 +1,21 @@
 //! Lines of text.
 
 ghost use Rattle.std.specs.Prelude.{◌≡◌, ◌+◌, ◌≤◌, ◌^◌, ◌<◌, ◌&&◌, [], ◌∷◌, ◌++◌, length, map, decimal, nat_le, slice_range, if◌then◌else◌};
-ghost use Rattle.sysex_frame.specs.declared.frame.FrameFault.{FrameFault};
 ghost use Rattle.tool_core.specs.Lines as lines;
 ghost use Rattle.tool_core.specs.Lines.{shown, shown_name};
 ghost use Rattle.std.specs.Fmt.{signed_decimal};
 
 use crate::refusal::Refusal;
 use arrayvec::ArrayVec;
+use fault_text::push_frame_text;
 use itoa::Buffer;
+use plain_text::{push_number, push_one, push_text, push_two};
 use sysex_frame::FrameFault;
 use take_files::OrderKind;
 use voice_record::Voice;
 
 /// A line of text. The longest is that of a fault.
 pub type Line = ArrayVec<u8, 128>;
-
-/// Adds a text to a line.
-pub fn push_text(line: &mut Line, text: &[u8])
-    requires { length line.old.items + length text.now ≤ 128 }
-    ensures { line.new.items ≡ line.old.items ++ text.now }
-{
-    let _ = line.try_extend_from_slice(text);
-}
-
-/// Adds the decimal digits of a number to a line.
-pub fn push_number(line: &mut Line, number: u32)
-    requires { length line.old.items ≤ 88 }
-    ensures text { line.new.items ≡ line.old.items ++ decimal number }
-    ensures room { length line.new.items ≤ length line.old.items + 10 }
-{
-    let mut buffer = Buffer::new();
-    push_text(line, buffer.format(number).as_bytes());
-}
 
 /// Adds the decimal digits of a number that may be negative to a line.
 fn push_signed(line: &mut Line, number: i64)
@@ -54,74 +37,14 @@ pub fn line_of(text: &[u8]) -> Line
     line
 }
 
-/// Adds one number with a word before it to a line.
-fn push_one(line: &mut Line, before: &[u8], number: u32)
-    requires { length line.old.items + length before.now ≤ 88 }
-    ensures text { line.new.items ≡ line.old.items ++ (before.now ++ decimal number) }
-    ensures room { length line.new.items ≤ length line.old.items + length before.now + 10 }
-{
-    push_text(line, before);
-    push_number(line, number);
-}
-
-/// Adds two numbers with words before and between them to a line.
-fn push_two(line: &mut Line, before: &[u8], first: u32, between: &[u8], second: u32)
-    requires { length line.old.items + length before.now + length between.now ≤ 78 }
-    ensures text { line.new.items ≡ line.old.items ++ (before.now ++ (decimal first ++ (between.now ++ decimal second))) }
-    ensures room { length line.new.items ≤ length line.old.items + length before.now + length between.now + 20 }
-{
-    push_one(line, before, first);
-    push_one(line, between, second);
-}
-
-#[tactic(auto, unfolding(crate::specs::Lines::fault_text))]
-fn push_fault(line: &mut Line, fault: FrameFault)
-    requires { length line.old.items ≤ 40 }
-    ensures text { line.new.items ≡ line.old.items ++ lines.fault_text fault }
-    ensures room { length line.new.items ≤ length line.old.items + 60 }
-{
-    match fault {
-        FrameFault::NotFramed => push_text(line, b"not framed"),
-        FrameFault::NotYamaha => push_text(line, b"not yamaha"),
-        FrameFault::DataByte { place } => push_one(line, b"byte ", place),
-        FrameFault::Short { length } => push_one(line, b"short ", length),
-        FrameFault::UnknownSubstatus { found } => push_one(line, b"substatus ", u32::from(found)),
-        FrameFault::UnknownFormat { found } => push_one(line, b"format ", u32::from(found)),
-        FrameFault::CountBytes { high, low } => {
-            push_two(line, b"count ", u32::from(high), b" ", u32::from(low));
-        }
-        FrameFault::Length { found, wanted } => {
-            push_two(line, b"length ", found, b" wanted ", wanted);
-        }
-        FrameFault::Checksum { found, wanted } => {
-            push_two(
-                line,
-                b"checksum ",
-                u32::from(found),
-                b" wanted ",
-                u32::from(wanted),
-            );
-        }
-        FrameFault::ParamValue { number, value } => {
-            push_two(
-                line,
-                b"value ",
-                u32::from(value),
-                b" of ",
-                u32::from(number),
-            );
-        }
-    }
-}
-
 /// The line of a refusal.
 #[tactic(auto, unfolding(crate::specs::Lines::refusal_line))]
 pub fn refusal_line(why: Refusal) -> Line
     ensures { result.items ≡ lines.refusal_line why }
 {
     match why {
-        Refusal::TooLong { place } => long_line(place),
-        Refusal::Fault { place, fault } => fault_line(place, fault),
+        Refusal::TooLong { offset } => long_line(offset),
+        Refusal::Fault { offset, fault } => fault_line(offset, fault),
         Refusal::Cut => line_of(b"cut\n"),
         Refusal::NoVoice => line_of(b"no voice\n"),
         Refusal::NoCartridge => line_of(b"no cartridge\n"),
@@ -180,35 +103,35 @@ pub fn bench_line(commands: u32, blocks: u32, sum: i64) -> Line
     line
 }
 
-/// The line that names the first place at which two files differ.
+/// The line that names the first offset at which two files differ.
 #[tactic(auto, unfolding(crate::specs::Lines::differs_line))]
-pub fn differs_line(place: u32) -> Line
-    ensures { result.items ≡ lines.differs_line place }
+pub fn differs_line(offset: u32) -> Line
+    ensures { result.items ≡ lines.differs_line offset }
 {
     let mut line = Line::new();
-    push_one(&mut line, b"differs at ", place);
+    push_one(&mut line, b"differs at ", offset);
     push_text(&mut line, b"\n");
     line
 }
 
 #[tactic(auto, unfolding(crate::specs::Lines::refusal_line))]
-fn long_line(place: u32) -> Line
-    ensures { result.items ≡ lines.refusal_line (Refusal.TooLong place) }
+fn long_line(offset: u32) -> Line
+    ensures { result.items ≡ lines.refusal_line (Refusal.TooLong offset) }
 {
     let mut line = Line::new();
-    push_one(&mut line, b"fault ", place);
+    push_one(&mut line, b"fault ", offset);
     push_text(&mut line, b" long\n");
     line
 }
 
 #[tactic(auto, unfolding(crate::specs::Lines::refusal_line))]
-fn fault_line(place: u32, fault: FrameFault) -> Line
-    ensures { result.items ≡ lines.refusal_line (Refusal.Fault place fault) }
+fn fault_line(offset: u32, fault: FrameFault) -> Line
+    ensures { result.items ≡ lines.refusal_line (Refusal.Fault offset fault) }
 {
     let mut line = Line::new();
-    push_one(&mut line, b"fault ", place);
+    push_one(&mut line, b"fault ", offset);
     push_text(&mut line, b" ");
-    push_fault(&mut line, fault);
+    push_frame_text(&fault, &mut line);
     push_text(&mut line, b"\n");
     line
 }

@@ -111,7 +111,8 @@ pub fn read_messages<S: Shelf>(alloc: Global, shelf: &mut S, name: &str) -> Resu
     ensures within { IfOk result (λ checked. length checked.file.items ≤ 16777216) }
     ensures begins { IfOk result (λ checked. Follows checked.scanner checked.file.items 0) }
     ensures kept { OnOk result (S.reading shelf.new ≡ S.reading shelf.old) }
-    ensures refused { IfErr result (λ why. IsReason why (Midi refusals.AllMessages) (S.files shelf.old) name.now (S.reading shelf.old) (S.reading shelf.new)) }
+    ensures refused { IfErr result (λ why. IsReason why (Midi refusals.AllMessages) (S.files shelf.old) name.now
+        (S.reading shelf.old) (S.reading shelf.new)) }
     ensures files { S.files shelf.new ≡ S.files shelf.old }
     ensures writing { S.writing shelf.new ≡ S.writing shelf.old }
 {
@@ -143,7 +144,8 @@ pub fn read_cartridge<S: Shelf>(
     ensures good { OnOk result (IfSome (S.files shelf.old) (λ told. IsJudged (input name.now (Midi refusals.OneCartridge)) told verdicts.Good)) }
     ensures value { IfOk result (λ cartridge. IfSome (S.files shelf.old) (λ told. cartridge_of told name.now ≡ cartridge)) }
     ensures kept { OnOk result (S.reading shelf.new ≡ S.reading shelf.old) }
-    ensures refused { IfErr result (λ why. IsReason why (Midi refusals.OneCartridge) (S.files shelf.old) name.now (S.reading shelf.old) (S.reading shelf.new)) }
+    ensures refused { IfErr result (λ why. IsReason why (Midi refusals.OneCartridge) (S.files shelf.old) name.now
+        (S.reading shelf.old) (S.reading shelf.new)) }
     ensures files { S.files shelf.new ≡ S.files shelf.old }
     ensures writing { S.writing shelf.new ≡ S.writing shelf.old }
 {
@@ -158,7 +160,8 @@ pub fn read_voice<S: Shelf>(alloc: Global, shelf: &mut S, name: &str) -> Result<
     ensures good { OnOk result (IfSome (S.files shelf.old) (λ told. IsJudged (input name.now (Midi refusals.OneVoice)) told verdicts.Good)) }
     ensures value { IfOk result (λ voice. IfSome (S.files shelf.old) (λ told. voice_of told name.now ≡ voice)) }
     ensures kept { OnOk result (S.reading shelf.new ≡ S.reading shelf.old) }
-    ensures refused { IfErr result (λ why. IsReason why (Midi refusals.OneVoice) (S.files shelf.old) name.now (S.reading shelf.old) (S.reading shelf.new)) }
+    ensures refused { IfErr result (λ why. IsReason why (Midi refusals.OneVoice) (S.files shelf.old) name.now
+        (S.reading shelf.old) (S.reading shelf.new)) }
     ensures files { S.files shelf.new ≡ S.files shelf.old }
     ensures writing { S.writing shelf.new ≡ S.writing shelf.old }
 {

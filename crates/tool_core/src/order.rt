@@ -44,7 +44,8 @@ fn feed_file<S: Shelf>(
     reader: &mut OrderReader,
 ) -> Result<(), Failure>
     requires { HasFed reader.old [] }
-    ensures fed { OnOk result (IfSome (S.files shelf.old) (λ told. IsSomeAnd (get told name.now) (λ file. (length file ≤ order_limit) × HasFed reader.new file))) }
+    ensures fed { OnOk result (IfSome (S.files shelf.old) (λ told. IsSomeAnd (get told name.now) (λ file. (length file ≤ order_limit)
+        × HasFed reader.new file))) }
     ensures kept { OnOk result (S.reading shelf.new ≡ S.reading shelf.old) }
     ensures refused { IfErr result (λ why. IsReadFailure why order_limit (S.files shelf.old) name.now (S.reading shelf.old) (S.reading shelf.new)) }
     ensures files { S.files shelf.new ≡ S.files shelf.old }
@@ -83,7 +84,8 @@ fn judge_order(reader: OrderReader) -> Result<Order, Failure>
 
 /// Why a command refuses an order with this fault.
 fn failure_of(line: u32, kind: OrderKind) -> Failure
-    ensures fault { (file : List ℕ) → orders.IsRefused file line kind → IsNoOrder file → length file ≤ order_limit → IsFault result AnOrder (Some file) }
+    ensures fault { (file : List ℕ) → orders.IsRefused file line kind → IsNoOrder file → length file ≤ order_limit
+        → IsFault result AnOrder (Some file) }
     ensures bytes { IsOfBytes result }
 {
     match kind {

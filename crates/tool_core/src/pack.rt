@@ -31,10 +31,12 @@ pub fn read_pack<S: Shelf>(
     requires some { 0 < length files.now }
     requires fits { length files.now ≤ 32 }
     ensures good { OnOk result (IfSome (S.files shelf.old) (λ told. AreGood (voices (map string_bytes files.now)) told)) }
-    ensures message { IfOk result (λ message. IfSome (S.files shelf.old) (λ told. IsMessageOf (packed told (map string_bytes files.now)) 0 message.items)) }
+    ensures message { IfOk result (λ message. IfSome (S.files shelf.old) (λ told.
+        IsMessageOf (packed told (map string_bytes files.now)) 0 message.items)) }
     ensures kept { OnOk result (S.reading shelf.new ≡ S.reading shelf.old) }
-    ensures place { IfErr result (λ stop. stop.place < length files.now) }
-    ensures refused { IfErr result (λ stop. IsPackFailure stop.place stop.why (S.files shelf.old) (map string_bytes files.now) (S.reading shelf.old) (S.reading shelf.new)) }
+    ensures place { IfErr result (λ failure. failure.place < length files.now) }
+    ensures refused { IfErr result (λ failure. IsPackFailure failure.place failure.why (S.files shelf.old) (map string_bytes files.now)
+        (S.reading shelf.old) (S.reading shelf.new)) }
     ensures files { S.files shelf.new ≡ S.files shelf.old }
     ensures writing { S.writing shelf.new ≡ S.writing shelf.old }
 {
@@ -75,7 +77,8 @@ fn pack_one<S: Shelf>(
     ensures good { OnOk result (IfSome (S.files shelf.old) (λ told. IsJudged (input file.now (Midi refusals.OneVoice)) told verdicts.Good)) }
     ensures voice { OnOk result (IfSome (S.files shelf.old) (λ told. cartridge.new ≡ slice_set cartridge.old slot (voice_of told file.now))) }
     ensures kept { OnOk result (S.reading shelf.new ≡ S.reading shelf.old) }
-    ensures refused { IfErr result (λ why. IsReason why (Midi refusals.OneVoice) (S.files shelf.old) file.now (S.reading shelf.old) (S.reading shelf.new)) }
+    ensures refused { IfErr result (λ why. IsReason why (Midi refusals.OneVoice) (S.files shelf.old) file.now
+        (S.reading shelf.old) (S.reading shelf.new)) }
     ensures files { S.files shelf.new ≡ S.files shelf.old }
     ensures writing { S.writing shelf.new ≡ S.writing shelf.old }
 {

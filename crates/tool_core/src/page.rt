@@ -12,9 +12,11 @@ pub type Page = ArrayVec<u8, 4096>;
 
 /// Holds the page, and empties it.
 pub fn put_page<O: Out>(out: &mut O, page: &mut Page) -> Result<(), Failed>
-    ensures ok { OnOk result ((before : Option (List ℕ)) (text : List ℕ) → Holds before (O.written out.old) page.old.items text → Holds before (O.written out.new) [] text) }
+    ensures ok { OnOk result ((before : Option (List ℕ)) (text : List ℕ) → Holds before (O.written out.old) page.old.items text
+        → Holds before (O.written out.new) [] text) }
     ensures empty { OnOk result (page.new.items ≡ []) }
-    ensures err { OnErr result ((before : Option (List ℕ)) (text : List ℕ) → Holds before (O.written out.old) page.old.items text → FailsIn text before (O.written out.new)) }
+    ensures err { OnErr result ((before : Option (List ℕ)) (text : List ℕ) → Holds before (O.written out.old) page.old.items text
+        → FailsIn text before (O.written out.new)) }
     ensures cause { HasCause (O.faults out.old) (O.faults out.new) 0 0 ⊥ result }
 {
     match put_all(out, page.as_slice()) {
@@ -29,9 +31,11 @@ pub fn put_page<O: Out>(out: &mut O, page: &mut Page) -> Result<(), Failed>
 /// Makes room on the page for some more bytes.
 fn make_room<O: Out>(out: &mut O, page: &mut Page, count: usize) -> Result<(), Failed>
     requires { count ≤ 128 }
-    ensures ok { OnOk result ((before : Option (List ℕ)) (text : List ℕ) → Holds before (O.written out.old) page.old.items text → Holds before (O.written out.new) page.new.items text) }
+    ensures ok { OnOk result ((before : Option (List ℕ)) (text : List ℕ) → Holds before (O.written out.old) page.old.items text
+        → Holds before (O.written out.new) page.new.items text) }
     ensures room { OnOk result (length page.new.items + count ≤ 4096) }
-    ensures err { OnErr result ((before : Option (List ℕ)) (text : List ℕ) → Holds before (O.written out.old) page.old.items text → FailsIn text before (O.written out.new)) }
+    ensures err { OnErr result ((before : Option (List ℕ)) (text : List ℕ) → Holds before (O.written out.old) page.old.items text
+        → FailsIn text before (O.written out.new)) }
     ensures cause { HasCause (O.faults out.old) (O.faults out.new) 0 0 ⊥ result }
 {
     if count > 4096 - page.len() {
@@ -44,8 +48,10 @@ fn make_room<O: Out>(out: &mut O, page: &mut Page, count: usize) -> Result<(), F
 /// Adds a line to the report.
 pub fn put_line<O: Out>(out: &mut O, page: &mut Page, line: &[u8]) -> Result<(), Failed>
     requires { length line.now ≤ 128 }
-    ensures ok { OnOk result ((before : Option (List ℕ)) (text : List ℕ) → Holds before (O.written out.old) page.old.items text → Holds before (O.written out.new) page.new.items (text ++ line.now)) }
-    ensures err { OnErr result ((before : Option (List ℕ)) (text : List ℕ) → Holds before (O.written out.old) page.old.items text → FailsIn text before (O.written out.new)) }
+    ensures ok { OnOk result ((before : Option (List ℕ)) (text : List ℕ) → Holds before (O.written out.old) page.old.items text
+        → Holds before (O.written out.new) page.new.items (text ++ line.now)) }
+    ensures err { OnErr result ((before : Option (List ℕ)) (text : List ℕ) → Holds before (O.written out.old) page.old.items text
+        → FailsIn text before (O.written out.new)) }
     ensures cause { HasCause (O.faults out.old) (O.faults out.new) 0 0 ⊥ result }
 {
     match make_room(out, page, line.len()) {

@@ -3,13 +3,13 @@
 use sysex_frame::FrameFault;
 use take_files::OrderKind;
 
-/// Why a file is refused. A place is that of the `F0` of a message, counted over all bytes from 0.
+/// Why a file is refused. An offset is that of the `F0` of a message, counted over all bytes from 0.
 #[derive(Clone, Copy, Debug, PartialEq, Eq)]
 pub enum Refusal {
     /// A SysEx message has more than 5000 bytes.
-    TooLong { place: u32 },
+    TooLong { offset: u32 },
     /// A SysEx message of the DX7 has a fault.
-    Fault { place: u32, fault: FrameFault },
+    Fault { offset: u32, fault: FrameFault },
     /// The file ends within a message.
     Cut,
     /// It holds no voice.

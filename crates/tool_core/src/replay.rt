@@ -48,7 +48,8 @@ fn play_order<S: Shelf, O: Out>(
     ensures { Finishes (writes name.now (wav order.now.journal order.now.blocks)) result
         (snapshot (S.files shelf.old) (S.reading shelf.old) (S.writing shelf.old) (O.written out.old) (O.faults out.old))
         (snapshot (S.files shelf.new) (S.reading shelf.new) (S.writing shelf.new) (O.written out.new) (O.faults out.new))
-        ⊎ ((result ≡ 8) × (S.files shelf.new ≡ S.files shelf.old) × (S.reading shelf.new ≡ S.reading shelf.old) × (S.writing shelf.new ≡ S.writing shelf.old)
+        ⊎ ((result ≡ 8) × (S.files shelf.new ≡ S.files shelf.old) × (S.reading shelf.new ≡ S.reading shelf.old)
+        × (S.writing shelf.new ≡ S.writing shelf.old)
         × Says out_of_memory (O.written out.old) (O.written out.new) (O.faults out.old) (O.faults out.new)) }
 {
     match Playback::new(alloc, order.engine(), order.entries()) {
@@ -89,8 +90,10 @@ fn write_sound<S: Shelf>(
 ) -> Result<(), Failed>
     requires few { blocks ≤ 1048576 }
     requires at { playback.block ≡ 0 }
-    ensures whole { OnOk result (S.files shelf.new ≡ option_map (λ files. insert files name.now (wav playback.entry.journal blocks)) (S.files shelf.old)) }
-    ensures begun { OnErr result (IfSome (S.files shelf.old) (λ files. BeginsOut files (S.files shelf.new) name.now (wav playback.entry.journal blocks))) }
+    ensures whole { OnOk result (S.files shelf.new ≡ option_map (λ files.
+        insert files name.now (wav playback.entry.journal blocks)) (S.files shelf.old)) }
+    ensures begun { OnErr result (IfSome (S.files shelf.old) (λ files.
+        BeginsOut files (S.files shelf.new) name.now (wav playback.entry.journal blocks))) }
     ensures cause { HasCause (S.writing shelf.old) (S.writing shelf.new) (S.reading shelf.old) (S.reading shelf.new) ⊥ result }
 {
     match shelf.create(name) {

@@ -1,6 +1,7 @@
 //! The scan of a file: where its SysEx messages end, and what they hold.
 
-ghost use Rattle.std.specs.Prelude.{ℕ, ◌≡◌, ◌≤◌, ◌<◌, ◌+◌, ◌==◌, [], ◌∷◌, ◌++◌, List, Option, Some, false, length, slice_index, OnOk, IfOk, IfSome, option_map, if◌then◌else◌};
+ghost use Rattle.std.specs.Prelude.{ℕ, ◌≡◌, ◌≤◌, ◌<◌, ◌+◌, ◌==◌, [], ◌∷◌, ◌++◌, List, Option, Some, false, length, slice_index};
+ghost use Rattle.std.specs.Prelude.{OnOk, IfOk, IfSome, option_map, if◌then◌else◌};
 ghost use Rattle.std.specs.Option.{option_or};
 ghost use Rattle.midi_stream.specs.Messages.{is_unfinished};
 ghost use Rattle.midi_stream.specs.Ranges.{InRange};
@@ -18,25 +19,25 @@ use std::alloc::{AllocError, Global};
 use sysex_frame::{Frame, FrameFault, read_frame};
 use voice_record::Voice;
 
-/// A SysEx message that has ended: the place of its `F0`, and whether it has more than 5000 bytes.
+/// A SysEx message that has ended: the offset of its `F0`, and whether it has more than 5000 bytes.
 #[derive(Clone, Copy, Debug, PartialEq, Eq)]
 pub struct Ended {
-    pub place: u32,
+    pub offset: u32,
     pub is_too_long: bool,
 }
 
-/// What a message of a stream says of a SysEx message that began at a place.
-pub fn ending_of(message: Option<MidiMessage>, place: u32) -> Option<Ended>
+/// What a message of a stream tells of a SysEx message that began at an offset.
+pub fn ending_of(message: Option<MidiMessage>, offset: u32) -> Option<Ended>
     requires { IfSome message InRange }
-    ensures { (text : Option (List ℕ)) → IfSome message (λ m. HasBytes m text) → TellsOf result (placed message place text) }
+    ensures { (text : Option (List ℕ)) → IfSome message (λ m. HasBytes m text) → TellsOf result (placed message offset text) }
 {
     match message {
         Some(MidiMessage::SysEx { .. }) => Some(Ended {
-            place,
+            offset,
             is_too_long: false,
         }),
         Some(MidiMessage::SysExTooLong { .. }) => Some(Ended {
-            place,
+            offset,
             is_too_long: true,
         }),
         _ => None,
@@ -44,10 +45,10 @@ pub fn ending_of(message: Option<MidiMessage>, place: u32) -> Option<Ended>
 }
 
 /// Where the last `F0` stands, after a byte at an offset.
-fn start_after(start: u32, place: u32, byte: u8) -> u32
-    ensures { result ≡ (if byte == 240 then place else start) }
+fn start_after(start: u32, offset: u32, byte: u8) -> u32
+    ensures { result ≡ (if byte == 240 then offset else start) }
 {
-    if byte == 0xF0 { place } else { start }
+    if byte == 0xF0 { offset } else { start }
 }
 
 /// A scanner over a file, byte by byte, that tells where a SysEx message ends.
@@ -73,21 +74,23 @@ impl Scanner {
         })
     }
 
-    /// Takes the byte at a place, and tells of the SysEx message that ends with it.
-    pub fn feed(&mut self, place: u32, byte: u8) -> Option<Ended>
-        ensures follows { (file : List ℕ) → place < length file → slice_index file place ≡ byte → Follows self.old file place → Follows self.new file (place + 1) }
-        ensures ended { (file : List ℕ) → place < length file → slice_index file place ≡ byte → Follows self.old file place → TellsOf result (sysex_at file place) }
+    /// Takes the byte at an offset, and tells of the SysEx message that ends with it.
+    pub fn feed(&mut self, offset: u32, byte: u8) -> Option<Ended>
+        ensures follows { (file : List ℕ) → offset < length file → slice_index file offset ≡ byte → Follows self.old file offset
+            → Follows self.new file (offset + 1) }
+        ensures ended { (file : List ℕ) → offset < length file → slice_index file offset ≡ byte → Follows self.old file offset
+            → TellsOf result (sysex_at file offset) }
     {
         let start = self.start;
         let message = self.reader.feed(byte);
-        self.start = start_after(start, place, byte);
+        self.start = start_after(start, offset, byte);
         ending_of(message, start)
     }
 
     /// The bytes of the message that ended with the last byte, where it isn't too long.
     pub fn text(&self) -> &[u8]
-        ensures text { (file : List ℕ) (place : ℕ) (sysex : SysExMessage) → Follows self.now file (place + 1)
-            → sysex_at file place ≡ Some sysex → is_too_long sysex ≡ false → result.now ≡ sysex.text }
+        ensures text { (file : List ℕ) (offset : ℕ) (sysex : SysExMessage) → Follows self.now file (offset + 1)
+            → sysex_at file offset ≡ Some sysex → is_too_long sysex ≡ false → result.now ≡ sysex.text }
         ensures bound { length result.now ≤ 5000 }
     {
         self.reader.sysex()
@@ -126,40 +129,43 @@ pub fn scan_file(alloc: Global, file: &[u8]) -> Result<Scan, AllocError>
         cartridge: None,
         is_cut: false,
     };
-    for (place, byte) in file.iter().enumerate() {
-        take_byte(alloc, &mut scan, &mut scanner, place as u32, *byte)?;
+    for (offset, byte) in file.iter().enumerate() {
+        scan_byte(alloc, &mut scan, &mut scanner, offset as u32, *byte)?;
     }
     scan.is_cut = scanner.is_cut();
     Ok(scan)
 }
 
-/// Takes the byte at a place.
-fn take_byte(
+/// Scans the byte at an offset.
+fn scan_byte(
     alloc: Global,
     scan: &mut Scan,
     scanner: &mut Scanner,
-    place: u32,
+    offset: u32,
     byte: u8,
 ) -> Result<(), AllocError>
-    ensures follows { (file : List ℕ) → place < length file → slice_index file place ≡ byte → Follows scanner.old file place → Follows scanner.new file (place + 1) }
-    ensures scanned { OnOk result ((file : List ℕ) → place < length file → slice_index file place ≡ byte → Follows scanner.old file place
-        → IsScan scan.old (sysex_before file place) → IsScan scan.new (sysex_before file (place + 1))) }
+    ensures follows { (file : List ℕ) → offset < length file → slice_index file offset ≡ byte → Follows scanner.old file offset
+        → Follows scanner.new file (offset + 1) }
+    ensures scanned { OnOk result ((file : List ℕ) → offset < length file → slice_index file offset ≡ byte → Follows scanner.old file offset
+        → IsScan scan.old (sysex_before file offset) → IsScan scan.new (sysex_before file (offset + 1))) }
 {
-    match scanner.feed(place, byte) {
-        Some(ended) => take_message(alloc, scan, ended, scanner.text()),
+    match scanner.feed(offset, byte) {
+        Some(ended) => scan_message(alloc, scan, ended, scanner.text()),
         None => Ok(()),
     }
 }
 
-/// Takes a message that has ended.
-fn take_message(alloc: Global, scan: &mut Scan, ended: Ended, text: &[u8]) -> Result<(), AllocError>
+/// Scans a message that has ended.
+fn scan_message(alloc: Global, scan: &mut Scan, ended: Ended, text: &[u8]) -> Result<(), AllocError>
     requires { length text.now ≤ 5000 }
     ensures { OnOk result ((messages : List SysExMessage) (sysex : SysExMessage) → TellsOf (Some ended) (Some sysex)
         → (is_too_long sysex ≡ false → text.now ≡ sysex.text)
         → IsScan scan.old messages → IsScan scan.new (messages ++ sysex ∷ [])) }
 {
     if ended.is_too_long {
-        let refusal = Refusal::TooLong { place: ended.place };
+        let refusal = Refusal::TooLong {
+            offset: ended.offset,
+        };
         scan.bad = scan.bad.or(Some(refusal));
         scan.long = scan.long.or(Some(refusal));
         return Ok(());
@@ -167,15 +173,15 @@ fn take_message(alloc: Global, scan: &mut Scan, ended: Ended, text: &[u8]) -> Re
     match read_frame(text) {
         Ok(frame) => take_frame(alloc, scan, frame),
         Err(fault) => {
-            scan.bad = scan.bad.or(refusal_of(ended.place, fault));
+            scan.bad = scan.bad.or(refusal_of(ended.offset, fault));
             Ok(())
         }
     }
 }
 
 /// Why a message with this fault is refused, where it is.
-pub fn refusal_of(place: u32, fault: FrameFault) -> Option<Refusal>
-    ensures { result ≡ fault_at place (Some fault) }
+pub fn refusal_of(offset: u32, fault: FrameFault) -> Option<Refusal>
+    ensures { result ≡ fault_at offset (Some fault) }
 {
     match fault {
         FrameFault::NotYamaha
@@ -187,7 +193,7 @@ pub fn refusal_of(place: u32, fault: FrameFault) -> Option<Refusal>
         | FrameFault::CountBytes { .. }
         | FrameFault::Length { .. }
         | FrameFault::Checksum { .. }
-        | FrameFault::ParamValue { .. } => Some(Refusal::Fault { place, fault }),
+        | FrameFault::ParamValue { .. } => Some(Refusal::Fault { offset, fault }),
     }
 }
 
@@ -197,7 +203,8 @@ fn take_frame(alloc: Global, scan: &mut Scan, frame: Frame<'_>) -> Result<(), Al
     ensures bad { scan.new.bad ≡ scan.old.bad }
     ensures long { scan.new.long ≡ scan.old.long }
     ensures voice { OnOk result (scan.new.voice ≡ option_or scan.old.voice (option_map clamped_voice (voice_bytes (content_of frame.entry)))) }
-    ensures cartridge { OnOk result (scan.new.cartridge ≡ option_or scan.old.cartridge (option_map voices_of (cartridge_bytes (content_of frame.entry)))) }
+    ensures cartridge { OnOk result (scan.new.cartridge
+        ≡ option_or scan.old.cartridge (option_map voices_of (cartridge_bytes (content_of frame.entry)))) }
 {
     match frame {
         Frame::Voice { payload, .. } => {

@@ -1,9 +1,9 @@
 //! The number of 64 bits that a word writes.
 
-ghost use Rattle.std.specs.Prelude.{◌≡◌, ◌↔◌, IsTrue};
-ghost use Rattle.std.specs.Int.{IsInRange};
-ghost use Rattle.plain_text.specs.Number.{is_padded};
+ghost use Rattle.std.specs.Prelude.{◌≡◌};
 ghost use Rattle.tool_core.specs.Words as spec;
+
+use plain_text::{has_padding, is_digit};
 
 /// The seed that a word writes in decimal digits without a leading zero, where it fits 64 bits.
 pub fn seed_of(text: &[u8]) -> Option<u64>
@@ -23,16 +23,4 @@ pub fn seed_of(text: &[u8]) -> Option<u64>
         }
     }
     Some(value as u64)
-}
-
-fn is_digit(byte: u8) -> bool
-    ensures { IsTrue result ↔ IsInRange 48 57 byte }
-{
-    b'0' <= byte && byte <= b'9'
-}
-
-fn has_padding(text: &[u8]) -> bool
-    ensures { result ≡ is_padded text.now }
-{
-    text.len() > 1 && text[0] == b'0'
 }

@@ -1,7 +1,12 @@
+//! Runs of the program over shelves and outputs in memory.
+
+mod librarian;
+
 use crate::one_byte::OneByteShelf;
 use crate::{tool_main, tool_never_failing};
 use cartridge::Cartridge;
 use generator::script_text;
+use librarian::{cartridge_message, voice_message};
 use outside::{MemOut, MemShelf, SureShelf};
 use std::alloc::{AllocError, Global};
 use std::test::Fail;
@@ -29,7 +34,7 @@ fn status_on(
     Ok(tool_main(alloc, &words, &mut shelf, out))
 }
 
-/// A system exclusive message of another maker with this many bytes.
+/// A SysEx message of another manufacturer with this many bytes.
 fn foreign(alloc: Global, length: usize) -> Result<Vec<u8>, AllocError> {
     let mut bytes = Vec::new(alloc);
     bytes.extend_from_slice(b"\xFE\xF0")?;
@@ -127,97 +132,14 @@ fn files_are_judged(rt: HostRuntime) -> Result<(), Fail> {
     Ok(())
 }
 
-/// A letter and a number below 100.
-fn numbered(alloc: Global, letter: &str, k: u8) -> Result<String, AllocError> {
-    let mut name = String::from_str(alloc, letter)?;
-    if k >= 10 {
-        name.push((b'0' + k / 10) as char)?;
-    }
-    name.push((b'0' + k % 10) as char)?;
-    Ok(name)
-}
-
-/// The message of a voice with an algorithm and a name of its own.
-fn voice_message(k: u8) -> [u8; 163] {
-    let mut voice = Voice::init();
-    let _ = voice.set(134, k);
-    let _ = voice.set(145, b'A' + k % 32);
-    write_voice(0, &voice)
-}
-
-#[test]
-fn a_librarian_keeps_voices(rt: HostRuntime) -> Result<(), Fail> {
-    let alloc = rt.alloc();
-    let mut shelf = MemShelf::new(alloc, &[])?;
-    let mut out = MemOut::new(alloc, &[])?;
-    let mut pack = words_of(alloc, &["pack", "c"])?;
-    for k in 0..32u8 {
-        let name = numbered(alloc, "v", k)?;
-        shelf.put_file(alloc, name.as_str(), &voice_message(k))?;
-        pack.push(name)?;
-    }
-    assert_eq!(rt; tool_main(alloc, &pack, &mut shelf, &mut out), 0);
-    let check = words_of(alloc, &["check", "c"])?;
-    assert_eq!(rt; tool_main(alloc, &check, &mut shelf, &mut out), 0);
-    assert_eq!(rt; out.bytes(), b"ok\ncartridge\nmessages 1\n".as_slice());
-    let mut names = MemOut::new(alloc, &[])?;
-    let list = words_of(alloc, &["list", "c"])?;
-    assert_eq!(rt; tool_main(alloc, &list, &mut shelf, &mut names), 0);
-    assert_eq!(rt; names.bytes().len(), 32 * 13 + 22);
-    assert!(rt; names.bytes().starts_with(b"0 ANIT VOICE\n1 BNIT VOICE\n"));
-    for k in 0..32u8 {
-        let name = numbered(alloc, "p", k)?;
-        let slot = numbered(alloc, "", k)?;
-        let pick = words_of(alloc, &["pick", "c", slot.as_str(), name.as_str()])?;
-        assert_eq!(rt; tool_main(alloc, &pick, &mut shelf, &mut out), 0);
-        assert_eq!(rt;
-            shelf.file(name.as_str()),
-            Some(voice_message(k).as_slice())
-        );
-    }
-    Ok(())
-}
-
-#[test]
-fn failures_are_told(rt: HostRuntime) -> Result<(), Fail> {
-    let alloc = rt.alloc();
-    let pick = words_of(alloc, &["pick", "f", "3", "o"])?;
-    let cases: [(&[u64], u8, &[u8], Option<&[u8]>); 4] = [
-        (&[], 0, b"ok\n", Some(&voice_message(3))),
-        (&[0], 2, b"cannot read f\n", None),
-        (&[3], 3, b"cannot write o\n", None),
-        (&[4], 3, b"cannot write o\n", Some(b"")),
-    ];
-    let mut cartridge = Cartridge::blank(alloc)?;
-    let mut voice = Voice::init();
-    let _ = voice.set(134, 3);
-    let _ = voice.set(145, b'D');
-    cartridge.store(3, &voice);
-    let file = cartridge.write(alloc, 5)?;
-    for (fails, status, printed, written) in cases {
-        let mut shelf = MemShelf::new(alloc, fails)?;
-        shelf.put_file(alloc, "f", &file)?;
-        let mut out = MemOut::new(alloc, &[])?;
-        assert_eq!(rt; tool_main(alloc, &pick, &mut shelf, &mut out), status);
-        assert_eq!(rt; out.bytes(), printed);
-        assert_eq!(rt; shelf.file("o"), written);
-    }
-    let mut shelf = MemShelf::new(alloc, &[])?;
-    shelf.put_file(alloc, "f", &file)?;
-    let mut out = MemOut::new(alloc, &[0])?;
-    assert_eq!(rt; tool_main(alloc, &pick, &mut shelf, &mut out), 3);
-    assert_eq!(rt; out.bytes(), b"".as_slice());
-    assert_eq!(rt; shelf.file("o"), Some(voice_message(3).as_slice()));
-    Ok(())
-}
-
 /// An order of one note over 100 blocks.
 const NOTE: &[u8] =
     b"order engine 1 blocks 100 scripts 1\n0 0 0 0 on 0 69 100\n50 50 0 1 off 0 69\n";
 
 /// The header of its sound and the samples 0, 8, 24, 47, 79, 118, 164, 217.
-const FRONT: &[u8] =
-    b"RIFF\x24\x32\0\0WAVEfmt \x10\0\0\0\x01\0\x01\0\x44\xAC\0\0\x88\x58\x01\0\x02\0\x10\0data\0\x32\0\0\0\0\x08\0\x18\0\x2F\0\x4F\0\x76\0\xA4\0\xD9\0";
+const PREFIX: &[u8] =
+    b"RIFF\x24\x32\0\0WAVEfmt \x10\0\0\0\x01\0\x01\0\x44\xAC\0\0\x88\x58\x01\0\x02\0\x10\0data\0\x32\0\0\
+\0\0\x08\0\x18\0\x2F\0\x4F\0\x76\0\xA4\0\xD9\0";
 
 /// The bytes of the file to which an order is replayed, and none where it isn't.
 fn replayed(alloc: Global, order: &[u8]) -> Result<Vec<u8>, AllocError> {
@@ -255,7 +177,7 @@ fn an_order_is_replayed_and_verified(rt: HostRuntime) -> Result<(), Fail> {
     let alloc = rt.alloc();
     let sound = replayed(alloc, NOTE)?;
     assert_eq!(rt; sound.len(), 12844);
-    assert!(rt; sound.as_slice().starts_with(FRONT));
+    assert!(rt; sound.as_slice().starts_with(PREFIX));
     let mut longer = sound.as_slice().to_vec(alloc)?;
     longer.push(0)?;
     let mut shorter = sound.as_slice().to_vec(alloc)?;
@@ -269,7 +191,7 @@ fn an_order_is_replayed_and_verified(rt: HostRuntime) -> Result<(), Fail> {
         (shorter.as_slice(), 7, b"differs at 12843\n"),
         (size.as_slice(), 7, b"differs at 4\n"),
         (b"", 7, b"differs at 0\n"),
-        (FRONT, 7, b"differs at 60\n"),
+        (PREFIX, 7, b"differs at 60\n"),
     ];
     for (file, status, printed) in rows {
         let mut out = MemOut::new(alloc, &[])?;
@@ -350,18 +272,18 @@ fn other_voice() -> Voice {
     voice
 }
 
-/// An order over two blocks: some entries, and then a line with bytes in hex and some entries behind it.
+/// An order over two blocks: some entries, and then a line with bytes in hex and some entries after it.
 fn order_with(
     alloc: Global,
     before: &[u8],
     bytes: &[u8],
-    behind: &[u8],
+    after: &[u8],
 ) -> Result<Vec<u8>, AllocError> {
     let mut text = Vec::new(alloc);
     text.extend_from_slice(b"order engine 1 blocks 2 scripts 1\n")?;
     text.extend_from_slice(before)?;
     push_hex(&mut text, bytes)?;
-    text.extend_from_slice(behind)?;
+    text.extend_from_slice(after)?;
     Ok(text)
 }
 
@@ -432,7 +354,8 @@ fn every_command_is_replayed(rt: HostRuntime) -> Result<(), Fail> {
     )?;
     push_hex(&mut text, Cartridge::blank(alloc)?.payload())?;
     text.extend_from_slice(
-        b"\n0 0 0 4 bend 0 9000\n0 0 0 5 control 0 1 20\n0 0 0 6 control 0 64 64\n0 0 0 7 on 0 60 90\n1 0 0 8 off 0 60\n1 1 0 9 control 0 64 0\n1 1 0 10 program 0 0\n1 1 0 11 on 0 64 1\n1 1 0 12 control 0 123 0\n",
+        b"\n0 0 0 4 bend 0 9000\n0 0 0 5 control 0 1 20\n0 0 0 6 control 0 64 64\n0 0 0 7 on 0 60 90\n\
+1 0 0 8 off 0 60\n1 1 0 9 control 0 64 0\n1 1 0 10 program 0 0\n1 1 0 11 on 0 64 1\n1 1 0 12 control 0 123 0\n",
     )?;
     let sound = replayed(alloc, text.as_slice())?;
     assert_eq!(rt; sound.len(), 300);
@@ -584,9 +507,13 @@ fn a_shelf_may_take_one_byte_at_a_time(rt: HostRuntime) -> Result<(), Fail> {
     let whole = replayed(alloc, NOTE)?;
     let mut inner = MemShelf::new(alloc, &[])?;
     inner.put_file(alloc, "f", NOTE)?;
+    inner.put_file(alloc, "c", &cartridge_message(alloc, 3, 3, 5)?)?;
+    inner.put_file(alloc, "v", &voice_message(3))?;
     let mut slow = OneByteShelf { inner };
     for (words, printed) in [
-        ("replay f w", b"ok\n".as_slice()),
+        ("pick c 3 p", b"ok\n".as_slice()),
+        ("pack q v p", b"ok\n"),
+        ("replay f w", b"ok\n"),
         ("verify f w", b"same\n"),
         ("gen 0 1 1", b"scripts 1 commands 1\n"),
     ] {
@@ -599,6 +526,9 @@ fn a_shelf_may_take_one_byte_at_a_time(rt: HostRuntime) -> Result<(), Fail> {
         assert_eq!(rt; out.bytes(), printed);
     }
     assert_eq!(rt; slow.inner.file("w"), Some(whole.as_slice()));
+    assert_eq!(rt; slow.inner.file("p"), Some(voice_message(3).as_slice()));
+    let packed = cartridge_message(alloc, 0, 1, 0)?;
+    assert_eq!(rt; slow.inner.file("q"), Some(packed.as_slice()));
     Ok(())
 }
 

@@ -18,8 +18,8 @@ use crate::words::{Request, read_words};
 use outside::{Out, Shelf};
 use std::alloc::Global;
 
-/// HasEffect what the words ask for, and answers the status: 0 done, 1 other words, 2 not read, 3 not written, 4 a file is refused, 6 past a limit, 7 `verify` found a
-/// difference, 8 out of memory.
+/// Does what the words request, and answers the status: 0 done, 1 other words, 2 not read, 3 not written, 4 a file is refused,
+/// 6 past a limit, 7 `verify` found a difference, 8 out of memory.
 ///
 /// The words are `check FILE`, `list FILE`, `pick FILE SLOT OUT`, `pack OUT FILE...`, `replay ORDER OUT`, `verify ORDER WAV`,
 /// `gen SEED SCRIPTS COMMANDS` or `bench SEED BLOCKS`. The files are read and judged one after the other, in the order of the words.
@@ -31,7 +31,8 @@ pub fn tool_main<S: Shelf, O: Out>(
 ) -> u8
     ensures status { IsOneOf result (0 ∷ 1 ∷ 2 ∷ 3 ∷ 4 ∷ 6 ∷ 7 ∷ 8 ∷ []) }
 
-    // 0 and 7: Every file that was read is good. The files that the command writes are whole, all others are as before, and just its text was added to the output.
+    // 0 and 7: Every file that was read is good. The files that the command writes are whole, all others are as before, and just
+    // its text was added to the output.
     ensures done { WasDone result → IfSome (requested_by (map string_bytes words.now)) (λ request. IsDone request result
         (snapshot (S.files shelf.old) (S.reading shelf.old) (S.writing shelf.old) (O.written out.old) (O.faults out.old))
         (snapshot (S.files shelf.new) (S.reading shelf.new) (S.writing shelf.new) (O.written out.new) (O.faults out.new))) }
@@ -44,7 +45,8 @@ pub fn tool_main<S: Shelf, O: Out>(
     ensures unread { result ≡ 2 → IfSome (requested_by (map string_bytes words.now)) (λ request. IsUnread request
         (snapshot (S.files shelf.old) (S.reading shelf.old) (S.writing shelf.old) (O.written out.old) (O.faults out.old))
         (snapshot (S.files shelf.new) (S.reading shelf.new) (S.writing shelf.new) (O.written out.new) (O.faults out.new))) }
-    // 3 only where every file that was read is good, and a write or the put of the text failed and was counted. What is written stands as far as it came.
+    // 3 only where every file that was read is good, and a write or the put of the text failed and was counted. What is written
+    // stands as far as it came.
     ensures unwritten { result ≡ 3 → IfSome (requested_by (map string_bytes words.now)) (λ request. IsUnwritten request
         (snapshot (S.files shelf.old) (S.reading shelf.old) (S.writing shelf.old) (O.written out.old) (O.faults out.old))
         (snapshot (S.files shelf.new) (S.reading shelf.new) (S.writing shelf.new) (O.written out.new) (O.faults out.new))) }

@@ -35,22 +35,22 @@ pub fn verify<S: Shelf, O: Out>(
 {
     match read_order_file(alloc, shelf, file) {
         Ok(order) => match compare_order(alloc, &order, shelf, sound) {
-            Ok(place) => put_comparison(out, place),
+            Ok(offset) => put_comparison(out, offset),
             Err(why) => refuse(out, sound, why),
         },
         Err(why) => refuse(out, file, why),
     }
 }
 
-/// The first place at which a file differs from the sound of an order.
+/// The first offset at which a file differs from the sound of an order.
 fn compare_order<S: Shelf>(
     alloc: Global,
     order: &Order,
     shelf: &mut S,
     name: &str,
 ) -> Result<Option<u32>, Failure>
-    ensures compared { IfOk result (λ place. (file : List ℕ) → file_of (S.files shelf.old) name.now ≡ Some file
-        → IsCompared file (wav order.now.journal order.now.blocks) place) }
+    ensures compared { IfOk result (λ offset. (file : List ℕ) → file_of (S.files shelf.old) name.now ≡ Some file
+        → IsCompared file (wav order.now.journal order.now.blocks) offset) }
     ensures within { OnOk result ((file : List ℕ) → file_of (S.files shelf.old) name.now ≡ Some file → length file ≤ sound_limit) }
     ensures lacks { Lacks (S.files shelf.old) name.now → IsErr result }
     ensures kept { OnOk result (S.reading shelf.new ≡ S.reading shelf.old) }
@@ -65,13 +65,14 @@ fn compare_order<S: Shelf>(
 }
 
 /// Puts the report of a comparison, and answers 0 or 7, or 3 where the output fails.
-fn put_comparison<O: Out>(out: &mut O, place: Option<u32>) -> u8
-    ensures { Puts (comparison place).status (comparison place).prints result (O.written out.old) (O.written out.new) (O.faults out.old) (O.faults out.new) }
+fn put_comparison<O: Out>(out: &mut O, offset: Option<u32>) -> u8
+    ensures { Puts (comparison offset).status (comparison offset).prints result
+        (O.written out.old) (O.written out.new) (O.faults out.old) (O.faults out.new) }
 {
-    match place {
+    match offset {
         None => put_same(out),
-        Some(place) => {
-            let line = differs_line(place);
+        Some(offset) => {
+            let line = differs_line(offset);
             put_report(out, 7, line.as_slice())
         }
     }

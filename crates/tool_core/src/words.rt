@@ -2,12 +2,14 @@
 
 ghost use Rattle.std.specs.Prelude.{◌≡◌, ◌≤◌, ◌∷◌, IfSome, Option, map, option_map, string_bytes};
 ghost use Rattle.tool_core.specs.Words as spec;
-ghost use Rattle.tool_core.specs.Words.{request_data, requested_by, request_of, request_of_generated, request_of_order, bench_of, bench_of_words, file_of_words, gen_of, gen_of_words, pack_of_words, pick_of, pick_of_words, replay_of_words, verify_of_words, IsInRange};
+ghost use Rattle.tool_core.specs.Words.{request_data, requested_by, request_of, request_of_generated, request_of_order, bench_of};
+ghost use Rattle.tool_core.specs.Words.{bench_of_words, file_of_words, gen_of, gen_of_words, pack_of_words, pick_of};
+ghost use Rattle.tool_core.specs.Words.{pick_of_words, replay_of_words, verify_of_words, IsInRange};
 
 use crate::seed::seed_of;
 use plain_text::parse_number;
 
-/// What the words ask for.
+/// What the words request.
 #[derive(Clone, Copy)]
 pub enum Request<'a> {
     /// One line for each SysEx message of a file.
@@ -52,7 +54,7 @@ pub enum Request<'a> {
     },
 }
 
-/// What the words ask for, and `None` where they are not of the grammar.
+/// What the words request, and `None` where they are not of the grammar.
 pub fn read_words(words: &[String]) -> Option<Request<'_>>
     ensures request { option_map request_data result ≡ requested_by (map string_bytes words.entry.now) }
     ensures range { IfSome result IsInRange }

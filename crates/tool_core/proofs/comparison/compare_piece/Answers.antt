@@ -2,7 +2,7 @@ use Rattle.std.proofs.Common.{◌-◌, length, take, drop, refl, ◌∙◌, ap, 
 use Rattle.std.specs.Prelude.{Option}
 use Rattle.outside.specs.Files.{Files, file_of}
 use Rattle.outside.proofs.Shelves.{rest_whole}
-use Rattle.tool_core.proofs.Fronts.{piece_more, piece_differs, piece_whole, step_same, step_differs, same_within, differs_within}
+use Rattle.tool_core.proofs.Prefixes.{piece_more, piece_differs, piece_whole, step_same, step_differs, same_within, differs_within}
 use Rattle.tool_core.proofs.comparison.compare_piece.Goals as goal
 
 pub comparing-preserved : goal.comparing-preserved
@@ -24,7 +24,7 @@ returns-in-Ok-Differs-clause-compared g c file is =
     let i = c.comparing.invariant in
     let e = c.in-Ok-Differs.ensures in (
       omega (arith, differs_within _ _ _ c.in-Ok-Differs.field-0-is e.within, ap length (rest_whole c.args.piece.now c.comparing.done), length-drop c.comparing.done c.args.piece.now, c.comparing-test.true),
-      piece_differs file c.args.piece.now (take (length c.args.piece.now - c.comparing.done) (drop c.comparing.done c.args.piece.now)) c.args.at c.comparing.done c.in-Ok-Differs.place refl
+      piece_differs file c.args.piece.now (take (length c.args.piece.now - c.comparing.done) (drop c.comparing.done c.args.piece.now)) c.args.at c.comparing.done c.in-Ok-Differs.offset refl
           i.within (i.same file is) (step_differs _ _ _ _ c.in-Ok-Differs.field-0-is (e.step file (ap (λ (o : Option Files). file_of o c.args.name.now) i.files ∙ is))),
     )
 

@@ -1,13 +1,13 @@
 use Rattle.std.proofs.Common.{◌+◌, refl, ◌∙◌, ap, arith}
 use Rattle.std.specs.Prelude.{Option}
 use Rattle.outside.specs.Files.{Files, file_of}
-use Rattle.tool_core.proofs.Fronts.{front_at}
+use Rattle.tool_core.proofs.Prefixes.{front_at}
 use Rattle.tool_core.proofs.Sounds.{header_differs, header_front, piece_front, sound_differs, sound_front, chunk_bytes}
 use Rattle.tool_core.proofs.comparison.compare_sound.Goals as goal
 
 pub returns-in-Ok-Some-clause-compared : goal.returns-in-Ok-Some-clause-compared
 returns-in-Ok-Some-clause-compared g c file is =
-    header_differs c.args.playback.journal file c.wav_header.result c.args.blocks c.in-Ok-Some.place c.wav_header.ensures
+    header_differs c.args.playback.journal file c.wav_header.result c.args.blocks c.in-Ok-Some.offset c.wav_header.ensures
     (front_at _ _ _ _ c.in-Ok-Some.field-0-is (c.in-Ok-Some.ensures.compared file is))
 
 pub pieces-init : goal.pieces-init
@@ -18,7 +18,7 @@ pieces-init g c = record {
   within = omega arith;
   journal = refl;
   block = c.requires.at;
-  front = λ file is.
+  prefix = λ file is.
       header_front c.args.playback.journal file c.wav_header.result c.args.blocks c.wav_header.ensures (front_at _ _ _ _ c.in-Ok-None.field-0-is (c.in-Ok-None.ensures.compared file is));
 }
 
@@ -27,7 +27,7 @@ returns-in-Ok-Some-compare_piece-clause-compared g c file is =
     let i = c.pieces.invariant in
     sound_differs c.args.playback.journal file c.as_slice.result.now c.args.blocks c.pieces.from (c.pieces.from + c.min-count.result) _ refl
     (chunk_bytes c.pieces.playback c.args.playback.journal c.pieces.from c.min-count.result c.as_slice.result.now _ i.journal i.block c.render_piece.ensures.bytes c.as_slice.ensures.value)
-    (i.front file is) c.in-Ok-Some-compare_piece.place (omega (arith, c.min-count.ensures, c.pieces-test.true))
+    (i.prefix file is) c.in-Ok-Some-compare_piece.offset (omega (arith, c.min-count.ensures, c.pieces-test.true))
     (front_at _ _ _ _ c.in-Ok-Some-compare_piece.field-0-is (c.in-Ok-Some-compare_piece.ensures.compared file (ap (λ (o : Option Files). file_of o c.args.name.now) i.files ∙ is)))
 
 pub pieces-preserved : goal.pieces-preserved
@@ -41,13 +41,13 @@ pieces-preserved g c =
       within = omega (arith, c.min-count.ensures, c.pieces-test.true);
       journal = c.render_piece.ensures.journal ∙ i.journal;
       block = c.render_piece.ensures.block ∙ ap (λ n. n + c.min-count.result) i.block;
-      front = λ file is.
+      prefix = λ file is.
           piece_front c.args.playback.journal file c.as_slice.result.now c.args.blocks c.pieces.from (c.pieces.from + c.min-count.result) _ refl
           (chunk_bytes c.pieces.playback c.args.playback.journal c.pieces.from c.min-count.result c.as_slice.result.now _ i.journal i.block c.render_piece.ensures.bytes c.as_slice.ensures.value)
-          (i.front file is)
+          (i.prefix file is)
           (front_at _ _ _ _ c.in-Ok-None-compare_piece.field-0-is (e.compared file (ap (λ (o : Option Files). file_of o c.args.name.now) i.files ∙ is)));
     }
 
 pub returns-clause-compared : goal.returns-clause-compared
 returns-clause-compared g c file is =
-    sound_front c.args.playback.journal file c.args.blocks c.pieces.from (omega (arith, c.pieces.invariant.within, c.pieces-test.false)) (c.pieces.invariant.front file is)
+    sound_front c.args.playback.journal file c.args.blocks c.pieces.from (omega (arith, c.pieces.invariant.within, c.pieces-test.false)) (c.pieces.invariant.prefix file is)

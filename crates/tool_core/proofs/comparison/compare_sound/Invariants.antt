@@ -1,7 +1,7 @@
 use Rattle.std.proofs.Common.{◌≡◌, ◌≤◌, ◌-◌, ℕ, List}
 use Rattle.std.specs.Prelude.{Some, None}
 use Rattle.outside.specs.Files.{file_of}
-use Rattle.tool_core.specs.Comparisons.{IsFront}
+use Rattle.tool_core.specs.Comparisons.{IsPrefix}
 use Rattle.tool_core.proofs.Sounds.{begun}
 use Rattle.tool_core.proofs.comparison.compare_sound.Given as goal
 
@@ -13,7 +13,7 @@ invariant-pieces g l = record {
   within : l.from ≤ l.blocks;
   journal : l.playback.journal ≡ l.fn.playback.journal;
   block : l.playback.block ≡ l.from;
-  front : (file : List ℕ) → file_of (g.S.Shelf.files l.fn.shelf) l.name ≡ Some file → IsFront file (begun l.fn.playback.journal l.blocks l.from) None;
+  prefix : (file : List ℕ) → file_of (g.S.Shelf.files l.fn.shelf) l.name ≡ Some file → IsPrefix file (begun l.fn.playback.journal l.blocks l.from) None;
 }
 
 abbrev pub decreases-pieces : goal.decreases-pieces

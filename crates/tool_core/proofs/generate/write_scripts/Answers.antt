@@ -1,5 +1,5 @@
 use Rattle.std.proofs.Common.{◌∙◌, refl, arith}
-use Rattle.tool_core.proofs.Several.{no_file, one_more, stopped_in, all_written}
+use Rattle.tool_core.proofs.Several.{no_file, one_more, failed_in, all_written}
 use Rattle.tool_core.proofs.generate.write_scripts.Goals as goal
 
 pub loop-at-init : goal.loop-at-init
@@ -14,9 +14,9 @@ loop-at-preserved g c = record {
   reading = c.in-Ok.ensures.cause.other ∙ c.loop-at.invariant.reading;
 }
 
-pub returns-in-Err-clause-stopped : goal.returns-in-Err-clause-stopped
-returns-in-Err-clause-stopped g c =
-    stopped_in (g.S.Shelf.files c.args.shelf.now) (g.S.Shelf.files c.loop-at.shelf) _ c.args.files.now c.loop-at.at c.index-files-at.result c.loop-at-test.true c.index-files-at.is
+pub returns-in-Err-clause-failed : goal.returns-in-Err-clause-failed
+returns-in-Err-clause-failed g c =
+    failed_in (g.S.Shelf.files c.args.shelf.now) (g.S.Shelf.files c.loop-at.shelf) _ c.args.files.now c.loop-at.at c.index-files-at.result c.loop-at-test.true c.index-files-at.is
     c.loop-at.invariant.files c.in-Err.ensures.begun
 
 pub returns-clause-whole : goal.returns-clause-whole

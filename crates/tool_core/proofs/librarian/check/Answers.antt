@@ -4,7 +4,7 @@ use Rattle.tool_core.specs.Inputs.{Midi, input}
 use Rattle.tool_core.specs.Words.{Check}
 use Rattle.tool_core.specs.Effects.{prints}
 use Rattle.tool_core.specs.Lines.{check_report}
-use Rattle.tool_core.proofs.Endings.{performs, refuses, print_ends, one_good, first_stops, check_does}
+use Rattle.tool_core.proofs.Endings.{performs, refuses, print_ends, one_good, first_fails, check_does}
 use Rattle.tool_core.proofs.librarian.check.Goals as goal
 
 pub returns-in-Ok : goal.returns-in-Ok
@@ -17,5 +17,5 @@ returns-in-Ok g c =
 pub returns-in-Err : goal.returns-in-Err
 returns-in-Err g c =
     refuses (Check c.args.file.now) c.in-Err.why c.args.file.now _ _ _
-    (first_stops c.in-Err.why (Midi AllMessages) [] (g.S.Shelf.files c.args.shelf.now) c.args.file.now _ _ c.in-Err.ensures.refused)
+    (first_fails c.in-Err.why (Midi AllMessages) [] (g.S.Shelf.files c.args.shelf.now) c.args.file.now _ _ c.in-Err.ensures.refused)
     c.refuse.ensures.status c.refuse.ensures.line c.read_messages.ensures.files c.read_messages.ensures.writing

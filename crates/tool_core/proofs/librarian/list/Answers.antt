@@ -3,7 +3,7 @@ use Rattle.tool_core.specs.Refusals.{OneCartridge}
 use Rattle.tool_core.specs.Inputs.{Midi, input}
 use Rattle.tool_core.specs.Words.{Names}
 use Rattle.tool_core.specs.Effects.{prints}
-use Rattle.tool_core.proofs.Endings.{performs, refuses, print_ends, one_good, first_stops, list_does}
+use Rattle.tool_core.proofs.Endings.{performs, refuses, print_ends, one_good, first_fails, list_does}
 use Rattle.tool_core.proofs.librarian.list.Goals as goal
 
 pub returns-in-Ok : goal.returns-in-Ok
@@ -16,5 +16,5 @@ returns-in-Ok g c =
 pub returns-in-Err : goal.returns-in-Err
 returns-in-Err g c =
     refuses (Names c.args.file.now) c.in-Err.why c.args.file.now _ _ _
-    (first_stops c.in-Err.why (Midi OneCartridge) [] (g.S.Shelf.files c.args.shelf.now) c.args.file.now _ _ c.in-Err.ensures.refused)
+    (first_fails c.in-Err.why (Midi OneCartridge) [] (g.S.Shelf.files c.args.shelf.now) c.args.file.now _ _ c.in-Err.ensures.refused)
     c.refuse.ensures.status c.refuse.ensures.line c.read_cartridge.ensures.files c.read_cartridge.ensures.writing

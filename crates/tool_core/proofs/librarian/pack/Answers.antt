@@ -2,7 +2,7 @@ use Rattle.std.proofs.Common.{◌≡◌, ◌<◌, length, map, string_bytes, ari
 use Rattle.tool_core.specs.Words.{Pack}
 use Rattle.tool_core.specs.Effects.{writes}
 use Rattle.tool_core.proofs.Endings.{performs, refuses, read_first}
-use Rattle.tool_core.proofs.Packs.{count_names, pack_does, pack_stops}
+use Rattle.tool_core.proofs.Packs.{count_names, pack_does, pack_fails}
 use Rattle.tool_core.proofs.librarian.pack.Goals as goal
 
 pub returns-in-Ok : goal.returns-in-Ok
@@ -15,8 +15,8 @@ returns-in-Ok g c =
 pub returns-in-Err : goal.returns-in-Err
 returns-in-Err g c =
     let count : length (map string_bytes c.args.files.now) ≡ length c.args.files.now = count_names c.args.files.now in
-    let below : c.in-Err.stop.place < length (map string_bytes c.args.files.now) = omega (arith, c.in-Err.ensures.place) in
-    refuses (Pack c.args.name.now (map string_bytes c.args.files.now)) c.in-Err.stop.why c.name_at-file.result.now _ _ _
-    (pack_stops c.in-Err.stop.why c.in-Err.stop.place (g.S.Shelf.files c.args.shelf.now) (map string_bytes c.args.files.now) c.name_at-file.result.now _ _ below c.name_at-file.ensures
+    let below : c.in-Err.failure.place < length (map string_bytes c.args.files.now) = omega (arith, c.in-Err.ensures.place) in
+    refuses (Pack c.args.name.now (map string_bytes c.args.files.now)) c.in-Err.failure.why c.name_at-file.result.now _ _ _
+    (pack_fails c.in-Err.failure.why c.in-Err.failure.place (g.S.Shelf.files c.args.shelf.now) (map string_bytes c.args.files.now) c.name_at-file.result.now _ _ below c.name_at-file.ensures
     c.in-Err.ensures.refused)
     c.refuse.ensures.status c.refuse.ensures.line c.read_pack.ensures.files c.read_pack.ensures.writing

@@ -3,7 +3,7 @@ use Rattle.tool_core.specs.Refusals.{OneCartridge}
 use Rattle.tool_core.specs.Inputs.{Midi, input}
 use Rattle.tool_core.specs.Words.{Pick}
 use Rattle.tool_core.specs.Effects.{writes}
-use Rattle.tool_core.proofs.Endings.{performs, refuses, read_first, one_good, first_stops, pick_does}
+use Rattle.tool_core.proofs.Endings.{performs, refuses, read_first, one_good, first_fails, pick_does}
 use Rattle.tool_core.proofs.librarian.pick.Goals as goal
 
 pub returns-in-Ok : goal.returns-in-Ok
@@ -17,5 +17,5 @@ returns-in-Ok g c =
 pub returns-in-Err : goal.returns-in-Err
 returns-in-Err g c =
     refuses (Pick c.args.file.now c.args.slot c.args.name.now) c.in-Err.why c.args.file.now _ _ _
-    (first_stops c.in-Err.why (Midi OneCartridge) [] (g.S.Shelf.files c.args.shelf.now) c.args.file.now _ _ c.in-Err.ensures.refused)
+    (first_fails c.in-Err.why (Midi OneCartridge) [] (g.S.Shelf.files c.args.shelf.now) c.args.file.now _ _ c.in-Err.ensures.refused)
     c.refuse.ensures.status c.refuse.ensures.line c.read_cartridge.ensures.files c.read_cartridge.ensures.writing

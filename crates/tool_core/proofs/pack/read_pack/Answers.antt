@@ -1,5 +1,5 @@
 use Rattle.std.proofs.Common.{◌≡◌, ◌<◌, ◌≤◌, length, map, string_bytes, refl, ◌∙◌, arith}
-use Rattle.tool_core.proofs.Packs.{good_none, good_more, filled_none, filled_more, stopped, all_good, all_filled, memory_stop, count_names}
+use Rattle.tool_core.proofs.Packs.{good_none, good_more, filled_none, filled_more, fails_at, all_good, all_filled, memory_failure, count_names}
 use Rattle.tool_core.proofs.pack.read_pack.Goals as goal
 
 pub loop-place-init : goal.loop-place-init
@@ -28,11 +28,11 @@ loop-place-preserved g c =
     }
 
 pub returns-in-Err-clause-refused : goal.returns-in-Err-clause-refused
-returns-in-Err-clause-refused g c = memory_stop c.out_of_memory.result _ _ _ _ c.out_of_memory.ensures.why refl
+returns-in-Err-clause-refused g c = memory_failure c.out_of_memory.result _ _ _ _ c.out_of_memory.ensures.why refl
 
 pub returns-in-Err-pack_one-clause-refused : goal.returns-in-Err-pack_one-clause-refused
 returns-in-Err-pack_one-clause-refused g c =
-    stopped c.in-Err-pack_one.why (g.S.Shelf.files c.args.shelf.now) (g.S.Shelf.files c.loop-place.shelf) (map string_bytes c.args.files.now) c.loop-place.place c.name_at-file.result.now
+    fails_at c.in-Err-pack_one.why (g.S.Shelf.files c.args.shelf.now) (g.S.Shelf.files c.loop-place.shelf) (map string_bytes c.args.files.now) c.loop-place.place c.name_at-file.result.now
     (g.S.Shelf.reading c.args.shelf.now) (g.S.Shelf.reading c.loop-place.shelf) _
     c.name_at-file.ensures c.loop-place.invariant.files c.loop-place.invariant.reading c.loop-place.invariant.good c.in-Err-pack_one.ensures.refused
 

@@ -4,7 +4,7 @@ use Rattle.tool_core.specs.Words.{Replay}
 use Rattle.tool_core.specs.declared.failure.Failure.TheVariants.{Memory}
 use Rattle.tool_core.specs.Inputs.{AnOrder, input}
 use Rattle.tool_core.specs.Effects.{writes}
-use Rattle.tool_core.proofs.Endings.{performs, refuses, read_first, one_good, first_stops}
+use Rattle.tool_core.proofs.Endings.{performs, refuses, read_first, one_good, first_fails}
 use Rattle.tool_core.proofs.OrderEndings.{order_judged, replay_does}
 use Rattle.tool_core.proofs.replay.replay.Goals as goal
 
@@ -24,5 +24,5 @@ returns-in-Ok g c =
 pub returns-in-Err : goal.returns-in-Err
 returns-in-Err g c =
     refuses (Replay c.args.file.now c.args.name.now) c.in-Err.why c.args.file.now _ _ _
-    (first_stops c.in-Err.why AnOrder [] _ c.args.file.now _ _ c.in-Err.ensures.refused)
+    (first_fails c.in-Err.why AnOrder [] _ c.args.file.now _ _ c.in-Err.ensures.refused)
     c.refuse.ensures.status c.refuse.ensures.line c.read_order_file.ensures.files c.read_order_file.ensures.writing

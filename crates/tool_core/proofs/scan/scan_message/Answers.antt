@@ -2,7 +2,7 @@ use Rattle.std.proofs.Common.{◌∙◌, refl, ap}
 use Rattle.std.specs.Option.{option_or}
 use Rattle.sysex_frame.specs.Frame.{content_of}
 use Rattle.tool_core.proofs.Scanning.{long_taken, fault_taken, frame_taken}
-use Rattle.tool_core.proofs.scan.take_message.Goals as goal
+use Rattle.tool_core.proofs.scan.scan_message.Goals as goal
 
 pub returns-then-ended : goal.returns-then-ended
 returns-then-ended c = long_taken c.args.scan.now _ c.args.ended c.args.text.now c.if-ended.true c.or-scan.ensures c.or-scan-then-ended.ensures refl refl

@@ -10,22 +10,22 @@ use Rattle.tool_core.proofs.scan.Scanner.feed.Goals as goal
 
 pub returns-clause-follows : goal.returns-clause-follows
 returns-clause-follows c file below is h = record {
-  reads = rw (take_next file c.args.place c.args.byte below is) (c.feed-message.ensures.stands (take c.args.place file) h.reads);
+  reads = rw (take_next file c.args.offset c.args.byte below is) (c.feed-message.ensures.stands (take c.args.offset file) h.reads);
   start = c.start_after-self.ensures
-      ∙ ap (λ (b : ℕ). if b == 240 then c.args.place else c.args.self.now.start) (sym is)
-      ∙ ap (λ (s : ℕ). if get_or file c.args.place 0 == 240 then c.args.place else s) h.start
-      ∙ sym (start_next file c.args.place);
+      ∙ ap (λ (b : ℕ). if b == 240 then c.args.offset else c.args.self.now.start) (sym is)
+      ∙ ap (λ (s : ℕ). if get_or file c.args.offset 0 == 240 then c.args.offset else s) h.start
+      ∙ sym (start_next file c.args.offset);
 }
 
 pub returns-clause-ended : goal.returns-clause-ended
 unfolding sysex_at
 returns-clause-ended c file below is h =
-    let next : take (c.args.place + 1) file ≡ take c.args.place file ++ c.args.byte ∷ [] = take_next file c.args.place c.args.byte below is in
-    let answer : Answers c.feed-message.result (messages (take c.args.place file)) (messages (take (c.args.place + 1) file)) =
-    rw next (c.feed-message.ensures.answer (take c.args.place file) h.reads) in
-    let bytes : IfSome c.feed-message.result (λ m. HasBytes m (last_sysex (take (c.args.place + 1) file))) =
-    rw next (c.feed-message.ensures.bytes (take c.args.place file) h.reads) in
-    subst (λ (m : Option MidiMessage). TellsOf c.ending_of.result (placed m (start_before file c.args.place) (last_sysex (take (c.args.place + 1) file))))
-    (sym (message_told c.feed-message.result file c.args.place answer))
-    (subst (λ (s : ℕ). TellsOf c.ending_of.result (placed c.feed-message.result s (last_sysex (take (c.args.place + 1) file)))) h.start
-    (c.ending_of.ensures (last_sysex (take (c.args.place + 1) file)) bytes))
+    let next : take (c.args.offset + 1) file ≡ take c.args.offset file ++ c.args.byte ∷ [] = take_next file c.args.offset c.args.byte below is in
+    let answer : Answers c.feed-message.result (messages (take c.args.offset file)) (messages (take (c.args.offset + 1) file)) =
+    rw next (c.feed-message.ensures.answer (take c.args.offset file) h.reads) in
+    let bytes : IfSome c.feed-message.result (λ m. HasBytes m (last_sysex (take (c.args.offset + 1) file))) =
+    rw next (c.feed-message.ensures.bytes (take c.args.offset file) h.reads) in
+    subst (λ (m : Option MidiMessage). TellsOf c.ending_of.result (placed m (start_before file c.args.offset) (last_sysex (take (c.args.offset + 1) file))))
+    (sym (message_told c.feed-message.result file c.args.offset answer))
+    (subst (λ (s : ℕ). TellsOf c.ending_of.result (placed c.feed-message.result s (last_sysex (take (c.args.offset + 1) file)))) h.start
+    (c.ending_of.ensures (last_sysex (take (c.args.offset + 1) file)) bytes))

@@ -8,13 +8,13 @@ use Rattle.std.proofs.lemmas.Option.{slice_get_past, slice_get-get_or}
 use Rattle.outside.specs.Files.{Files, ReadsFrom, file_of}
 use Rattle.tool_core.specs.declared.comparison.Step.{Step}
 use Rattle.tool_core.specs.declared.comparison.Step.TheVariants.{Same, Differs}
-use Rattle.tool_core.specs.Comparisons.{DiffersAt, IsFront, IsStep, IsWithin}
+use Rattle.tool_core.specs.Comparisons.{DiffersAt, IsPrefix, IsStep, IsWithin}
 
--- ---- bytes at a place
-get_behind : (front a : List ℕ) (i : ℕ) → slice_get (front ++ a) (length front + i) ≡ slice_get a i
+-- ---- bytes at an offset
+get_behind : (prefix a : List ℕ) (i : ℕ) → slice_get (prefix ++ a) (length prefix + i) ≡ slice_get a i
 get_behind [] a i = ap (slice_get a) (let e : length {A = ℕ} [] + i ≡ i = omega arith in e)
-get_behind (x ∷ front) a i =
-    ap (slice_get (x ∷ (front ++ a))) (let e : length (x ∷ front) + i ≡ suc (length front + i) = omega arith in e) ∙ get_behind front a i
+get_behind (x ∷ prefix) a i =
+    ap (slice_get (x ∷ (prefix ++ a))) (let e : length (x ∷ prefix) + i ≡ suc (length prefix + i) = omega arith in e) ∙ get_behind prefix a i
 
 get_front : (a more : List ℕ) (i : ℕ) → i < length a → slice_get (a ++ more) i ≡ slice_get a i
 get_front [] more i below = absurd (omega arith)
@@ -33,16 +33,16 @@ take_taken zero a (suc i) below = absurd (omega arith)
 take_taken (suc n) [] (suc i) below = refl
 take_taken (suc n) (x ∷ a) (suc i) below = ap (λ (l : List ℕ). x ∷ l) (take_taken n a i (omega arith))
 
--- ---- behind a front, and before more
-pub differs_behind : (front a b : List ℕ) (i : ℕ) → DiffersAt a b i → DiffersAt (front ++ a) (front ++ b) (length front + i)
-differs_behind front a b i d = record {
-  front = take-append-add front a i ∙ ap (λ (l : List ℕ). front ++ l) d.front ∙ sym (take-append-add front b i);
-  differs = λ e. d.differs (sym (get_behind front a i) ∙ e ∙ get_behind front b i);
+-- ---- after a prefix, and before more
+pub differs_behind : (prefix a b : List ℕ) (i : ℕ) → DiffersAt a b i → DiffersAt (prefix ++ a) (prefix ++ b) (length prefix + i)
+differs_behind prefix a b i d = record {
+  prefix = take-append-add prefix a i ∙ ap (λ (l : List ℕ). prefix ++ l) d.prefix ∙ sym (take-append-add prefix b i);
+  differs = λ e. d.differs (sym (get_behind prefix a i) ∙ e ∙ get_behind prefix b i);
 }
 
 pub differs_before : (a b more : List ℕ) (i : ℕ) → i < length b → DiffersAt a b i → DiffersAt a (b ++ more) i
 differs_before a b more i below d = record {
-  front = d.front ∙ sym (take-append-le i b more (omega arith));
+  prefix = d.prefix ∙ sym (take-append-le i b more (omega arith));
   differs = λ e. d.differs (e ∙ get_front b more i below);
 }
 
@@ -50,7 +50,7 @@ differs_before a b more i below d = record {
 pub chunk_differs : (chunk rest wanted : List ℕ) (i x y : ℕ) → take (length chunk) rest ≡ chunk → take i chunk ≡ take i wanted
     → i < length chunk → i < length wanted → x ≡ get_or chunk i x → y ≡ get_or wanted i y → x ≢ y → DiffersAt rest wanted i
 chunk_differs chunk rest wanted i x y is same low below at_x at_y other = record {
-  front = sym (take_taken (length chunk) rest i (omega arith)) ∙ ap (take i) is ∙ same;
+  prefix = sym (take_taken (length chunk) rest i (omega arith)) ∙ ap (take i) is ∙ same;
   differs = λ e.
       let left : slice_get rest i ≡ Some (get_or chunk i x) =
       sym (get_taken (length chunk) rest i low) ∙ ap (λ (l : List ℕ). slice_get l i) is ∙ slice_get-get_or chunk i x low in
@@ -64,7 +64,7 @@ chunk_same chunk rest wanted size is low same = sym (take_taken (length chunk) r
 
 pub ended_differs : (rest wanted : List ℕ) → length rest ≡ 0 → 0 < length wanted → DiffersAt rest wanted 0
 ended_differs rest wanted none some = record {
-  front = refl;
+  prefix = refl;
   differs = λ e.
       let left : slice_get rest 0 ≡ None = slice_get_past rest 0 (omega arith) in
       let right : slice_get wanted 0 ≡ Some (get_or wanted 0 0) = slice_get-get_or wanted 0 0 some in
@@ -109,63 +109,63 @@ piece_more file piece wanted at done count is same step =
     ∙ ap (λ (l : List ℕ). l ++ take count (drop done piece)) same
     ∙ sym (take-add done count piece)
 
-pub piece_differs : (file piece wanted : List ℕ) (at done place : ℕ) → wanted ≡ take (length piece - done) (drop done piece) → done ≤ length piece
-    → take done (drop at file) ≡ take done piece → DiffersAt (drop (at + done) file) wanted place
-    → DiffersAt (drop at file) piece (done + place)
-piece_differs file piece wanted at done place is low same step =
+pub piece_differs : (file piece wanted : List ℕ) (at done offset : ℕ) → wanted ≡ take (length piece - done) (drop done piece) → done ≤ length piece
+    → take done (drop at file) ≡ take done piece → DiffersAt (drop (at + done) file) wanted offset
+    → DiffersAt (drop at file) piece (done + offset)
+piece_differs file piece wanted at done offset is low same step =
     let size : length (take done piece) ≡ done = length-take-le done piece low in
     let left : take done piece ++ drop (at + done) file ≡ drop at file =
     ap (λ (l : List ℕ). l ++ drop (at + done) file) (sym same) ∙ ap (λ (l : List ℕ). take done (drop at file) ++ l) (sym (drop_drop at done file)) ∙ take-append-drop done (drop at file) in
     let right : take done piece ++ wanted ≡ piece =
     ap (λ (l : List ℕ). take done piece ++ l) (rest_of piece wanted done is) ∙ take-append-drop done piece in
-    let whole : DiffersAt (take done piece ++ drop (at + done) file) (take done piece ++ wanted) (length (take done piece) + place) =
-    differs_behind (take done piece) (drop (at + done) file) wanted place step in
-    subst (λ (n : ℕ). DiffersAt (drop at file) piece (n + place)) size
-    (subst (λ (l : List ℕ). DiffersAt (drop at file) l (length (take done piece) + place)) right
-    (subst (λ (l : List ℕ). DiffersAt l (take done piece ++ wanted) (length (take done piece) + place)) left whole))
+    let whole : DiffersAt (take done piece ++ drop (at + done) file) (take done piece ++ wanted) (length (take done piece) + offset) =
+    differs_behind (take done piece) (drop (at + done) file) wanted offset step in
+    subst (λ (n : ℕ). DiffersAt (drop at file) piece (n + offset)) size
+    (subst (λ (l : List ℕ). DiffersAt (drop at file) l (length (take done piece) + offset)) right
+    (subst (λ (l : List ℕ). DiffersAt l (take done piece ++ wanted) (length (take done piece) + offset)) left whole))
 
-pub piece_whole : (file piece : List ℕ) (at done : ℕ) → done ≡ length piece → take done (drop at file) ≡ take done piece → IsFront (drop at file) piece None
+pub piece_whole : (file piece : List ℕ) (at done : ℕ) → done ≡ length piece → take done (drop at file) ≡ take done piece → IsPrefix (drop at file) piece None
 piece_whole file piece at done is same = (
   drop done (drop at file),
   sym (take-append-drop done (drop at file)) ∙ ap (λ (l : List ℕ). l ++ drop done (drop at file)) (same ∙ take_all done piece (omega arith)),
 )
 
 -- ---- a file, piece by piece
-behind : (file front rest : List ℕ) (at : ℕ) → file ≡ front ++ rest → at ≡ length front → drop at file ≡ rest
-behind file front rest at is size = ap (λ (n : ℕ). drop n file) size ∙ ap (drop (length front)) is ∙ drop-append_seam front rest
+rest_after : (file prefix rest : List ℕ) (at : ℕ) → file ≡ prefix ++ rest → at ≡ length prefix → drop at file ≡ rest
+rest_after file prefix rest at is size = ap (λ (n : ℕ). drop n file) size ∙ ap (drop (length prefix)) is ∙ drop-append_seam prefix rest
 
-pub front_more : (file front piece : List ℕ) (at : ℕ) → IsFront file front None → at ≡ length front → IsFront (drop at file) piece None
-    → IsFront file (front ++ piece) None
-front_more file front piece at (rest, is) size (more, next) =
-    (more, is ∙ ap (λ (l : List ℕ). front ++ l) (sym (behind file front rest at is size) ∙ next) ∙ sym (append_assoc front piece more))
+pub front_more : (file prefix piece : List ℕ) (at : ℕ) → IsPrefix file prefix None → at ≡ length prefix → IsPrefix (drop at file) piece None
+    → IsPrefix file (prefix ++ piece) None
+front_more file prefix piece at (rest, is) size (more, next) =
+    (more, is ∙ ap (λ (l : List ℕ). prefix ++ l) (sym (rest_after file prefix rest at is size) ∙ next) ∙ sym (append_assoc prefix piece more))
 
-pub front_differs : (file front piece more : List ℕ) (at place : ℕ) → IsFront file front None → at ≡ length front → IsFront (drop at file) piece (Some place)
-    → IsFront file ((front ++ piece) ++ more) (Some (at + place))
-front_differs file front piece more at place (rest, is) size (below, d) =
-    let left : front ++ drop at file ≡ file = ap (λ (l : List ℕ). front ++ l) (behind file front rest at is size) ∙ sym is in
-    let whole : DiffersAt (front ++ drop at file) (front ++ piece) (length front + place) = differs_behind front (drop at file) piece place d in
-    let at_it : DiffersAt file (front ++ piece) (at + place) =
-    subst (λ (n : ℕ). DiffersAt file (front ++ piece) (n + place)) (sym size)
-    (subst (λ (l : List ℕ). DiffersAt l (front ++ piece) (length front + place)) left whole) in
-    let low : at + place < length (front ++ piece) = omega (arith, length-append front piece) in
-    (let l : at + place < length ((front ++ piece) ++ more) = omega (arith, length-append (front ++ piece) more) in l, differs_before file (front ++ piece) more (at + place) low at_it)
+pub front_differs : (file prefix piece more : List ℕ) (at offset : ℕ) → IsPrefix file prefix None → at ≡ length prefix → IsPrefix (drop at file) piece (Some offset)
+    → IsPrefix file ((prefix ++ piece) ++ more) (Some (at + offset))
+front_differs file prefix piece more at offset (rest, is) size (below, d) =
+    let left : prefix ++ drop at file ≡ file = ap (λ (l : List ℕ). prefix ++ l) (rest_after file prefix rest at is size) ∙ sym is in
+    let whole : DiffersAt (prefix ++ drop at file) (prefix ++ piece) (length prefix + offset) = differs_behind prefix (drop at file) piece offset d in
+    let at_it : DiffersAt file (prefix ++ piece) (at + offset) =
+    subst (λ (n : ℕ). DiffersAt file (prefix ++ piece) (n + offset)) (sym size)
+    (subst (λ (l : List ℕ). DiffersAt l (prefix ++ piece) (length prefix + offset)) left whole) in
+    let low : at + offset < length (prefix ++ piece) = omega (arith, length-append prefix piece) in
+    (let l : at + offset < length ((prefix ++ piece) ++ more) = omega (arith, length-append (prefix ++ piece) more) in l, differs_before file (prefix ++ piece) more (at + offset) low at_it)
 
-pub first_differs : (file piece more : List ℕ) (place : ℕ) → IsFront (drop 0 file) piece (Some place) → IsFront file (piece ++ more) (Some place)
-first_differs file piece more place (below, d) =
-    (let l : place < length (piece ++ more) = omega (arith, length-append piece more) in l, differs_before file piece more place below d)
+pub first_differs : (file piece more : List ℕ) (offset : ℕ) → IsPrefix (drop 0 file) piece (Some offset) → IsPrefix file (piece ++ more) (Some offset)
+first_differs file piece more offset (below, d) =
+    (let l : offset < length (piece ++ more) = omega (arith, length-append piece more) in l, differs_before file piece more offset below d)
 
 -- ---- the whole file
-pub known_within : (file whole : List ℕ) (place : Option ℕ) (size : ℕ) → size ≡ length whole → IsFront file whole place → unwrap_or place size ≤ length file
+pub known_within : (file whole : List ℕ) (offset : Option ℕ) (size : ℕ) → size ≡ length whole → IsPrefix file whole offset → unwrap_or offset size ≤ length file
 known_within file whole None size is (rest, same) = omega (arith, ap length same, length-append whole rest)
-known_within file whole (Some place) size is (below, d) =
-    let left : length (take place file) ≡ min place (length file) = length-take place file in
-    let right : length (take place whole) ≡ place = length-take-le place whole (omega arith) in
-    let e : length (take place file) ≡ length (take place whole) = ap length d.front in
+known_within file whole (Some offset) size is (below, d) =
+    let left : length (take offset file) ≡ min offset (length file) = length-take offset file in
+    let right : length (take offset whole) ≡ offset = length-take-le offset whole (omega arith) in
+    let e : length (take offset file) ≡ length (take offset whole) = ap length d.prefix in
     omega arith
 
-pub goes_past : (file whole : List ℕ) (size count : ℕ) → size ≡ length whole → count ≡ length file → size < count → IsFront file whole None → DiffersAt file whole size
+pub goes_past : (file whole : List ℕ) (size count : ℕ) → size ≡ length whole → count ≡ length file → size < count → IsPrefix file whole None → DiffersAt file whole size
 goes_past file whole size count is ends past (rest, same) = record {
-  front = ap (λ (n : ℕ). take n file) is ∙ ap (take (length whole)) same ∙ take-append_seam whole rest ∙ sym (take_all size whole (omega arith));
+  prefix = ap (λ (n : ℕ). take n file) is ∙ ap (take (length whole)) same ∙ take-append_seam whole rest ∙ sym (take_all size whole (omega arith));
   differs = λ e.
       let left : slice_get file size ≡ Some (get_or file size 0) = slice_get-get_or file size 0 (omega arith) in
       let right : slice_get whole size ≡ None = slice_get_past whole size (omega arith) in
@@ -176,22 +176,22 @@ none : (rest : List ℕ) → length rest ≡ 0 → rest ≡ []
 none [] e = refl
 none (x ∷ rest) e = absurd (omega arith)
 
-pub ends_there : (file whole : List ℕ) (size count : ℕ) → size ≡ length whole → count ≡ length file → count ≤ size → IsFront file whole None → file ≡ whole
+pub ends_there : (file whole : List ℕ) (size count : ℕ) → size ≡ length whole → count ≡ length file → count ≤ size → IsPrefix file whole None → file ≡ whole
 ends_there file whole size count is ends low (rest, same) =
     same ∙ ap (λ (l : List ℕ). whole ++ l) (none rest (omega (arith, ap length same, length-append whole rest))) ∙ append-nil whole
 
--- ---- what an answer says, where it is known which one it is
-pub front_at : (o : Option ℕ) (file front : List ℕ) (known : Option ℕ) → o ≡ known → IsFront file front o → IsFront file front known
-front_at o file front known is h = subst (λ (r : Option ℕ). IsFront file front r) is h
+-- ---- what an answer tells, where it is known which one it is
+pub front_at : (o : Option ℕ) (file prefix : List ℕ) (known : Option ℕ) → o ≡ known → IsPrefix file prefix o → IsPrefix file prefix known
+front_at o file prefix known is h = subst (λ (r : Option ℕ). IsPrefix file prefix r) is h
 
-pub step_same : (step : Step) (count : ℕ) (file front : List ℕ) → step ≡ Same count → IsStep step file front → take count file ≡ take count front
-step_same step count file front is h = let k : IsStep (Same count) file front = subst (λ (s : Step). IsStep s file front) is h in k
+pub step_same : (step : Step) (count : ℕ) (file prefix : List ℕ) → step ≡ Same count → IsStep step file prefix → take count file ≡ take count prefix
+step_same step count file prefix is h = let k : IsStep (Same count) file prefix = subst (λ (s : Step). IsStep s file prefix) is h in k
 
-pub step_differs : (step : Step) (place : ℕ) (file front : List ℕ) → step ≡ Differs place → IsStep step file front → DiffersAt file front place
-step_differs step place file front is h = let k : IsStep (Differs place) file front = subst (λ (s : Step). IsStep s file front) is h in k
+pub step_differs : (step : Step) (offset : ℕ) (file prefix : List ℕ) → step ≡ Differs offset → IsStep step file prefix → DiffersAt file prefix offset
+step_differs step offset file prefix is h = let k : IsStep (Differs offset) file prefix = subst (λ (s : Step). IsStep s file prefix) is h in k
 
 pub same_within : (step : Step) (count most : ℕ) → step ≡ Same count → IsWithin step most → count ≤ most
 same_within step count most is h = let k : IsWithin (Same count) most = subst (λ (s : Step). IsWithin s most) is h in k.1
 
-pub differs_within : (step : Step) (place most : ℕ) → step ≡ Differs place → IsWithin step most → place < most
-differs_within step place most is h = let k : IsWithin (Differs place) most = subst (λ (s : Step). IsWithin s most) is h in k
+pub differs_within : (step : Step) (offset most : ℕ) → step ≡ Differs offset → IsWithin step most → offset < most
+differs_within step offset most is h = let k : IsWithin (Differs offset) most = subst (λ (s : Step). IsWithin s most) is h in k
