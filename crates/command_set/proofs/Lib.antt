@@ -1,7 +1,9 @@
 pub mod Packs
+pub mod WordBytes
 pub mod Words
 pub mod Writing
 pub mod Reading
 pub mod Hexed
 pub mod Numbers
 pub mod Messages
+pub mod KeptBytes

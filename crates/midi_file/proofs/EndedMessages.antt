@@ -20,7 +20,8 @@ use Rattle.midi_file.specs.Track.{TimedData, TrackOutcome, Comes, Breaks, messag
 use Rattle.midi_file.specs.File.{first_fault}
 use Rattle.midi_file.specs.Values.{Faults, all_come}
 use Rattle.midi_stream.proofs.Ended.{ended_is}
-use Rattle.script_outcome.proofs.EndedMessages.{take_next, told_same}
+use Rattle.command_set.proofs.KeptBytes.{told_same}
+use Rattle.script_outcome.proofs.EndedMessages.{take_next}
 
 -- ---- first faults
 

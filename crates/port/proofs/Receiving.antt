@@ -3,7 +3,6 @@ use Rattle.std.proofs.Common.{◌≡◌, ℕ, ◌+◌, ◌≤◌, List, [], ◌�
 use Rattle.std.proofs.lemmas.List.{map-append}
 use Rattle.std.specs.Prelude.{option_map, unwrap_or, IfSome}
 use Rattle.midi_stream.specs.declared.message.MidiMessage.{MidiMessage}
-use Rattle.midi_stream.specs.declared.message.MidiMessage.TheVariants.{NoteOff, NoteOn, KeyPressure, Control, Program, ChannelPressure, Bend, SysEx, SysExTooLong}
 use Rattle.midi_stream.specs.declared.reader.MidiReader.{MidiReader}
 use Rattle.midi_stream.specs.Messages.{messages, last_sysex}
 use Rattle.midi_stream.specs.Ranges.{InRange}
@@ -12,6 +11,7 @@ use Rattle.midi_stream.specs.Standing.{Answers, HasBytes}
 use Rattle.velocity_map.specs.declared.curve.Curve.{Curve}
 use Rattle.command_set.specs.Command.{CommandData}
 use Rattle.command_set.specs.Message.{Told, Tells, command_of}
+use Rattle.command_set.proofs.KeptBytes.{told_same}
 use Rattle.command_queue.specs.Ends.{SendView}
 use Rattle.port.specs.declared.kept.Kept.{Kept}
 use Rattle.port.specs.declared.kept.Kept.TheVariants as kept
@@ -37,21 +37,6 @@ one_listed (Some m) kept = refl
 ended_answer : (r : Option MidiMessage) (before : List ℕ) (byte : ℕ) → Answers r (messages before) (messages (before ++ byte ∷ []))
     → listed (ended_message before byte) ≡ one_ended (exclusive_of (before ++ byte ∷ [])) r
 ended_answer r before byte a = ap listed (ended_is r before byte a) ∙ one_listed r (last_sysex (before ++ byte ∷ []))
-
--- the same comes of the bytes that a reader keeps as of those of the stream
-pub told_same : (m : MidiMessage) (text : Option (List ℕ)) (sysex : List ℕ) (curve : Curve) → InRange m → HasBytes m text
-    → IfSome text (λ bytes. length bytes ≤ 5000 → sysex ≡ bytes) → command_of m sysex curve ≡ command_of m (unwrap_or text []) curve
-unfolding command_of
-told_same (NoteOff channel key) text sysex curve range has same = refl
-told_same (NoteOn channel key velocity) text sysex curve range has same = refl
-told_same (KeyPressure channel key value) text sysex curve range has same = refl
-told_same (Control channel number value) text sysex curve range has same = refl
-told_same (Program channel number) text sysex curve range has same = refl
-told_same (ChannelPressure channel value) text sysex curve range has same = refl
-told_same (Bend channel value) text sysex curve range has same = refl
-told_same (SysEx count) None sysex curve range has same = absurd has
-told_same (SysEx count) (Some bytes) sysex curve range has same = ap (λ (b : List ℕ). command_of (SysEx count) b curve) (same (omega arith))
-told_same (SysExTooLong count) text sysex curve range has same = refl
 
 ended_after_more : (before xs : List ℕ) (byte : ℕ) → ended_after before (xs ++ byte ∷ []) ≡ ended_after before xs ++ listed (ended_message (before ++ xs) byte)
 unfolding ended_after

@@ -3,32 +3,17 @@ use Rattle.std.proofs.lemmas.Grind.{take_at_read}
 use Rattle.std.proofs.Common.{◌≡◌, ℕ, ◌+◌, ◌<◌, ◌≤◌, take, get_or, List, [], ◌∷◌, ◌++◌, length, refl, ap, sym, ◌∙◌, arith, append_assoc, append-nil, length-append, if◌then◌else◌}
 use Rattle.std.specs.Prelude.{Option, Some, None, unwrap_or, IfSome}
 use Rattle.midi_stream.specs.declared.message.MidiMessage.{MidiMessage}
-use Rattle.midi_stream.specs.declared.message.MidiMessage.TheVariants.{NoteOff, NoteOn, KeyPressure, Control, Program, ChannelPressure, Bend, SysEx, SysExTooLong}
 use Rattle.midi_stream.specs.Messages.{messages, last_sysex}
 use Rattle.midi_stream.specs.Ranges.{InRange}
 use Rattle.midi_stream.specs.Standing.{Answers, HasBytes}
 use Rattle.velocity_map.specs.declared.curve.Curve.{Curve}
 use Rattle.command_set.specs.Message.{command_of}
+use Rattle.command_set.proofs.KeptBytes.{told_same}
 use Rattle.script_outcome.specs.declared.fault.Place.{Place}
 use Rattle.midi_stream.specs.Ended.{ended_message}
 use Rattle.midi_stream.proofs.Ended.{ended_is}
 use Rattle.script_outcome.specs.Stream.{begins, begun_after, begun_at}
 use Rattle.script_outcome.specs.Outcomes.{Outcome, message_outcomes, ended_outcomes, fed_outcomes}
-
--- the bytes that the reader keeps tell the same as those of the stream
-pub told_same : (m : MidiMessage) (kept : Option (List ℕ)) (sysex : List ℕ) (curve : Curve) → InRange m → HasBytes m kept
-    → IfSome kept (λ text. length text ≤ 5000 → sysex ≡ text) → command_of m sysex curve ≡ command_of m (unwrap_or kept []) curve
-unfolding command_of
-told_same (NoteOff channel key) kept sysex curve range has same = refl
-told_same (NoteOn channel key velocity) kept sysex curve range has same = refl
-told_same (KeyPressure channel key value) kept sysex curve range has same = refl
-told_same (Control channel number value) kept sysex curve range has same = refl
-told_same (Program channel number) kept sysex curve range has same = refl
-told_same (ChannelPressure channel value) kept sysex curve range has same = refl
-told_same (Bend channel value) kept sysex curve range has same = refl
-told_same (SysEx count) None sysex curve range has same = absurd has
-told_same (SysEx count) (Some text) sysex curve range has same = ap (λ (bytes : List ℕ). command_of (SysEx count) bytes curve) (same (omega arith))
-told_same (SysExTooLong count) kept sysex curve range has same = refl
 
 -- what a message that the reader answers tells is what comes of its last byte
 pub message_is_ended : (m : MidiMessage) (before : List ℕ) (byte : ℕ) (sysex : List ℕ) (curve : Curve) (at : Place) (block : ℕ)

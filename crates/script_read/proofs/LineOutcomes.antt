@@ -26,19 +26,19 @@ use Rattle.script_read.specs.Reading.{IsAfter, IsWithin}
 use Rattle.script_outcome.proofs.Plans.{fails, stops_more}
 
 -- what one line changes
-abbrev pub curve_after : Curve → ParsedLine → Curve
-curve_after curve Blank = curve
-curve_after curve (Maps next) = next
-curve_after curve (Orders block command) = curve
-curve_after curve (Feeds block bytes) = curve
-curve_after curve Wrong = curve
+abbrev pub curve_with : Curve → ParsedLine → Curve
+curve_with curve Blank = curve
+curve_with curve (Maps next) = next
+curve_with curve (Orders block command) = curve
+curve_with curve (Feeds block bytes) = curve
+curve_with curve Wrong = curve
 
-abbrev pub block_after : ℕ → ParsedLine → ℕ
-block_after last Blank = last
-block_after last (Maps next) = last
-block_after last (Orders block command) = block
-block_after last (Feeds block bytes) = block
-block_after last Wrong = last
+abbrev pub block_with : ℕ → ParsedLine → ℕ
+block_with last Blank = last
+block_with last (Maps next) = last
+block_with last (Orders block command) = block
+block_with last (Feeds block bytes) = block
+block_with last Wrong = last
 
 abbrev pub bytes_in : ParsedLine → List ℕ
 bytes_in Blank = []
@@ -47,14 +47,14 @@ bytes_in (Orders block command) = []
 bytes_in (Feeds block bytes) = bytes
 bytes_in Wrong = []
 
-abbrev pub fed_after : ℕ → ℕ → ParsedLine → ℕ
-fed_after last number Blank = last
-fed_after last number (Maps next) = last
-fed_after last number (Orders block command) = last
-fed_after last number (Feeds block bytes) = number
-fed_after last number Wrong = last
+abbrev pub fed_with : ℕ → ℕ → ParsedLine → ℕ
+fed_with last number Blank = last
+fed_with last number (Maps next) = last
+fed_with last number (Orders block command) = last
+fed_with last number (Feeds block bytes) = number
+fed_with last number Wrong = last
 
-curve_one : (curve : Curve) (s : ParsedLine) → curve_after curve (s ∷ []) ≡ curve_after curve s
+curve_one : (curve : Curve) (s : ParsedLine) → curve_after curve (s ∷ []) ≡ curve_with curve s
 unfolding curve_after
 curve_one curve Blank = refl
 curve_one curve (Maps next) = refl
@@ -62,7 +62,7 @@ curve_one curve (Orders block command) = refl
 curve_one curve (Feeds block bytes) = refl
 curve_one curve Wrong = refl
 
-curve_more : (curve : Curve) (lines : List ParsedLine) (s : ParsedLine) → curve_after curve (lines ++ s ∷ []) ≡ curve_after (curve_after curve lines) s
+curve_more : (curve : Curve) (lines : List ParsedLine) (s : ParsedLine) → curve_after curve (lines ++ s ∷ []) ≡ curve_with (curve_after curve lines) s
 unfolding curve_after
 curve_more curve [] s = curve_one curve s
 curve_more curve (Blank ∷ lines) s = curve_more curve lines s
@@ -71,7 +71,7 @@ curve_more curve (Orders block command ∷ lines) s = curve_more curve lines s
 curve_more curve (Feeds block bytes ∷ lines) s = curve_more curve lines s
 curve_more curve (Wrong ∷ lines) s = curve_more curve lines s
 
-block_one : (last : ℕ) (s : ParsedLine) → block_after last (s ∷ []) ≡ block_after last s
+block_one : (last : ℕ) (s : ParsedLine) → block_after last (s ∷ []) ≡ block_with last s
 unfolding block_after
 block_one last Blank = refl
 block_one last (Maps next) = refl
@@ -79,7 +79,7 @@ block_one last (Orders block command) = refl
 block_one last (Feeds block bytes) = refl
 block_one last Wrong = refl
 
-block_more : (last : ℕ) (lines : List ParsedLine) (s : ParsedLine) → block_after last (lines ++ s ∷ []) ≡ block_after (block_after last lines) s
+block_more : (last : ℕ) (lines : List ParsedLine) (s : ParsedLine) → block_after last (lines ++ s ∷ []) ≡ block_with (block_after last lines) s
 unfolding block_after
 block_more last [] s = block_one last s
 block_more last (Blank ∷ lines) s = block_more last lines s
@@ -105,7 +105,7 @@ stream_more (Orders block command ∷ lines) s = stream_more lines s
 stream_more (Feeds block bytes ∷ lines) s = ap (λ (xs : List ℕ). bytes ++ xs) (stream_more lines s) ∙ sym (append_assoc bytes _ _)
 stream_more (Wrong ∷ lines) s = stream_more lines s
 
-fed_one : (last number : ℕ) (s : ParsedLine) → fed_line last number (s ∷ []) ≡ fed_after last number s
+fed_one : (last number : ℕ) (s : ParsedLine) → fed_line last number (s ∷ []) ≡ fed_with last number s
 unfolding fed_line
 fed_one last number Blank = refl
 fed_one last number (Maps next) = refl
@@ -113,10 +113,10 @@ fed_one last number (Orders block command) = refl
 fed_one last number (Feeds block bytes) = refl
 fed_one last number Wrong = refl
 
-same_number : (last number other : ℕ) (s : ParsedLine) → number ≡ other → fed_after last number s ≡ fed_after last other s
-same_number last number other s e = ap (λ (n : ℕ). fed_after last n s) e
+same_number : (last number other : ℕ) (s : ParsedLine) → number ≡ other → fed_with last number s ≡ fed_with last other s
+same_number last number other s e = ap (λ (n : ℕ). fed_with last n s) e
 
-fed_line_more : (last number : ℕ) (lines : List ParsedLine) (s : ParsedLine) → fed_line last number (lines ++ s ∷ []) ≡ fed_after (fed_line last number lines) (number + length lines) s
+fed_line_more : (last number : ℕ) (lines : List ParsedLine) (s : ParsedLine) → fed_line last number (lines ++ s ∷ []) ≡ fed_with (fed_line last number lines) (number + length lines) s
 unfolding fed_line
 fed_line_more last number [] s = fed_one last number s ∙ same_number last number (number + 0) s (omega arith)
 fed_line_more last number (Blank ∷ lines) s = fed_line_more last (number + 1) lines s ∙ same_number _ _ _ s (omega arith)
@@ -146,16 +146,16 @@ outcomes_more blocks lines s = outcomes_append blocks [] lines (s ∷ []) ∙ ap
 
 -- a reader after one more line
 pub after_more : (old new : Progress) (blocks : Option ℕ) (lines : List ParsedLine) (s : ParsedLine) → IsAfter old blocks lines
-    → Reads new.feed.reader (stream_of lines ++ bytes_in s) → new.curve ≡ curve_after old.curve s → new.least ≡ block_after old.least s
-    → new.number ≡ old.number + 1 → new.fed ≡ fed_after old.fed old.number s
+    → Reads new.feed.reader (stream_of lines ++ bytes_in s) → new.curve ≡ curve_with old.curve s → new.least ≡ block_with old.least s
+    → new.number ≡ old.number + 1 → new.fed ≡ fed_with old.fed old.number s
     → all_given new.feed.script ≡ all_given old.feed.script ++ line_outcomes blocks lines s
     → IsAfter new blocks (lines ++ s ∷ [])
 after_more old new blocks lines s b reads curve least number fed given = record {
   reads = subst (λ (xs : List ℕ). Reads new.feed.reader xs) (sym (stream_more lines s)) reads;
-  curve = curve ∙ ap (λ (c : Curve). curve_after c s) b.curve ∙ sym (curve_more Linear lines s);
-  least = least ∙ ap (λ (n : ℕ). block_after n s) b.least ∙ sym (block_more 0 lines s);
+  curve = curve ∙ ap (λ (c : Curve). curve_with c s) b.curve ∙ sym (curve_more Linear lines s);
+  least = least ∙ ap (λ (n : ℕ). block_with n s) b.least ∙ sym (block_more 0 lines s);
   number = let count : length (lines ++ s ∷ []) ≡ length lines + 1 = length-append lines (s ∷ []) in let was : old.number ≡ length lines + 2 = b.number in omega arith;
-  fed = fed ∙ ap (λ (n : ℕ). fed_after n old.number s) b.fed ∙ same_number _ _ _ s (let was : old.number ≡ length lines + 2 = b.number in omega arith) ∙ sym (fed_line_more 0 2 lines s);
+  fed = fed ∙ ap (λ (n : ℕ). fed_with n old.number s) b.fed ∙ same_number _ _ _ s (let was : old.number ≡ length lines + 2 = b.number in omega arith) ∙ sym (fed_line_more 0 2 lines s);
   given = outcomes_more blocks lines s ∙ ap (λ (os : List Outcome). os ++ line_outcomes blocks lines s) b.given ∙ sym given;
 }
 

@@ -18,14 +18,11 @@ use Rattle.plain_text.proofs.Cuts.{split_some}
 use Rattle.command_set.specs.Command.{CommandData, StartsNote, EndsNote, Bends, Controls, PicksProgram, SetsNumber, StoresVoice, TakesVoice, TakesCartridge, IsInRange}
 use Rattle.command_set.specs.Entries.{LoggedData}
 use Rattle.command_set.specs.Text.{text, packed}
+use Rattle.command_set.proofs.WordBytes.{HasNo, codes_whole, decimal_whole, hex_whole, own}
 use Rattle.command_set.proofs.Words.{voice_bytes, cartridge_bytes, known_small}
 use Rattle.command_set.proofs.Reading.{unique}
 use Rattle.take_files.specs.Files.{entry_text, header_text, order_header, order_line}
 use Rattle.take_files.specs.Orders.{IsWritable, BeginsWith}
-
--- no byte of the word has this code
-abbrev pub HasNo : ℕ → List ℕ → Type 0
-HasNo code word = All (λ byte. (byte == code) ≡ false) word
 
 -- ---- texts and their cuts
 
@@ -67,16 +64,6 @@ prefix_same code a b xs ys ha hb e = same_split code a b xs ys (sym (split_first
 
 -- ---- bytes of words
 
-own : IsNumeralModel (λ ds. (i : ℕ) → i < length ds → IsWithin 48 57 (get_or ds i 0)) (digits_value 10)
-own = numerals_by_value (λ ds. (i : ℕ) → i < length ds → IsWithin 48 57 (get_or ds i 0)) tells_by_index
-
--- a number is digits
-pub decimal_whole : (code n : ℕ) → code < 48 → n < 2 ^ 32 → HasNo code (decimal n)
-decimal_whole code n low l =
-    let digits = digits_decimal own n (omega arith) in
-    All-from_get_or (λ byte. (byte == code) ≡ false) (decimal n) 0 (λ i below.
-    let digit : IsWithin 48 57 (get_or (decimal n) i 0) = digits i below in ne_eqb _ _ (λ e. absurd (omega (arith, digit.0))))
-
 pub decimal_same : (n m : ℕ) → n < 2 ^ 32 → m < 2 ^ 32 → decimal n ≡ decimal m → n ≡ m
 decimal_same n m ln lm e = sym (digits_value-decimal own n (omega arith)) ∙ ap (digits_value 10) e ∙ digits_value-decimal own m (omega arith)
 
@@ -85,29 +72,6 @@ pub number_same : (n m : ℕ) (xs ys : List ℕ) → n < 2 ^ 32 → m < 2 ^ 32 �
 number_same n m xs ys ln lm e =
     let h = prefix_same 32 (decimal n) (decimal m) xs ys (decimal_whole 32 n (omega arith) ln) (decimal_whole 32 m (omega arith) lm) e in
     (decimal_same n m ln lm h.0, h.1)
-
-no_digit_is_feed : every (λ k. not (get_or lower_digits k 0 == 10)) 16 ≡ true
-unfolding every
-no_digit_is_feed = refl
-
-not_true : (t : Bool) → not t ≡ true → t ≡ false
-not_true true e = absurd (cc)
-not_true false e = refl
-
-digit_whole : (k : ℕ) → k < 16 → (get_or lower_digits k 0 == 10) ≡ false
-digit_whole k l = not_true _ (every_at (λ k. not (get_or lower_digits k 0 == 10)) 16 no_digit_is_feed k l)
-
-hex_whole : (bytes : List ℕ) → IsBytes bytes → HasNo 10 (encode_lower bytes)
-unfolding encode_with
-hex_whole [] h = All-nil (λ byte. (byte == 10) ≡ false)
-hex_whole (byte ∷ bytes) h =
-    let fits : byte < 256 = h 0 in
-    All-cons (λ byte. (byte == 10) ≡ false) (get_or lower_digits (byte / 16) 0) (get_or lower_digits (byte % 16) 0 ∷ encode_lower bytes) (digit_whole (byte / 16) (omega arith))
-    (All-cons (λ byte. (byte == 10) ≡ false) (get_or lower_digits (byte % 16) 0) (encode_lower bytes) (digit_whole (byte % 16) (omega arith)) (hex_whole bytes (λ k. h (suc k))))
-
-codes_whole : (word : List ℕ) → every (λ k. not (get_or word k 0 == 10)) (length word) ≡ true → HasNo 10 word
-codes_whole word h =
-    All-from_get_or (λ byte. (byte == 10) ≡ false) word 0 (λ i below. not_true _ (every_at (λ k. not (get_or word k 0 == 10)) (length word) h i below))
 
 spaced_whole : (word : List ℕ) (more : List (List ℕ)) → HasNo 10 word → All (HasNo 10) more → HasNo 10 (spaced word more)
 spaced_whole word [] h hs = h
@@ -140,20 +104,20 @@ three_whole kind a b c hk la lb lc =
 text_whole : (command : CommandData) → IsInRange command → HasNo 10 (text command)
 unfolding text every
 text_whole (StartsNote channel key velocity) (a, b, low, high) =
-    three_whole (codes "on") channel key velocity (codes_whole (codes "on") refl) (omega arith) (omega arith) (omega arith)
-text_whole (EndsNote channel key) (a, b) = two_whole (codes "off") channel key (codes_whole (codes "off") refl) (omega arith) (omega arith)
-text_whole (Bends channel value) (a, b) = two_whole (codes "bend") channel value (codes_whole (codes "bend") refl) (omega arith) (omega arith)
+    three_whole (codes "on") channel key velocity (codes_whole 10 (codes "on") refl) (omega arith) (omega arith) (omega arith)
+text_whole (EndsNote channel key) (a, b) = two_whole (codes "off") channel key (codes_whole 10 (codes "off") refl) (omega arith) (omega arith)
+text_whole (Bends channel value) (a, b) = two_whole (codes "bend") channel value (codes_whole 10 (codes "bend") refl) (omega arith) (omega arith)
 text_whole (Controls channel number value) (a, known, b) =
-    three_whole (codes "control") channel number value (codes_whole (codes "control") refl) (omega arith) (omega (arith, known_small number known)) (omega arith)
+    three_whole (codes "control") channel number value (codes_whole 10 (codes "control") refl) (omega arith) (omega (arith, known_small number known)) (omega arith)
 text_whole (PicksProgram channel number) (a, b) =
-    two_whole (codes "program") channel number (codes_whole (codes "program") refl) (omega arith) (omega arith)
+    two_whole (codes "program") channel number (codes_whole 10 (codes "program") refl) (omega arith) (omega arith)
 text_whole (SetsNumber number value) (a, b) =
-    two_whole (codes "param") number value (codes_whole (codes "param") refl) (omega arith) (omega (arith, greatest_small number (omega arith)))
-text_whole (StoresVoice slot) a = one_whole (codes "store") (decimal slot) (codes_whole (codes "store") refl) (number_whole slot (omega arith))
-text_whole (TakesVoice voice) v = one_whole (codes "voice") (encode_lower voice) (codes_whole (codes "voice") refl) (hex_whole voice (voice_bytes voice v))
+    two_whole (codes "param") number value (codes_whole 10 (codes "param") refl) (omega arith) (omega (arith, greatest_small number (omega arith)))
+text_whole (StoresVoice slot) a = one_whole (codes "store") (decimal slot) (codes_whole 10 (codes "store") refl) (number_whole slot (omega arith))
+text_whole (TakesVoice voice) v = one_whole (codes "voice") (encode_lower voice) (codes_whole 10 (codes "voice") refl) (hex_whole 10 voice (omega arith) (voice_bytes voice v))
 text_whole (TakesCartridge voices) h =
-    one_whole (codes "cartridge") (encode_lower (flat_map packed voices)) (codes_whole (codes "cartridge") refl)
-    (hex_whole (flat_map packed voices) (cartridge_bytes voices h))
+    one_whole (codes "cartridge") (encode_lower (flat_map packed voices)) (codes_whole 10 (codes "cartridge") refl)
+    (hex_whole 10 (flat_map packed voices) (omega arith) (cartridge_bytes voices h))
 
 -- ---- the line of an entry
 
@@ -209,9 +173,9 @@ header_more blocks scripts more = append_assoc (header_text blocks scripts) (10 
 pub header_whole : (blocks scripts : ℕ) → blocks < 2 ^ 32 → scripts < 2 ^ 32 → HasNo 10 (header_text blocks scripts)
 unfolding header_text every
 header_whole blocks scripts lb ls =
-    All-append (λ byte. (byte == 10) ≡ false) (codes "order engine 1 blocks ") _ (codes_whole (codes "order engine 1 blocks ") refl)
+    All-append (λ byte. (byte == 10) ≡ false) (codes "order engine 1 blocks ") _ (codes_whole 10 (codes "order engine 1 blocks ") refl)
     (All-append (λ byte. (byte == 10) ≡ false) (decimal blocks) _ (number_whole blocks lb)
-    (All-append (λ byte. (byte == 10) ≡ false) (codes " scripts ") (decimal scripts) (codes_whole (codes " scripts ") refl) (number_whole scripts ls)))
+    (All-append (λ byte. (byte == 10) ≡ false) (codes " scripts ") (decimal scripts) (codes_whole 10 (codes " scripts ") refl) (number_whole scripts ls)))
 
 header_text_same : (a b c d : ℕ) → a < 2 ^ 32 → b < 2 ^ 32 → c < 2 ^ 32 → d < 2 ^ 32 → header_text a b ≡ header_text c d → (a ≡ c) × (b ≡ d)
 unfolding header_text
