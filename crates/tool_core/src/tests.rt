@@ -21,6 +21,15 @@ fn words_of(alloc: Global, words: &[&str]) -> Result<Vec<String>, AllocError> {
     Ok(all)
 }
 
+/// The words that single spaces separate.
+fn split_words(alloc: Global, words: &str) -> Result<Vec<String>, AllocError> {
+    let mut all = Vec::new(alloc);
+    for word in words.split(' ') {
+        all.push(String::from_str(alloc, word)?)?;
+    }
+    Ok(all)
+}
+
 /// The status of a command on a file `f`.
 fn status_on(
     alloc: Global,
@@ -517,12 +526,9 @@ fn a_shelf_may_take_one_byte_at_a_time(rt: HostRuntime) -> Result<(), Fail> {
         ("verify f w", b"same\n"),
         ("gen 0 1 1", b"scripts 1 commands 1\n"),
     ] {
-        let mut all = Vec::new(alloc);
-        for word in words.split(' ') {
-            all.push(String::from_str(alloc, word)?)?;
-        }
+        let words = split_words(alloc, words)?;
         let mut out = MemOut::new(alloc, &[])?;
-        assert_eq!(rt; tool_main(alloc, &all, &mut slow, &mut out), 0);
+        assert_eq!(rt; tool_main(alloc, &words, &mut slow, &mut out), 0);
         assert_eq!(rt; out.bytes(), printed);
     }
     assert_eq!(rt; slow.inner.file("w"), Some(whole.as_slice()));

@@ -2,7 +2,7 @@
 
 ghost use Rattle.std.specs.Prelude.{◌≤◌};
 
-use super::words_of;
+use super::{split_words, words_of};
 use crate::tool_main;
 use cartridge::Cartridge;
 use outside::{MemOut, MemShelf};
@@ -84,8 +84,113 @@ fn a_librarian_keeps_voices(rt: HostRuntime) -> Result<(), Fail> {
     Ok(())
 }
 
+/// What stands in the file that is written.
+#[derive(Clone, Copy)]
+enum Written {
+    Nothing,
+    Empty,
+    Voice,
+    Packed,
+}
+
 /// A call that is not made.
 const NONE: u64 = 99;
+
+/// The shelf's call and the put that fail; the status, what is printed, and what stands in `w` after it. Of a voice there are two
+/// reads, of a cartridge three; then come the create and the append.
+const ROWS: [(&str, u64, u64, u8, &[u8], Written); 21] = [
+    (
+        "check v",
+        NONE,
+        NONE,
+        0,
+        b"voice DNIT VOICE\nmessages 1\n",
+        Written::Nothing,
+    ),
+    ("check v", 0, NONE, 2, b"cannot read v\n", Written::Nothing),
+    ("check v", 1, NONE, 2, b"cannot read v\n", Written::Nothing),
+    ("check v", NONE, 0, 3, b"", Written::Nothing),
+    ("list c", 0, NONE, 2, b"cannot read c\n", Written::Nothing),
+    ("list c", 2, NONE, 2, b"cannot read c\n", Written::Nothing),
+    ("list c", NONE, 0, 3, b"", Written::Nothing),
+    ("pick c 3 w", NONE, NONE, 0, b"ok\n", Written::Voice),
+    (
+        "pick c 3 w",
+        0,
+        NONE,
+        2,
+        b"cannot read c\n",
+        Written::Nothing,
+    ),
+    (
+        "pick c 3 w",
+        2,
+        NONE,
+        2,
+        b"cannot read c\n",
+        Written::Nothing,
+    ),
+    (
+        "pick c 3 w",
+        3,
+        NONE,
+        3,
+        b"cannot write w\n",
+        Written::Nothing,
+    ),
+    (
+        "pick c 3 w",
+        4,
+        NONE,
+        3,
+        b"cannot write w\n",
+        Written::Empty,
+    ),
+    ("pick c 3 w", NONE, 0, 3, b"", Written::Voice),
+    ("pack w v v", NONE, NONE, 0, b"ok\n", Written::Packed),
+    (
+        "pack w v v",
+        0,
+        NONE,
+        2,
+        b"cannot read v\n",
+        Written::Nothing,
+    ),
+    (
+        "pack w v v",
+        3,
+        NONE,
+        2,
+        b"cannot read v\n",
+        Written::Nothing,
+    ),
+    (
+        "pack w v v",
+        4,
+        NONE,
+        3,
+        b"cannot write w\n",
+        Written::Nothing,
+    ),
+    (
+        "pack w v v",
+        5,
+        NONE,
+        3,
+        b"cannot write w\n",
+        Written::Empty,
+    ),
+    ("pack w v v", NONE, 0, 3, b"", Written::Packed),
+    (
+        "pack w x v",
+        NONE,
+        NONE,
+        2,
+        b"cannot read x\n",
+        Written::Nothing,
+    ),
+    ("pack w c x", NONE, NONE, 4, b"no voice\n", Written::Nothing),
+];
 
 #[test]
 fn librarian_meets(rt: HostRuntime) -> Result<(), Fail> {
@@ -93,59 +198,21 @@ fn librarian_meets(rt: HostRuntime) -> Result<(), Fail> {
     let voice = voice_message(3);
     let cartridge = cartridge_message(alloc, 3, 3, 5)?;
     let packed = cartridge_message(alloc, 0, 1, 0)?;
-    let checked = b"voice DNIT VOICE\nmessages 1\n";
-    let unread_c = b"cannot read c\n";
-    let unread_v = b"cannot read v\n";
-    let unwritten = b"cannot write w\n";
-    let whole = Some(packed.as_slice());
-    // The shelf's call and the put that fail; the status, what is printed, and what stands in `w` after it. Of a voice there are
-    // two reads, of a cartridge three; then come the create and the append.
-    let rows: [(&[&str], u64, u64, u8, &[u8], Option<&[u8]>); 21] = [
-        (&["check", "v"], NONE, NONE, 0, checked, None),
-        (&["check", "v"], 0, NONE, 2, unread_v, None),
-        (&["check", "v"], 1, NONE, 2, unread_v, None),
-        (&["check", "v"], NONE, 0, 3, b"", None),
-        (&["list", "c"], 0, NONE, 2, unread_c, None),
-        (&["list", "c"], 2, NONE, 2, unread_c, None),
-        (&["list", "c"], NONE, 0, 3, b"", None),
-        (
-            &["pick", "c", "3", "w"],
-            NONE,
-            NONE,
-            0,
-            b"ok\n",
-            Some(&voice),
-        ),
-        (&["pick", "c", "3", "w"], 0, NONE, 2, unread_c, None),
-        (&["pick", "c", "3", "w"], 2, NONE, 2, unread_c, None),
-        (&["pick", "c", "3", "w"], 3, NONE, 3, unwritten, None),
-        (&["pick", "c", "3", "w"], 4, NONE, 3, unwritten, Some(b"")),
-        (&["pick", "c", "3", "w"], NONE, 0, 3, b"", Some(&voice)),
-        (&["pack", "w", "v", "v"], NONE, NONE, 0, b"ok\n", whole),
-        (&["pack", "w", "v", "v"], 0, NONE, 2, unread_v, None),
-        (&["pack", "w", "v", "v"], 3, NONE, 2, unread_v, None),
-        (&["pack", "w", "v", "v"], 4, NONE, 3, unwritten, None),
-        (&["pack", "w", "v", "v"], 5, NONE, 3, unwritten, Some(b"")),
-        (&["pack", "w", "v", "v"], NONE, 0, 3, b"", whole),
-        (
-            &["pack", "w", "x", "v"],
-            NONE,
-            NONE,
-            2,
-            b"cannot read x\n",
-            None,
-        ),
-        (&["pack", "w", "c", "x"], NONE, NONE, 4, b"no voice\n", None),
-    ];
-    for (words, fail, silent, status, printed, written) in rows {
-        let words = words_of(alloc, words)?;
+    for (words, fail, silent, status, printed, written) in ROWS {
+        let words = split_words(alloc, words)?;
         let mut shelf = MemShelf::new(alloc, &[fail])?;
         shelf.put_file(alloc, "c", &cartridge)?;
         shelf.put_file(alloc, "v", &voice)?;
         let mut out = MemOut::new(alloc, &[silent])?;
         assert_eq!(rt; tool_main(alloc, &words, &mut shelf, &mut out), status);
         assert_eq!(rt; out.bytes(), printed);
-        assert_eq!(rt; shelf.file("w"), written);
+        let whole: Option<&[u8]> = match written {
+            Written::Nothing => None,
+            Written::Empty => Some(b""),
+            Written::Voice => Some(&voice),
+            Written::Packed => Some(packed.as_slice()),
+        };
+        assert_eq!(rt; shelf.file("w"), whole);
         assert_eq!(rt; shelf.file("c"), Some(cartridge.as_slice()));
         assert_eq!(rt; shelf.file("v"), Some(voice.as_slice()));
     }
