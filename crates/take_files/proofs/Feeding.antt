@@ -14,7 +14,8 @@ use Rattle.take_files.specs.declared.read.OrderKind.{OrderKind}
 use Rattle.take_files.specs.declared.read.OrderKind.TheVariants.{Line, Block, Script, Sequence, Many}
 use Rattle.take_files.proofs.Laws.{lines, order_more, writable}
 use Rattle.take_files.proofs.Lengths.{entry_short, header_short}
-use Rattle.take_files.proofs.Lines.{HasNo, cut_text, entry_whole, header_begins, header_more, header_whole, line_begins, line_more}
+use Rattle.command_set.proofs.WordBytes.{HasNo}
+use Rattle.take_files.proofs.Lines.{cut_text, entry_whole, header_begins, header_more, header_whole, line_begins, line_more}
 
 -- ---- line feeds
 

@@ -10,7 +10,8 @@ use Rattle.command_set.specs.Text.{text}
 use Rattle.take_files.specs.Files.{entry_text, header_text}
 use Rattle.take_files.specs.Orders.{IsWritable}
 use Rattle.take_files.specs.Reading.{IsHeader, numbered}
-use Rattle.take_files.proofs.Lines.{cut_none, cut_only, cut_text, decimal_whole, number_same}
+use Rattle.command_set.proofs.WordBytes.{decimal_whole}
+use Rattle.take_files.proofs.Lines.{cut_none, cut_only, cut_text, number_same}
 
 -- ---- a prefix that is stripped
 
