@@ -4,6 +4,7 @@ ghost use Rattle.algorithm_bus.specs.Buses.{HaveGains};
 
 use crate::audible::has_audible_carrier;
 use crate::bus::{feed_back, run_note};
+use crate::eight::run_eight_notes;
 use crate::four::run_four_notes;
 use dx_tables::Tables;
 use operator_kernel::OpBlock;
@@ -124,6 +125,86 @@ impl NoteBlock {
             out1,
             out2,
             out3,
+        );
+    }
+
+    /// The same as `run` for eight notes of one algorithm and feedback, whose operators with feedback run side by side.
+    pub fn run_eight(
+        tables: &Tables,
+        first: &mut NoteBlock,
+        second: &mut NoteBlock,
+        third: &mut NoteBlock,
+        fourth: &mut NoteBlock,
+        fifth: &mut NoteBlock,
+        sixth: &mut NoteBlock,
+        seventh: &mut NoteBlock,
+        eighth: &mut NoteBlock,
+        out0: &mut [i32; 64],
+        out1: &mut [i32; 64],
+        out2: &mut [i32; 64],
+        out3: &mut [i32; 64],
+        out4: &mut [i32; 64],
+        out5: &mut [i32; 64],
+        out6: &mut [i32; 64],
+        out7: &mut [i32; 64],
+    )
+        requires low_algorithm { (second.old.algorithm ≡ first.old.algorithm) × (third.old.algorithm ≡ first.old.algorithm) × (fourth.old.algorithm ≡ first.old.algorithm) }
+        requires high_algorithm { (fifth.old.algorithm ≡ first.old.algorithm) × (sixth.old.algorithm ≡ first.old.algorithm) × (seventh.old.algorithm ≡ first.old.algorithm) × (eighth.old.algorithm ≡ first.old.algorithm) }
+        requires low_feedback { (second.old.feedback ≡ first.old.feedback) × (third.old.feedback ≡ first.old.feedback) × (fourth.old.feedback ≡ first.old.feedback) }
+        requires high_feedback { (fifth.old.feedback ≡ first.old.feedback) × (sixth.old.feedback ≡ first.old.feedback) × (seventh.old.feedback ≡ first.old.feedback) × (eighth.old.feedback ≡ first.old.feedback) }
+        ensures out0 { IsBus (note_output (block_patch first.old)) out0.new }
+        ensures out1 { IsBus (note_output (block_patch second.old)) out1.new }
+        ensures out2 { IsBus (note_output (block_patch third.old)) out2.new }
+        ensures out3 { IsBus (note_output (block_patch fourth.old)) out3.new }
+        ensures out4 { IsBus (note_output (block_patch fifth.old)) out4.new }
+        ensures out5 { IsBus (note_output (block_patch sixth.old)) out5.new }
+        ensures out6 { IsBus (note_output (block_patch seventh.old)) out6.new }
+        ensures out7 { IsBus (note_output (block_patch eighth.old)) out7.new }
+        ensures memory0 { feedback_state_of first.new.feedback_state ≡ feedback_state_left (block_patch first.old) }
+        ensures memory1 { feedback_state_of second.new.feedback_state ≡ feedback_state_left (block_patch second.old) }
+        ensures memory2 { feedback_state_of third.new.feedback_state ≡ feedback_state_left (block_patch third.old) }
+        ensures memory3 { feedback_state_of fourth.new.feedback_state ≡ feedback_state_left (block_patch fourth.old) }
+        ensures memory4 { feedback_state_of fifth.new.feedback_state ≡ feedback_state_left (block_patch fifth.old) }
+        ensures memory5 { feedback_state_of sixth.new.feedback_state ≡ feedback_state_left (block_patch sixth.old) }
+        ensures memory6 { feedback_state_of seventh.new.feedback_state ≡ feedback_state_left (block_patch seventh.old) }
+        ensures memory7 { feedback_state_of eighth.new.feedback_state ≡ feedback_state_left (block_patch eighth.old) }
+    {
+        let ops0 = first.ops;
+        let ops1 = second.ops;
+        let ops2 = third.ops;
+        let ops3 = fourth.ops;
+        let ops4 = fifth.ops;
+        let ops5 = sixth.ops;
+        let ops6 = seventh.ops;
+        let ops7 = eighth.ops;
+        run_eight_notes(
+            tables,
+            first.algorithm,
+            first.feedback,
+            &ops0,
+            &ops1,
+            &ops2,
+            &ops3,
+            &ops4,
+            &ops5,
+            &ops6,
+            &ops7,
+            &mut first.feedback_state,
+            &mut second.feedback_state,
+            &mut third.feedback_state,
+            &mut fourth.feedback_state,
+            &mut fifth.feedback_state,
+            &mut sixth.feedback_state,
+            &mut seventh.feedback_state,
+            &mut eighth.feedback_state,
+            out0,
+            out1,
+            out2,
+            out3,
+            out4,
+            out5,
+            out6,
+            out7,
         );
     }
 }

@@ -84,6 +84,9 @@ done_stays done i x len lt t =
       | inr ne ↦ other done i x ne ∙ t
     ]
 
+pub marks_long : (done : List Bool) (i : ℕ) → length done ≡ 16 → length (set done i true) ≡ 16
+marks_long done i e = simp length-set e
+
 pub marked_next : (done : List Bool) (bs new : List NoteBlock) (i : ℕ) (b : NoteBlock) → AreMarked done bs new → i < 16 → ((e : NoteBlock) → feedback_state_of b.feedback_state ≡ feedback_state_left (block_patch (get_or bs i e))) → AreMarked (set done i true) bs (set new i b)
 marked_next done bs new i b m lt h = record {
   done_len = simp length-set m.done_len;
@@ -124,6 +127,12 @@ four_same a b c d a' b' c' d' p q r s = rw (p, q, r, s)
 
 pub four_more : (s0 s1 s2 s3 s4 a b c d : ℤ) → s1 ≡ s0 +ℤ a → s2 ≡ s1 +ℤ b → s3 ≡ s2 +ℤ c → s4 ≡ s3 +ℤ d → s4 ≡ s0 +ℤ (a +ℤ b +ℤ c +ℤ d)
 four_more s0 s1 s2 s3 s4 a b c d p q r s = omega (arith, ints)
+
+pub eight_same : (a0 a1 a2 a3 a4 a5 a6 a7 b0 b1 b2 b3 b4 b5 b6 b7 : ℤ) → a0 ≡ b0 → a1 ≡ b1 → a2 ≡ b2 → a3 ≡ b3 → a4 ≡ b4 → a5 ≡ b5 → a6 ≡ b6 → a7 ≡ b7 → (a0 +ℤ a1 +ℤ a2 +ℤ a3) +ℤ (a4 +ℤ a5 +ℤ a6 +ℤ a7) ≡ (b0 +ℤ b1 +ℤ b2 +ℤ b3) +ℤ (b4 +ℤ b5 +ℤ b6 +ℤ b7)
+eight_same a0 a1 a2 a3 a4 a5 a6 a7 b0 b1 b2 b3 b4 b5 b6 b7 p0 p1 p2 p3 p4 p5 p6 p7 = rw (p0, p1, p2, p3, p4, p5, p6, p7)
+
+pub eight_more : (s0 s1 s2 s3 s4 s5 s6 s7 s8 a0 a1 a2 a3 a4 a5 a6 a7 : ℤ) → s1 ≡ s0 +ℤ a0 → s2 ≡ s1 +ℤ a1 → s3 ≡ s2 +ℤ a2 → s4 ≡ s3 +ℤ a3 → s5 ≡ s4 +ℤ a4 → s6 ≡ s5 +ℤ a5 → s7 ≡ s6 +ℤ a6 → s8 ≡ s7 +ℤ a7 → s8 ≡ s0 +ℤ ((a0 +ℤ a1 +ℤ a2 +ℤ a3) +ℤ (a4 +ℤ a5 +ℤ a6 +ℤ a7))
+eight_more s0 s1 s2 s3 s4 s5 s6 s7 s8 a0 a1 a2 a3 a4 a5 a6 a7 p0 p1 p2 p3 p4 p5 p6 p7 = omega (arith, ints)
 
 -- before any was run
 pub run_none : (done : List Bool) (bs : List NoteBlock) (mix : List ℤ) → length done ≡ 16 → length bs ≡ 16 → length mix ≡ 64 → ((i : ℕ) → is_done done i ≡ false) → AreRun done bs bs mix mix

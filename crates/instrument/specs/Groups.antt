@@ -64,3 +64,35 @@ pub record IsGroup (blocks : List NoteBlock) (done : List Bool) (i a b c : ℕ) 
   pub feedback_a : (d e : NoteBlock) → (slice_index_or blocks a d).feedback ≡ (slice_index_or blocks i e).feedback
   pub feedback_b : (d e : NoteBlock) → (slice_index_or blocks b d).feedback ≡ (slice_index_or blocks i e).feedback
   pub feedback_c : (d e : NoteBlock) → (slice_index_or blocks c d).feedback ≡ (slice_index_or blocks i e).feedback
+
+-- seven slots after a slot that may be run with it
+pub record IsGroupOfEight (blocks : List NoteBlock) (done : List Bool) (i a b c d e f g : ℕ) : Type 0 where
+  pub first : i < a
+  pub second : a < b
+  pub third : b < c
+  pub fourth : c < d
+  pub fifth : d < e
+  pub sixth : e < f
+  pub seventh : f < g
+  pub last : g < 16
+  pub left_a : is_done done a ≡ false
+  pub left_b : is_done done b ≡ false
+  pub left_c : is_done done c ≡ false
+  pub left_d : is_done done d ≡ false
+  pub left_e : is_done done e ≡ false
+  pub left_f : is_done done f ≡ false
+  pub left_g : is_done done g ≡ false
+  pub algorithm_a : (n m : NoteBlock) → (slice_index_or blocks a n).algorithm ≡ (slice_index_or blocks i m).algorithm
+  pub algorithm_b : (n m : NoteBlock) → (slice_index_or blocks b n).algorithm ≡ (slice_index_or blocks i m).algorithm
+  pub algorithm_c : (n m : NoteBlock) → (slice_index_or blocks c n).algorithm ≡ (slice_index_or blocks i m).algorithm
+  pub algorithm_d : (n m : NoteBlock) → (slice_index_or blocks d n).algorithm ≡ (slice_index_or blocks i m).algorithm
+  pub algorithm_e : (n m : NoteBlock) → (slice_index_or blocks e n).algorithm ≡ (slice_index_or blocks i m).algorithm
+  pub algorithm_f : (n m : NoteBlock) → (slice_index_or blocks f n).algorithm ≡ (slice_index_or blocks i m).algorithm
+  pub algorithm_g : (n m : NoteBlock) → (slice_index_or blocks g n).algorithm ≡ (slice_index_or blocks i m).algorithm
+  pub feedback_a : (n m : NoteBlock) → (slice_index_or blocks a n).feedback ≡ (slice_index_or blocks i m).feedback
+  pub feedback_b : (n m : NoteBlock) → (slice_index_or blocks b n).feedback ≡ (slice_index_or blocks i m).feedback
+  pub feedback_c : (n m : NoteBlock) → (slice_index_or blocks c n).feedback ≡ (slice_index_or blocks i m).feedback
+  pub feedback_d : (n m : NoteBlock) → (slice_index_or blocks d n).feedback ≡ (slice_index_or blocks i m).feedback
+  pub feedback_e : (n m : NoteBlock) → (slice_index_or blocks e n).feedback ≡ (slice_index_or blocks i m).feedback
+  pub feedback_f : (n m : NoteBlock) → (slice_index_or blocks f n).feedback ≡ (slice_index_or blocks i m).feedback
+  pub feedback_g : (n m : NoteBlock) → (slice_index_or blocks g n).feedback ≡ (slice_index_or blocks i m).feedback

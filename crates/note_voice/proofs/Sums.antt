@@ -48,6 +48,13 @@ four_added y0 y1 y2 y3 b0 b1 b2 b3 m0 m1 m2 m3 m4 p q r s a b c d = record {
   sample = λ j lt. four_sums _ _ _ _ _ _ _ _ _ _ _ _ _ (a.sample j lt) (b.sample j lt) (c.sample j lt) (d.sample j lt) (p.sample j lt) (q.sample j lt) (r.sample j lt) (s.sample j lt);
 }
 
+-- eight notes after one another
+sums_joined : (m0 m4 m8 a b : ℤ) → m4 ≡ m0 +ℤ a → m8 ≡ m4 +ℤ b → m8 ≡ m0 +ℤ (a +ℤ b)
+sums_joined m0 m4 m8 a b e f = omega (arith, ints)
+
+pub IsAdded-joined : (y z : ℕ → ℤ) (a b c : List ℤ) → IsAdded y a b → IsAdded z b c → IsAdded (λ j. y j +ℤ z j) a c
+IsAdded-joined y z a b c m n = record { len = n.len; sample = λ j lt. sums_joined _ _ _ _ _ (m.sample j lt) (n.sample j lt) }
+
 -- a bound that is no less
 pub IsSmall-more : (a b : ℕ) (xs : List ℤ) → a ≤ b → IsSmall a xs → IsSmall b xs
 IsSmall-more a b xs le s = λ j lt. let h : unsigned_abs (get_or xs j (pos 0)) ≤ a = s j lt in omega arith

@@ -13,7 +13,7 @@ mod sounding;
 
 pub use note::Note;
 pub use opening::opening_is_plain;
-pub use sound::{sound_alone, sound_four};
+pub use sound::{sound_alone, sound_eight, sound_four};
 
 #[cfg(test)]
 mod plain;

@@ -66,3 +66,54 @@ pub fn sound_four(
     add(&out2, mix);
     add(&out3, mix);
 }
+
+/// The same for eight notes.
+pub fn sound_eight(
+    tables: &Tables,
+    first: &mut NoteBlock,
+    second: &mut NoteBlock,
+    third: &mut NoteBlock,
+    fourth: &mut NoteBlock,
+    fifth: &mut NoteBlock,
+    sixth: &mut NoteBlock,
+    seventh: &mut NoteBlock,
+    eighth: &mut NoteBlock,
+    mix: &mut [i64; 64],
+)
+    requires low_algorithm { (second.old.algorithm ≡ first.old.algorithm) × (third.old.algorithm ≡ first.old.algorithm) × (fourth.old.algorithm ≡ first.old.algorithm) }
+    requires high_algorithm { (fifth.old.algorithm ≡ first.old.algorithm) × (sixth.old.algorithm ≡ first.old.algorithm) × (seventh.old.algorithm ≡ first.old.algorithm) × (eighth.old.algorithm ≡ first.old.algorithm) }
+    requires low_feedback { (second.old.feedback ≡ first.old.feedback) × (third.old.feedback ≡ first.old.feedback) × (fourth.old.feedback ≡ first.old.feedback) }
+    requires high_feedback { (fifth.old.feedback ≡ first.old.feedback) × (sixth.old.feedback ≡ first.old.feedback) × (seventh.old.feedback ≡ first.old.feedback) × (eighth.old.feedback ≡ first.old.feedback) }
+    requires mix { IsSmall (2 ^ 39) mix.old }
+    ensures samples { IsAdded (λ j. (note_output (block_patch first.old) j +ℤ note_output (block_patch second.old) j +ℤ note_output (block_patch third.old) j +ℤ note_output (block_patch fourth.old) j) +ℤ (note_output (block_patch fifth.old) j +ℤ note_output (block_patch sixth.old) j +ℤ note_output (block_patch seventh.old) j +ℤ note_output (block_patch eighth.old) j)) mix.old mix.new }
+    ensures small { (bound : ℕ) → IsSmall bound mix.old → IsSmall (bound + 8 * 2 ^ 31) mix.new }
+    ensures memory0 { feedback_state_of first.new.feedback_state ≡ feedback_state_left (block_patch first.old) }
+    ensures memory1 { feedback_state_of second.new.feedback_state ≡ feedback_state_left (block_patch second.old) }
+    ensures memory2 { feedback_state_of third.new.feedback_state ≡ feedback_state_left (block_patch third.old) }
+    ensures memory3 { feedback_state_of fourth.new.feedback_state ≡ feedback_state_left (block_patch fourth.old) }
+    ensures memory4 { feedback_state_of fifth.new.feedback_state ≡ feedback_state_left (block_patch fifth.old) }
+    ensures memory5 { feedback_state_of sixth.new.feedback_state ≡ feedback_state_left (block_patch sixth.old) }
+    ensures memory6 { feedback_state_of seventh.new.feedback_state ≡ feedback_state_left (block_patch seventh.old) }
+    ensures memory7 { feedback_state_of eighth.new.feedback_state ≡ feedback_state_left (block_patch eighth.old) }
+{
+    let mut out0 = room();
+    let mut out1 = room();
+    let mut out2 = room();
+    let mut out3 = room();
+    let mut out4 = room();
+    let mut out5 = room();
+    let mut out6 = room();
+    let mut out7 = room();
+    NoteBlock::run_eight(
+        tables, first, second, third, fourth, fifth, sixth, seventh, eighth, &mut out0, &mut out1,
+        &mut out2, &mut out3, &mut out4, &mut out5, &mut out6, &mut out7,
+    );
+    add(&out0, mix);
+    add(&out1, mix);
+    add(&out2, mix);
+    add(&out3, mix);
+    add(&out4, mix);
+    add(&out5, mix);
+    add(&out6, mix);
+    add(&out7, mix);
+}

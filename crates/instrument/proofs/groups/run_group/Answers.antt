@@ -57,3 +57,6 @@ returns-clause-run c = λ bs from r.
           (done_sum (set (set done i true) a true) b y j m2.done_len lb f2)
           (done_sum (set (set (set done i true) a true) b true) k y j m3.done_len lk f3));
     }
+
+pub returns-clause-small : goal.returns-clause-small
+returns-clause-small c = λ bound s. IsSmall-more _ _ _ (omega arith) (c.sound_four.ensures.small bound s)

@@ -1,0 +1,152 @@
+//! Four operators that sound and hear themselves, side by side: each is a lane of the vectors.
+ghost use Rattle.std.specs.Prelude.{ℕ, [], ◌∷◌, ◌≡◌, ◌+◌, ◌*◌, ◌^◌, ◌<◌, ◌≤◌, pos, ◌*ℤ◌, ◌+ℤ◌, unsigned_abs};
+ghost use Rattle.dx_tables.specs.Numbers.{wrap};
+ghost use Rattle.dx_tables.specs.Sine.{sine, sine_pair};
+ghost use Rattle.dx_tables.specs.Table.{IsTable};
+ghost use Rattle.operator_kernel.specs.Operator.{HasGains, feedback_of, phase_at, feedback_state_of};
+ghost use Rattle.operator_kernel.specs.Quartets.{Four, four_of, AreLive, AreAt, AreBounded, fed_samples, paired_gains};
+
+use crate::OpBlock;
+use crate::four::{first_phases, next_phases};
+use crate::lanes::{four_products, four_sines, place, rest};
+use crate::operator::{gain, growth};
+use std::simd::prelude::*;
+
+/// The phases of four operators without feedback, their gains, of the first two and of the last two, each in a lane that is multiplied
+/// and in the lane after it, and their last two samples.
+#[derive(Clone, Copy)]
+pub(crate) struct Quartet {
+    phases: i32x4,
+    low: i32x4,
+    high: i32x4,
+    pub(crate) before_last: i32x4,
+    pub(crate) last: i32x4,
+}
+
+/// The gains of two operators at their first sample, each twice.
+#[inline(always)]
+fn first_gains(op1: &OpBlock, op2: &OpBlock) -> i32x4
+    requires gains { HasGains op1.now × HasGains op2.now }
+    ensures { result ≡ paired_gains op1.now op2.now 0 }
+{
+    let g1 = gain(op1, 0);
+    let g2 = gain(op2, 0);
+    i32x4::from_array([g1, g1, g2, g2])
+}
+
+/// The same one sample later.
+#[inline(always)]
+fn later_gains(op1: &OpBlock, op2: &OpBlock, gains: i32x4) -> i32x4
+    requires gains { HasGains op1.now × HasGains op2.now }
+    ensures { (j : ℕ) → j < 64 → gains ≡ paired_gains op1.now op2.now j → result ≡ paired_gains op1.now op2.now (j + 1) }
+{
+    let d1 = growth(op1);
+    let d2 = growth(op2);
+    gains + i32x4::from_array([d1, d1, d2, d2])
+}
+
+/// What an operator that modulates itself has as its input, where its feedback isn't 0 and its last samples are small.
+#[inline(always)]
+fn fed_back(feedback: u8, before_last: i32, last: i32) -> i32
+    requires feedback { (1 ≤ feedback) × (feedback ≤ 7) }
+    requires small { (unsigned_abs before_last ≤ 2 ^ 29) × (unsigned_abs last ≤ 2 ^ 29) }
+    ensures { result ≡ feedback_of feedback (record { before_last = before_last; last = last }) }
+{
+    (before_last + last) >> (9 - feedback)
+}
+
+/// A phase with the feedback.
+#[inline(always)]
+fn fed_phase(phase: i32, feedback: u8, before_last: i32, last: i32) -> i32
+    requires feedback { (1 ≤ feedback) × (feedback ≤ 7) }
+    requires small { (unsigned_abs before_last ≤ 2 ^ 29) × (unsigned_abs last ≤ 2 ^ 29) }
+    ensures { result ≡ wrap (phase +ℤ feedback_of feedback (record { before_last = before_last; last = last })) }
+{
+    phase.wrapping_add(fed_back(feedback, before_last, last))
+}
+
+/// The sines of four phases.
+#[inline(always)]
+fn sines_of(pairs: &[i32x2], p0: i32, p1: i32, p2: i32, p3: i32) -> i32x4
+    requires table { IsTable [] sine_pair 1024 pairs.now }
+    ensures { result ≡ sine p0 ∷ sine p1 ∷ sine p2 ∷ sine p3 ∷ [] }
+{
+    four_sines(
+        pairs,
+        place(p0),
+        place(p1),
+        place(p2),
+        place(p3),
+        rest(p0),
+        rest(p1),
+        rest(p2),
+        rest(p3),
+    )
+}
+
+/// The next sample of each of four operators.
+#[inline(always)]
+pub(crate) fn samples(pairs: &[i32x2], feedback: u8, at: Quartet) -> i32x4
+    requires table { IsTable [] sine_pair 1024 pairs.now }
+    requires feedback { (1 ≤ feedback) × (feedback ≤ 7) }
+    requires bounded { AreBounded at }
+    ensures { (v : Four) (j : ℕ) → j < 64 → v.feedback ≡ feedback → AreLive v → AreAt v j at → result ≡ fed_samples v j }
+{
+    let [p0, p1, p2, p3] = at.phases.to_array();
+    let [x0, x1, x2, x3] = at.before_last.to_array();
+    let [y0, y1, y2, y3] = at.last.to_array();
+    let sines = sines_of(
+        pairs,
+        fed_phase(p0, feedback, x0, y0),
+        fed_phase(p1, feedback, x1, y1),
+        fed_phase(p2, feedback, x2, y2),
+        fed_phase(p3, feedback, x3, y3),
+    );
+    four_products(sines, at.low, at.high)
+}
+
+/// The vectors of four operators at their first sample.
+#[inline(always)]
+pub(crate) fn begin(
+    op0: &OpBlock,
+    op1: &OpBlock,
+    op2: &OpBlock,
+    op3: &OpBlock,
+    m0: &[i32; 2],
+    m1: &[i32; 2],
+    m2: &[i32; 2],
+    m3: &[i32; 2],
+) -> Quartet
+    requires gains { HasGains op0.now × HasGains op1.now × HasGains op2.now × HasGains op3.now }
+    ensures { (f : ℕ) → AreAt (four_of f op0.now op1.now op2.now op3.now m0.now m1.now m2.now m3.now) 0 result }
+{
+    Quartet {
+        phases: first_phases(op0, op1, op2, op3),
+        low: first_gains(op0, op1),
+        high: first_gains(op2, op3),
+        before_last: i32x4::from_array([m0[0], m1[0], m2[0], m3[0]]),
+        last: i32x4::from_array([m0[1], m1[1], m2[1], m3[1]]),
+    }
+}
+
+/// The same one sample later, where these are the samples.
+#[inline(always)]
+pub(crate) fn later(
+    op0: &OpBlock,
+    op1: &OpBlock,
+    op2: &OpBlock,
+    op3: &OpBlock,
+    at: Quartet,
+    y: i32x4,
+) -> Quartet
+    requires gains { HasGains op0.now × HasGains op1.now × HasGains op2.now × HasGains op3.now }
+    ensures { (v : Four) (j : ℕ) → j < 64 → (v.op0 ≡ op0.now) × (v.op1 ≡ op1.now) × (v.op2 ≡ op2.now) × (v.op3 ≡ op3.now) → AreLive v → AreAt v j at → y ≡ fed_samples v j → AreAt v (j + 1) result }
+{
+    Quartet {
+        phases: next_phases(op0, op1, op2, op3, at.phases),
+        low: later_gains(op0, op1, at.low),
+        high: later_gains(op2, op3, at.high),
+        before_last: at.last,
+        last: y,
+    }
+}
