@@ -1,8 +1,9 @@
 -- A silent operator's samples don't depend on what it hears; so what reaches the output through silent operators alone may be left out.
-use Rattle.std.proofs.Common.{ℕ, zero, suc, ℤ, pos, ◌+ℤ◌, Bool, true, false, cond, refl, List, [], ◌∷◌, length, get_or, set, ◌+◌, ◌-◌, ◌<◌, ◌≤◌, ◌≢◌, ◌≡◌, ◌∙◌, ◌⊎◌, inl, inr, ap, sym, subst, arith, Option, Some, None, below_more, get_or-set_other, get_or-set_same, length-set, eqb, w32}
+use Rattle.std.proofs.Common.{ℕ, zero, suc, ℤ, pos, ◌+ℤ◌, Bool, true, false, cond, refl, List, [], ◌∷◌, length, get_or, set, ◌+◌, ◌-◌, ◌<◌, ◌≤◌, ◌≢◌, ◌≡◌, ◌∙◌, ◌⊎◌, inl, inr, ap, sym, subst, arith, Option, Some, None, get_or-set_other, get_or-set_same, length-set, eqb, w32}
 use Rattle.std.proofs.lemmas.Bool.{cases_lt, eq-eqb}
 use Rattle.std.proofs.lemmas.Int.{int_wrap_fits}
 use Rattle.dx_tables.specs.Numbers.{wrap}
+use Rattle.dx_tables.proofs.Loops.{set_more}
 use Rattle.operator_kernel.specs.declared.OpBlock.{OpBlock}
 use Rattle.operator_kernel.specs.Operator.{HasGains, silent, sample_at, feedback_sample}
 use Rattle.algorithm_bus.specs.Algorithms.{modulates, is_carrier, feedback_operator}
@@ -169,9 +170,8 @@ muted_none ops few kept = record { each = λ k lt. absurd (omega (arith, lt)) }
 
 pub muted_next : (n : ℕ) (ops few : List OpBlock) (kept : List Bool) (op : OpBlock) → length few ≡ 6 → n < 6 → AreMutedUpTo n ops few kept → op ≡ if_kept (get_or kept n false) (get_or ops n no_operator) → AreMutedUpTo (n + 1) ops (set few n op) kept
 muted_next n ops few kept op len lt m h = record {
-  each = below_more (λ k. get_or (set few n op) k no_operator ≡ if_kept (get_or kept k false) (get_or ops k no_operator)) n
-      (λ k l. let ne : k ≢ n = omega arith in rw get_or-set_other (m.each k l))
-      (let l : n < length few = rw len lt in rw get_or-set_same h);
+  each = let l : n < length few = rw len lt in
+      set_more (λ k o. o ≡ if_kept (get_or kept k false) (get_or ops k no_operator)) few n op no_operator l m.each h;
 }
 
 -- all six of them make the same output
@@ -217,9 +217,7 @@ gains_none ops = record { each = λ k d lt. absurd (omega (arith, lt)) }
 
 pub gains_next : (n : ℕ) (ops : List OpBlock) (op : OpBlock) → length ops ≡ 6 → n < 6 → HaveGainsUpTo n ops → HasGains op → HaveGainsUpTo (n + 1) (set ops n op)
 gains_next n ops op e lt m h = record {
-  each = λ k d l. below_more (λ k. (d : OpBlock) → HasGains (get_or (set ops n op) k d)) n
-      (λ k l d. let ne : k ≢ n = omega arith in rw get_or-set_other (m.each k d l))
-      (λ d. let l : n < length ops = rw e lt in rw get_or-set_same h) k l d;
+  each = λ k d below. let l : n < length ops = rw e lt in set_more (λ k o. HasGains o) ops n op d l (λ k b. m.each k d b) h k below;
 }
 
 pub gains_all : (n : ℕ) (ops : List OpBlock) → 6 ≤ n → HaveGainsUpTo n ops → HaveGains ops

@@ -1,6 +1,7 @@
 -- Slots that a loop has gone through up to a place, and a slot that a note takes.
 use Rattle.std.proofs.Common.{ℕ, Bool, true, false, Option, Some, List, length, get_or, set, eqb, cond, eqb-true, ◌+◌, ◌<◌, ◌≤◌, ◌≢◌, ◌≡◌, refl, arith, below_more, get_or-set_other, get_or-set_same, subst}
 use Rattle.std.proofs.lemmas.Bool.{eqb-false}
+use Rattle.dx_tables.proofs.Loops.{set_more, set_rest}
 use Rattle.instrument.specs.declared.slot.Slot.{Slot}
 use Rattle.instrument.specs.State.{SlotData}
 use Rattle.instrument.specs.Running.{IsSlot, AreSlots}
@@ -15,10 +16,8 @@ AreSlotsUpTo-none f ws vs h = record { done = λ k d lt. absurd (omega (arith, l
 
 pub AreSlotsUpTo-next : (i : ℕ) (f : Option SlotData → Option SlotData) (ws : ℕ → Option SlotData) (vs : List Slot) (v : Slot) → length vs ≡ 16 → i < 16 → AreSlotsUpTo i f ws vs → IsSlot v (f (ws i)) → AreSlotsUpTo (i + 1) f ws (set vs i v)
 AreSlotsUpTo-next i f ws vs v e lt m h = record {
-  done = λ k d l. below_more (λ k. (d : Slot) → IsSlot (get_or (set vs i v) k d) (f (ws k))) i
-      (λ k l d. let ne : k ≢ i = omega arith in rw get_or-set_other (m.done k d l))
-      (λ d. let l : i < length vs = rw e lt in rw get_or-set_same h) k l d;
-  rest = λ k d le l. let ne : k ≢ i = omega arith in rw get_or-set_other (m.rest k d (omega arith) l);
+  done = λ k d below. let l : i < length vs = rw e lt in set_more (λ k s. IsSlot s (f (ws k))) vs i v d l (λ k b. m.done k d b) h k below;
+  rest = λ k d le l. set_rest (λ s. IsSlot s (ws k)) vs i v d k le (m.rest k d (omega arith) l);
 }
 
 pub AreSlotsUpTo-all : (i : ℕ) (f : Option SlotData → Option SlotData) (ws : ℕ → Option SlotData) (vs : List Slot) → 16 ≤ i → AreSlotsUpTo i f ws vs → AreSlots vs (λ k. f (ws k))

@@ -9,6 +9,7 @@ use Rattle.note_voice.specs.Modulation.{Modulation}
 use Rattle.note_voice.specs.Note.{NoteData, after_block, feedback_state_before}
 use Rattle.note_voice.specs.Running.{IsNote, IsNoteBegun}
 use Rattle.note_voice.proofs.Blocks.{state_after_block, sample_is}
+use Rattle.dx_tables.proofs.Loops.{set_more, set_rest}
 use Rattle.instrument.specs.Groups.{AreOutputs, sum_to}
 use Rattle.instrument.specs.declared.slot.Slot.{Slot}
 use Rattle.instrument.specs.State.{SlotData, mix_of, slot_later, slot_sample}
@@ -27,7 +28,7 @@ begun_next i m ws vs bs v b ev eb lt a h = record {
   done = λ k d e l. below_more (λ k. (d : Slot) (e : NoteBlock) → IsSlotBegun (get_or (set vs i v) k d) (get_or (set bs i b) k e) m (ws k)) i
       (λ k l d e. let ne : k ≢ i = omega arith in rw (get_or-set_other vs i k v d ne, get_or-set_other bs i k b e ne) (a.done k d e l))
       (λ d e. let lv : i < length vs = rw ev lt in let lb : i < length bs = rw eb lt in rw (get_or-set_same vs i v d lv, get_or-set_same bs i b e lb) h) k l d e;
-  rest = λ k d le l. let ne : k ≢ i = omega arith in rw get_or-set_other (a.rest k d (omega arith) l);
+  rest = λ k d le l. set_rest (λ s. IsSlot s (ws k)) vs i v d k le (a.rest k d (omega arith) l);
 }
 
 pub begun_all : (i : ℕ) (m : Modulation) (ws : ℕ → Option SlotData) (vs : List Slot) (bs : List NoteBlock) → 16 ≤ i → AreBegunUpTo i m ws vs bs → AreSlotsBegun vs bs m ws
@@ -42,10 +43,8 @@ ended_none m ws bs vs h = record { done = λ k d lt. absurd (omega (arith, lt));
 
 pub ended_next : (i : ℕ) (m : Modulation) (ws : ℕ → Option SlotData) (bs : List NoteBlock) (vs : List Slot) (v : Slot) → length vs ≡ 16 → i < 16 → AreEndedUpTo i m ws bs vs → IsSlot v (slot_later m (ws i)) → AreEndedUpTo (i + 1) m ws bs (set vs i v)
 ended_next i m ws bs vs v ev lt a h = record {
-  done = λ k d l. below_more (λ k. (d : Slot) → IsSlot (get_or (set vs i v) k d) (slot_later m (ws k))) i
-      (λ k l d. let ne : k ≢ i = omega arith in rw get_or-set_other (a.done k d l))
-      (λ d. let l : i < length vs = rw ev lt in rw get_or-set_same h) k l d;
-  rest = λ k d e le l. let ne : k ≢ i = omega arith in rw get_or-set_other (a.rest k d e (omega arith) l);
+  done = λ k d below. let l : i < length vs = rw ev lt in set_more (λ k s. IsSlot s (slot_later m (ws k))) vs i v d l (λ k b. a.done k d b) h k below;
+  rest = λ k d e le l. set_rest (λ s. IsSlotBegun s (get_or bs k e) m (ws k)) vs i v d k le (a.rest k d e (omega arith) l);
 }
 
 pub ended_all : (i : ℕ) (m : Modulation) (ws : ℕ → Option SlotData) (bs : List NoteBlock) (vs : List Slot) → 16 ≤ i → AreEndedUpTo i m ws bs vs → AreSlots vs (λ k. slot_later m (ws k))

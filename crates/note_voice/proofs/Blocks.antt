@@ -1,6 +1,7 @@
 -- A whole note, from block to block and at its release.
-use Rattle.std.proofs.Common.{ℕ, zero, suc, ℤ, pos, ◌+ℤ◌, ◌+◌, ◌-◌, ◌<◌, ◌≤◌, ◌≢◌, ◌≡◌, ◌∙◌, ap, refl, sym, subst, add-one, List, [], ◌∷◌, length, get_or, set, None, cond, below_more, get_or-set_other, get_or-set_same, arith}
+use Rattle.std.proofs.Common.{ℕ, zero, suc, ℤ, pos, ◌+ℤ◌, ◌+◌, ◌-◌, ◌<◌, ◌≤◌, ◌≡◌, ◌∙◌, ap, refl, sym, subst, add-one, List, [], ◌∷◌, length, get_or, set, None, cond, arith}
 use Rattle.std.proofs.lemmas.List.{same_lists}
+use Rattle.dx_tables.proofs.Loops.{set_more, set_rest}
 use Rattle.block_rates.specs.declared.pitch_envelope.PitchEnvelope.{PitchEnvelope}
 use Rattle.block_rates.specs.Pitches.{PitchEnvelopeSettings, pitch_envelope_level}
 use Rattle.block_rates.specs.PitchEnvelopes.{IsPitchEnvelope}
@@ -37,10 +38,8 @@ passed_none shift shift' n n' os h = record { done = λ k d lt. absurd (omega (a
 
 pub passed_next : (i : ℕ) (shift shift' : ℤ) (n n' : NoteData) (os : List Operator) (o : Operator) → length os ≡ 6 → i < 6 → ArePassedUpTo i shift shift' n n' os → IsOperator o shift' (i + 1) n' → ArePassedUpTo (i + 1) shift shift' n n' (set os i o)
 passed_next i shift shift' n n' os o e lt m h = record {
-  done = λ k d l. below_more (λ k. (d : Operator) → IsOperator (get_or (set os i o) k d) shift' (k + 1) n') i
-      (λ k l d. let ne : k ≢ i = omega arith in rw get_or-set_other (m.done k d l))
-      (λ d. let l : i < length os = rw e lt in rw get_or-set_same h) k l d;
-  rest = λ k d le l. let ne : k ≢ i = omega arith in rw get_or-set_other (m.rest k d (omega arith) l);
+  done = λ k d below. let l : i < length os = rw e lt in set_more (λ k o. IsOperator o shift' (k + 1) n') os i o d l (λ k b. m.done k d b) h k below;
+  rest = λ k d le l. set_rest (λ o. IsOperator o shift (k + 1) n) os i o d k le (m.rest k d (omega arith) l);
 }
 
 pub passed_all : (i : ℕ) (shift shift' : ℤ) (n n' : NoteData) (os : List Operator) → 6 ≤ i → ArePassedUpTo i shift shift' n n' os → AreOperators os shift' n'
@@ -55,9 +54,7 @@ heard_none n block ops = record { each = λ k d lt. absurd (omega (arith, lt)) }
 
 pub heard_next : (i : ℕ) (n : NoteData) (block : ℕ) (ops : List OpBlock) (op : OpBlock) → length ops ≡ 6 → i < 6 → MeetsEquationUpTo i n block ops → op ≡ audible_in n (i + 1) block → MeetsEquationUpTo (i + 1) n block (set ops i op)
 heard_next i n block ops op e lt m h = record {
-  each = λ k d l. below_more (λ k. (d : OpBlock) → get_or (set ops i op) k d ≡ audible_in n (k + 1) block) i
-      (λ k l d. let ne : k ≢ i = omega arith in rw get_or-set_other (m.each k d l))
-      (λ d. let l : i < length ops = rw e lt in rw get_or-set_same h) k l d;
+  each = λ k d below. let l : i < length ops = rw e lt in set_more (λ k o. o ≡ audible_in n (k + 1) block) ops i op d l (λ k b. m.each k d b) h k below;
 }
 
 six_of : (n : NoteData) (block k : ℕ) (d : OpBlock) → k < 6 → audible_in n (k + 1) block ≡ get_or (operators_in n block) k d
@@ -83,9 +80,7 @@ gains_none ops = record { each = λ k d lt. absurd (omega (arith, lt)) }
 
 pub gains_next : (i : ℕ) (ops : List OpBlock) (op : OpBlock) → length ops ≡ 6 → i < 6 → HaveGainsUpTo i ops → HasGains op → HaveGainsUpTo (i + 1) (set ops i op)
 gains_next i ops op e lt m h = record {
-  each = λ k d l. below_more (λ k. (d : OpBlock) → HasGains (get_or (set ops i op) k d)) i
-      (λ k l d. let ne : k ≢ i = omega arith in rw get_or-set_other (m.each k d l))
-      (λ d. let l : i < length ops = rw e lt in rw get_or-set_same h) k l d;
+  each = λ k d below. let l : i < length ops = rw e lt in set_more (λ k o. HasGains o) ops i op d l (λ k b. m.each k d b) h k below;
 }
 
 pub gains_all : (i : ℕ) (ops : List OpBlock) → 6 ≤ i → HaveGainsUpTo i ops → HaveGains ops

@@ -1,5 +1,6 @@
 -- A sum of notes grows sample by sample, and stays far from the ends of 64 bits.
-use Rattle.std.proofs.Common.{ℕ, ℤ, pos, ◌+ℤ◌, refl, List, length, get_or, set, ◌+◌, ◌^◌, ◌<◌, ◌≤◌, ◌≢◌, ◌≡◌, ◌∙◌, ap, arith, below_more, get_or-set_other, get_or-set_same, length-set, SFits, w32, w64, unsigned_abs}
+use Rattle.std.proofs.Common.{ℕ, ℤ, pos, ◌+ℤ◌, refl, List, length, get_or, set, ◌+◌, ◌^◌, ◌<◌, ◌≤◌, ◌≡◌, ◌∙◌, ap, arith, length-set, SFits, w32, w64, unsigned_abs}
+use Rattle.dx_tables.proofs.Loops.{set_more, set_rest}
 use Rattle.dx_tables.proofs.Ranges.{abs_Within, Within_abs, Within-add, Within_from_fits32, fits_from_Within}
 use Rattle.std.proofs.lemmas.Int.{ints}
 use Rattle.algorithm_bus.specs.Buses.{IsBus}
@@ -17,10 +18,8 @@ IsAddedUpTo-none y xs e = record { len = e; done = λ j lt. absurd (omega (arith
 pub IsAddedUpTo-next : (n : ℕ) (y : ℕ → ℤ) (old new : List ℤ) (v : ℤ) → n < 64 → IsAddedUpTo n y old new → v ≡ get_or old n (pos 0) +ℤ y n → IsAddedUpTo (n + 1) y old (set new n v)
 IsAddedUpTo-next n y old new v lt m e = record {
   len = simp length-set m.len;
-  done = below_more _ _
-      (λ j h. let ne : j ≢ n = omega arith in rw get_or-set_other (m.done j h))
-      (let l : n < length new = rw m.len lt in rw get_or-set_same e);
-  rest = λ j le. let ne : j ≢ n = omega arith in rw get_or-set_other (m.rest j (omega arith));
+  done = let l : n < length new = rw m.len lt in set_more (λ j z. z ≡ get_or old j (pos 0) +ℤ y j) new n v (pos 0) l m.done e;
+  rest = λ j le. set_rest (λ z. z ≡ get_or old j (pos 0)) new n v (pos 0) j le (m.rest j (omega arith));
 }
 
 pub IsAddedUpTo-all : (n : ℕ) (y : ℕ → ℤ) (old new : List ℤ) → 64 ≤ n → IsAddedUpTo n y old new → IsAdded y old new
