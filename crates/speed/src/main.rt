@@ -1,6 +1,7 @@
 //! Runs a kernel many times and prints a checksum of its answers, so that a script can time it:
 //! `notes` renders blocks of six operators, `note` a whole note of them, `died` one that has died away, `sixteen` sixteen
-//! notes on the instrument, `commands` applies commands, `entries` passes entries through a line, `acts` edits a voice, `frames` reads a cartridge's message.
+//! notes on the instrument, `commands` applies commands, `entries` passes entries through a line, `acts` edits a voice,
+//! `frames` reads a cartridge's message.
 #![tactic(auto)]
 
 mod acts;
