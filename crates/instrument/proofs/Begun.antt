@@ -51,12 +51,12 @@ pub ended_all : (i : ℕ) (m : Modulation) (ws : ℕ → Option SlotData) (bs : 
 ended_all i m ws bs vs le a = λ k d lt. a.done k d (omega arith)
 
 -- a slot whose block was run
-pub slot_ended : (v : Slot) (note' : Note) (b : NoteBlock) (m : Modulation) (memory : List ℤ) (w : Option SlotData) → (IsNote v.note None → IsNote note' None) → ((n : NoteData) → IsNoteBegun v.note n → feedback_state_of memory ≡ feedback_state_before n (length n.past) → IsNote note' (Some n)) → IsSlotBegun v b m w → feedback_state_of memory ≡ feedback_state_left (block_patch b) → IsSlot (record { channel = v.channel; key = v.key; note = note'; is_down = v.is_down; is_held = v.is_held }) (slot_later m w)
-slot_ended v note' b m memory None idle ended h q = record { note_is = idle h.empty.note_is; is_down_is = h.empty.is_down_is; is_held_is = h.empty.is_held_is }
-slot_ended v note' b m memory (Some w) idle ended h q = record {
+pub slot_ended : (v : Slot) (note' : Note) (b : NoteBlock) (m : Modulation) (feedback_state : List ℤ) (w : Option SlotData) → (IsNote v.note None → IsNote note' None) → ((n : NoteData) → IsNoteBegun v.note n → feedback_state_of feedback_state ≡ feedback_state_before n (length n.past) → IsNote note' (Some n)) → IsSlotBegun v b m w → feedback_state_of feedback_state ≡ feedback_state_left (block_patch b) → IsSlot (record { channel = v.channel; key = v.key; note = note'; is_down = v.is_down; is_held = v.is_held }) (slot_later m w)
+slot_ended v note' b m feedback_state None idle ended h q = record { note_is = idle h.empty.note_is; is_down_is = h.empty.is_down_is; is_held_is = h.empty.is_held_is }
+slot_ended v note' b m feedback_state (Some w) idle ended h q = record {
   channel_is = h.channel_is;
   key_is = h.key_is;
-  note_is = ended (after_block w.note m) h.note_is (state_after_block w.note m (block_patch b) memory h.block_is q);
+  note_is = ended (after_block w.note m) h.note_is (state_after_block w.note m (block_patch b) feedback_state h.block_is q);
   is_down_is = h.is_down_is;
   is_held_is = h.is_held_is;
 }

@@ -123,9 +123,9 @@ impl Slot {
     }
 
     /// Ends a block that was run, with the two samples that it left.
-    pub(crate) fn end_block(&mut self, memory: [i32; 2])
-        ensures { (b : NoteBlock) (m : Modulation) (w : Option SlotData) → IsSlotBegun self.old b m w → feedback_state_of memory ≡ feedback_state_left (block_patch b) → IsSlot self.new (slot_later m w) }
+    pub(crate) fn end_block(&mut self, feedback_state: [i32; 2])
+        ensures { (b : NoteBlock) (m : Modulation) (w : Option SlotData) → IsSlotBegun self.old b m w → feedback_state_of feedback_state ≡ feedback_state_left (block_patch b) → IsSlot self.new (slot_later m w) }
     {
-        self.note.end_block(memory);
+        self.note.end_block(feedback_state);
     }
 }

@@ -84,8 +84,8 @@ fn end_all(slots: &mut [Slot; 16], blocks: &[NoteBlock; 16])
     ensures { (bs : List NoteBlock) (m : Modulation) (ws : ℕ → Option SlotData) → AreSlotsBegun slots.old bs m ws → AreLeft bs blocks.now → AreSlots slots.new (λ i. slot_later m (ws i)) }
 {
     for i in 0..16usize {
-        let memory = blocks[i].feedback_state;
-        slots[i].end_block(memory);
+        let feedback_state = blocks[i].feedback_state;
+        slots[i].end_block(feedback_state);
     }
 }
 
