@@ -21,8 +21,10 @@ if_kept kept op = if kept then op else muted op
 abbrev pub IsCovered : Bool → OpBlock → Type 0
 IsCovered kept op = (silent op ≡ true) ⊎ (kept ≡ true)
 
--- of the operators up to n every carrier is silent or kept, and so is every operator that modulates one that is kept; the operator with feedback is kept
+-- of the operators up to n every carrier is silent or kept, and so is every operator that modulates one that is kept; the operator with
+-- feedback is kept
 pub record AreClosed (a : ℕ) (ops : List OpBlock) (n : ℕ) (kept : List Bool) : Type 0 where
   pub carriers : (o : ℕ) → 1 ≤ o → o ≤ n → is_carrier a o ≡ true → IsCovered (is_kept kept o) (op_of ops o)
-  pub modulators : (o to : ℕ) → 1 ≤ o → o ≤ n → 1 ≤ to → to ≤ 6 → modulates a o to ≡ true → is_kept kept to ≡ true → IsCovered (is_kept kept o) (op_of ops o)
+  pub modulators : (o to : ℕ) → 1 ≤ o → o ≤ n → 1 ≤ to → to ≤ 6 → modulates a o to ≡ true → is_kept kept to ≡ true →
+      IsCovered (is_kept kept o) (op_of ops o)
   pub fed_back : (o : ℕ) → 1 ≤ o → o ≤ n → is_fed_back (feedback_operator a) o ≡ true → is_kept kept o ≡ true

@@ -88,7 +88,8 @@ pub(crate) fn only_audible(algorithm: u8, ops: &[OpBlock; 6]) -> [OpBlock; 6]
     requires algorithm { algorithm ≤ 31 }
     requires gains { HaveGains ops.now }
     ensures gains { HaveGains result }
-    ensures output { (p : Patch) → p.algorithm ≡ algorithm → p.op ≡ op_of ops.now → (j : ℕ) → note_output (record p { op = op_of result }) j ≡ note_output p j }
+    ensures output { (p : Patch) → p.algorithm ≡ algorithm → p.op ≡ op_of ops.now → (j : ℕ) →
+        note_output (record p { op = op_of result }) j ≡ note_output p j }
     ensures fed_back { (o : ℕ) → feedback_operator algorithm ≡ Some o → op_of result o ≡ op_of ops.now o }
 {
     let kept = audible_operators(algorithm, ops);

@@ -46,22 +46,30 @@ fn feed_back_eight(
     requires feedback { feedback ≤ 7 }
     requires low_gains { HaveGains ops0.now × HaveGains ops1.now × HaveGains ops2.now × HaveGains ops3.now }
     requires high_gains { HaveGains ops4.now × HaveGains ops5.now × HaveGains ops6.now × HaveGains ops7.now }
-    ensures samples0 { (o : ℕ) → feedback_operator algorithm ≡ Some o → IsBus (feedback_sample (op_of ops0.now o) feedback (feedback_state_of m0.old)) b0.new }
-    ensures samples1 { (o : ℕ) → feedback_operator algorithm ≡ Some o → IsBus (feedback_sample (op_of ops1.now o) feedback (feedback_state_of m1.old)) b1.new }
-    ensures samples2 { (o : ℕ) → feedback_operator algorithm ≡ Some o → IsBus (feedback_sample (op_of ops2.now o) feedback (feedback_state_of m2.old)) b2.new }
-    ensures samples3 { (o : ℕ) → feedback_operator algorithm ≡ Some o → IsBus (feedback_sample (op_of ops3.now o) feedback (feedback_state_of m3.old)) b3.new }
-    ensures samples4 { (o : ℕ) → feedback_operator algorithm ≡ Some o → IsBus (feedback_sample (op_of ops4.now o) feedback (feedback_state_of m4.old)) b4.new }
-    ensures samples5 { (o : ℕ) → feedback_operator algorithm ≡ Some o → IsBus (feedback_sample (op_of ops5.now o) feedback (feedback_state_of m5.old)) b5.new }
-    ensures samples6 { (o : ℕ) → feedback_operator algorithm ≡ Some o → IsBus (feedback_sample (op_of ops6.now o) feedback (feedback_state_of m6.old)) b6.new }
-    ensures samples7 { (o : ℕ) → feedback_operator algorithm ≡ Some o → IsBus (feedback_sample (op_of ops7.now o) feedback (feedback_state_of m7.old)) b7.new }
-    ensures memory0 { feedback_state_of m0.new ≡ feedback_state_left (patch_of algorithm feedback ops0.now m0.old) }
-    ensures memory1 { feedback_state_of m1.new ≡ feedback_state_left (patch_of algorithm feedback ops1.now m1.old) }
-    ensures memory2 { feedback_state_of m2.new ≡ feedback_state_left (patch_of algorithm feedback ops2.now m2.old) }
-    ensures memory3 { feedback_state_of m3.new ≡ feedback_state_left (patch_of algorithm feedback ops3.now m3.old) }
-    ensures memory4 { feedback_state_of m4.new ≡ feedback_state_left (patch_of algorithm feedback ops4.now m4.old) }
-    ensures memory5 { feedback_state_of m5.new ≡ feedback_state_left (patch_of algorithm feedback ops5.now m5.old) }
-    ensures memory6 { feedback_state_of m6.new ≡ feedback_state_left (patch_of algorithm feedback ops6.now m6.old) }
-    ensures memory7 { feedback_state_of m7.new ≡ feedback_state_left (patch_of algorithm feedback ops7.now m7.old) }
+    ensures samples0 { (o : ℕ) → feedback_operator algorithm ≡ Some o →
+        IsBus (feedback_sample (op_of ops0.now o) feedback (feedback_state_of m0.old)) b0.new }
+    ensures samples1 { (o : ℕ) → feedback_operator algorithm ≡ Some o →
+        IsBus (feedback_sample (op_of ops1.now o) feedback (feedback_state_of m1.old)) b1.new }
+    ensures samples2 { (o : ℕ) → feedback_operator algorithm ≡ Some o →
+        IsBus (feedback_sample (op_of ops2.now o) feedback (feedback_state_of m2.old)) b2.new }
+    ensures samples3 { (o : ℕ) → feedback_operator algorithm ≡ Some o →
+        IsBus (feedback_sample (op_of ops3.now o) feedback (feedback_state_of m3.old)) b3.new }
+    ensures samples4 { (o : ℕ) → feedback_operator algorithm ≡ Some o →
+        IsBus (feedback_sample (op_of ops4.now o) feedback (feedback_state_of m4.old)) b4.new }
+    ensures samples5 { (o : ℕ) → feedback_operator algorithm ≡ Some o →
+        IsBus (feedback_sample (op_of ops5.now o) feedback (feedback_state_of m5.old)) b5.new }
+    ensures samples6 { (o : ℕ) → feedback_operator algorithm ≡ Some o →
+        IsBus (feedback_sample (op_of ops6.now o) feedback (feedback_state_of m6.old)) b6.new }
+    ensures samples7 { (o : ℕ) → feedback_operator algorithm ≡ Some o →
+        IsBus (feedback_sample (op_of ops7.now o) feedback (feedback_state_of m7.old)) b7.new }
+    ensures feedback_state0 { feedback_state_of m0.new ≡ feedback_state_left (patch_of algorithm feedback ops0.now m0.old) }
+    ensures feedback_state1 { feedback_state_of m1.new ≡ feedback_state_left (patch_of algorithm feedback ops1.now m1.old) }
+    ensures feedback_state2 { feedback_state_of m2.new ≡ feedback_state_left (patch_of algorithm feedback ops2.now m2.old) }
+    ensures feedback_state3 { feedback_state_of m3.new ≡ feedback_state_left (patch_of algorithm feedback ops3.now m3.old) }
+    ensures feedback_state4 { feedback_state_of m4.new ≡ feedback_state_left (patch_of algorithm feedback ops4.now m4.old) }
+    ensures feedback_state5 { feedback_state_of m5.new ≡ feedback_state_left (patch_of algorithm feedback ops5.now m5.old) }
+    ensures feedback_state6 { feedback_state_of m6.new ≡ feedback_state_left (patch_of algorithm feedback ops6.now m6.old) }
+    ensures feedback_state7 { feedback_state_of m7.new ≡ feedback_state_left (patch_of algorithm feedback ops7.now m7.old) }
 {
     match feedback_operator(algorithm) {
         Some(operator) => {
@@ -118,14 +126,14 @@ pub(crate) fn run_eight_notes(
     ensures out5 { IsBus (note_output (patch_of algorithm feedback ops5.now m5.old)) out5.new }
     ensures out6 { IsBus (note_output (patch_of algorithm feedback ops6.now m6.old)) out6.new }
     ensures out7 { IsBus (note_output (patch_of algorithm feedback ops7.now m7.old)) out7.new }
-    ensures memory0 { feedback_state_of m0.new ≡ feedback_state_left (patch_of algorithm feedback ops0.now m0.old) }
-    ensures memory1 { feedback_state_of m1.new ≡ feedback_state_left (patch_of algorithm feedback ops1.now m1.old) }
-    ensures memory2 { feedback_state_of m2.new ≡ feedback_state_left (patch_of algorithm feedback ops2.now m2.old) }
-    ensures memory3 { feedback_state_of m3.new ≡ feedback_state_left (patch_of algorithm feedback ops3.now m3.old) }
-    ensures memory4 { feedback_state_of m4.new ≡ feedback_state_left (patch_of algorithm feedback ops4.now m4.old) }
-    ensures memory5 { feedback_state_of m5.new ≡ feedback_state_left (patch_of algorithm feedback ops5.now m5.old) }
-    ensures memory6 { feedback_state_of m6.new ≡ feedback_state_left (patch_of algorithm feedback ops6.now m6.old) }
-    ensures memory7 { feedback_state_of m7.new ≡ feedback_state_left (patch_of algorithm feedback ops7.now m7.old) }
+    ensures feedback_state0 { feedback_state_of m0.new ≡ feedback_state_left (patch_of algorithm feedback ops0.now m0.old) }
+    ensures feedback_state1 { feedback_state_of m1.new ≡ feedback_state_left (patch_of algorithm feedback ops1.now m1.old) }
+    ensures feedback_state2 { feedback_state_of m2.new ≡ feedback_state_left (patch_of algorithm feedback ops2.now m2.old) }
+    ensures feedback_state3 { feedback_state_of m3.new ≡ feedback_state_left (patch_of algorithm feedback ops3.now m3.old) }
+    ensures feedback_state4 { feedback_state_of m4.new ≡ feedback_state_left (patch_of algorithm feedback ops4.now m4.old) }
+    ensures feedback_state5 { feedback_state_of m5.new ≡ feedback_state_left (patch_of algorithm feedback ops5.now m5.old) }
+    ensures feedback_state6 { feedback_state_of m6.new ≡ feedback_state_left (patch_of algorithm feedback ops6.now m6.old) }
+    ensures feedback_state7 { feedback_state_of m7.new ≡ feedback_state_left (patch_of algorithm feedback ops7.now m7.old) }
 {
     let mut scratch = Scratch::new();
     let mut first = silence();

@@ -1,3 +1,4 @@
+//! A block of a note, which is run alone or with others.
 ghost use Rattle.std.specs.Prelude.{◌≡◌, ◌≤◌, ℕ, pos, false};
 ghost use Rattle.operator_kernel.specs.Operator.{feedback_state_of};
 ghost use Rattle.algorithm_bus.specs.Buses.{HaveGains};
@@ -69,7 +70,7 @@ impl NoteBlock {
     /// The same as `run_note`: `out` becomes the sum of the carriers, and the feedback state the last two samples of the operator with feedback.
     pub fn run(&mut self, tables: &Tables, out: &mut [i32; 64])
         ensures out { IsBus (note_output (block_patch self.old)) out.new }
-        ensures memory { feedback_state_of self.new.feedback_state ≡ feedback_state_left (block_patch self.old) }
+        ensures feedback_state { feedback_state_of self.new.feedback_state ≡ feedback_state_left (block_patch self.old) }
     {
         let ops = self.ops;
         run_note(
@@ -94,16 +95,18 @@ impl NoteBlock {
         out2: &mut [i32; 64],
         out3: &mut [i32; 64],
     )
-        requires algorithm { (second.old.algorithm ≡ first.old.algorithm) × (third.old.algorithm ≡ first.old.algorithm) × (fourth.old.algorithm ≡ first.old.algorithm) }
-        requires feedback { (second.old.feedback ≡ first.old.feedback) × (third.old.feedback ≡ first.old.feedback) × (fourth.old.feedback ≡ first.old.feedback) }
+        requires algorithm { (second.old.algorithm ≡ first.old.algorithm) × (third.old.algorithm ≡ first.old.algorithm)
+            × (fourth.old.algorithm ≡ first.old.algorithm) }
+        requires feedback { (second.old.feedback ≡ first.old.feedback) × (third.old.feedback ≡ first.old.feedback)
+            × (fourth.old.feedback ≡ first.old.feedback) }
         ensures out0 { IsBus (note_output (block_patch first.old)) out0.new }
         ensures out1 { IsBus (note_output (block_patch second.old)) out1.new }
         ensures out2 { IsBus (note_output (block_patch third.old)) out2.new }
         ensures out3 { IsBus (note_output (block_patch fourth.old)) out3.new }
-        ensures memory0 { feedback_state_of first.new.feedback_state ≡ feedback_state_left (block_patch first.old) }
-        ensures memory1 { feedback_state_of second.new.feedback_state ≡ feedback_state_left (block_patch second.old) }
-        ensures memory2 { feedback_state_of third.new.feedback_state ≡ feedback_state_left (block_patch third.old) }
-        ensures memory3 { feedback_state_of fourth.new.feedback_state ≡ feedback_state_left (block_patch fourth.old) }
+        ensures feedback_state0 { feedback_state_of first.new.feedback_state ≡ feedback_state_left (block_patch first.old) }
+        ensures feedback_state1 { feedback_state_of second.new.feedback_state ≡ feedback_state_left (block_patch second.old) }
+        ensures feedback_state2 { feedback_state_of third.new.feedback_state ≡ feedback_state_left (block_patch third.old) }
+        ensures feedback_state3 { feedback_state_of fourth.new.feedback_state ≡ feedback_state_left (block_patch fourth.old) }
     {
         let ops0 = first.ops;
         let ops1 = second.ops;
@@ -148,10 +151,14 @@ impl NoteBlock {
         out6: &mut [i32; 64],
         out7: &mut [i32; 64],
     )
-        requires low_algorithm { (second.old.algorithm ≡ first.old.algorithm) × (third.old.algorithm ≡ first.old.algorithm) × (fourth.old.algorithm ≡ first.old.algorithm) }
-        requires high_algorithm { (fifth.old.algorithm ≡ first.old.algorithm) × (sixth.old.algorithm ≡ first.old.algorithm) × (seventh.old.algorithm ≡ first.old.algorithm) × (eighth.old.algorithm ≡ first.old.algorithm) }
-        requires low_feedback { (second.old.feedback ≡ first.old.feedback) × (third.old.feedback ≡ first.old.feedback) × (fourth.old.feedback ≡ first.old.feedback) }
-        requires high_feedback { (fifth.old.feedback ≡ first.old.feedback) × (sixth.old.feedback ≡ first.old.feedback) × (seventh.old.feedback ≡ first.old.feedback) × (eighth.old.feedback ≡ first.old.feedback) }
+        requires low_algorithm { (second.old.algorithm ≡ first.old.algorithm) × (third.old.algorithm ≡ first.old.algorithm)
+            × (fourth.old.algorithm ≡ first.old.algorithm) }
+        requires high_algorithm { (fifth.old.algorithm ≡ first.old.algorithm) × (sixth.old.algorithm ≡ first.old.algorithm)
+            × (seventh.old.algorithm ≡ first.old.algorithm) × (eighth.old.algorithm ≡ first.old.algorithm) }
+        requires low_feedback { (second.old.feedback ≡ first.old.feedback) × (third.old.feedback ≡ first.old.feedback)
+            × (fourth.old.feedback ≡ first.old.feedback) }
+        requires high_feedback { (fifth.old.feedback ≡ first.old.feedback) × (sixth.old.feedback ≡ first.old.feedback)
+            × (seventh.old.feedback ≡ first.old.feedback) × (eighth.old.feedback ≡ first.old.feedback) }
         ensures out0 { IsBus (note_output (block_patch first.old)) out0.new }
         ensures out1 { IsBus (note_output (block_patch second.old)) out1.new }
         ensures out2 { IsBus (note_output (block_patch third.old)) out2.new }
@@ -160,14 +167,14 @@ impl NoteBlock {
         ensures out5 { IsBus (note_output (block_patch sixth.old)) out5.new }
         ensures out6 { IsBus (note_output (block_patch seventh.old)) out6.new }
         ensures out7 { IsBus (note_output (block_patch eighth.old)) out7.new }
-        ensures memory0 { feedback_state_of first.new.feedback_state ≡ feedback_state_left (block_patch first.old) }
-        ensures memory1 { feedback_state_of second.new.feedback_state ≡ feedback_state_left (block_patch second.old) }
-        ensures memory2 { feedback_state_of third.new.feedback_state ≡ feedback_state_left (block_patch third.old) }
-        ensures memory3 { feedback_state_of fourth.new.feedback_state ≡ feedback_state_left (block_patch fourth.old) }
-        ensures memory4 { feedback_state_of fifth.new.feedback_state ≡ feedback_state_left (block_patch fifth.old) }
-        ensures memory5 { feedback_state_of sixth.new.feedback_state ≡ feedback_state_left (block_patch sixth.old) }
-        ensures memory6 { feedback_state_of seventh.new.feedback_state ≡ feedback_state_left (block_patch seventh.old) }
-        ensures memory7 { feedback_state_of eighth.new.feedback_state ≡ feedback_state_left (block_patch eighth.old) }
+        ensures feedback_state0 { feedback_state_of first.new.feedback_state ≡ feedback_state_left (block_patch first.old) }
+        ensures feedback_state1 { feedback_state_of second.new.feedback_state ≡ feedback_state_left (block_patch second.old) }
+        ensures feedback_state2 { feedback_state_of third.new.feedback_state ≡ feedback_state_left (block_patch third.old) }
+        ensures feedback_state3 { feedback_state_of fourth.new.feedback_state ≡ feedback_state_left (block_patch fourth.old) }
+        ensures feedback_state4 { feedback_state_of fifth.new.feedback_state ≡ feedback_state_left (block_patch fifth.old) }
+        ensures feedback_state5 { feedback_state_of sixth.new.feedback_state ≡ feedback_state_left (block_patch sixth.old) }
+        ensures feedback_state6 { feedback_state_of seventh.new.feedback_state ≡ feedback_state_left (block_patch seventh.old) }
+        ensures feedback_state7 { feedback_state_of eighth.new.feedback_state ≡ feedback_state_left (block_patch eighth.old) }
     {
         let ops0 = first.ops;
         let ops1 = second.ops;

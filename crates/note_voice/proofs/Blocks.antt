@@ -108,15 +108,15 @@ pub state_at_start : (n : NoteData) → feedback_state_of (pos 0 ∷ pos 0 ∷ [
 unfolding feedback_state_before
 state_at_start n = refl
 
-pub state_released : (n : NoteData) (memory : List ℤ) → feedback_state_of memory ≡ feedback_state_before n (length n.past) → feedback_state_of memory ≡ feedback_state_before (note_released n) (length n.past)
-state_released n memory e = e ∙ sym (state_same _ n _ _ (length n.past) (agrees_released n) (omega arith))
+pub state_released : (n : NoteData) (feedback_state : List ℤ) → feedback_state_of feedback_state ≡ feedback_state_before n (length n.past) → feedback_state_of feedback_state ≡ feedback_state_before (note_released n) (length n.past)
+state_released n feedback_state e = e ∙ sym (state_same _ n _ _ (length n.past) (agrees_released n) (omega arith))
 
 -- what the next block is made from
-pub patch_is : (n : NoteData) (m : Modulation) (algorithm feedback : ℕ) (ops : List OpBlock) (memory : List ℤ) → algorithm ≡ get_or n.voice 134 0 → feedback ≡ get_or n.voice 135 0 → ops ≡ operators_in (after_block n m) (length n.past) → feedback_state_of memory ≡ feedback_state_before n (length n.past) → patch_of algorithm feedback ops memory ≡ note_patch (after_block n m) (length n.past)
-patch_is n m algorithm feedback ops memory ea ef o r =
-    let er : feedback_state_of memory ≡ feedback_state_before (after_block n m) (length n.past) = r ∙ sym (state_same _ n _ _ (length n.past) (agrees_after_block n m) (omega arith)) in
-    let make : ℕ → ℕ → List OpBlock → FeedbackState → Patch = λ a f ops memory. record { algorithm = a; feedback = f; op = op_of ops; feedback_state = memory } in
-    ap (λ a. make a feedback ops (feedback_state_of memory)) ea ∙ ap (λ f. make (get_or n.voice 134 0) f ops (feedback_state_of memory)) ef ∙ ap (λ ops. make (get_or n.voice 134 0) (get_or n.voice 135 0) ops (feedback_state_of memory)) o ∙ ap (make (get_or n.voice 134 0) (get_or n.voice 135 0) (operators_in (after_block n m) (length n.past))) er
+pub patch_is : (n : NoteData) (m : Modulation) (algorithm feedback : ℕ) (ops : List OpBlock) (feedback_state : List ℤ) → algorithm ≡ get_or n.voice 134 0 → feedback ≡ get_or n.voice 135 0 → ops ≡ operators_in (after_block n m) (length n.past) → feedback_state_of feedback_state ≡ feedback_state_before n (length n.past) → patch_of algorithm feedback ops feedback_state ≡ note_patch (after_block n m) (length n.past)
+patch_is n m algorithm feedback ops feedback_state ea ef o r =
+    let er : feedback_state_of feedback_state ≡ feedback_state_before (after_block n m) (length n.past) = r ∙ sym (state_same _ n _ _ (length n.past) (agrees_after_block n m) (omega arith)) in
+    let make : ℕ → ℕ → List OpBlock → FeedbackState → Patch = λ a f ops feedback_state. record { algorithm = a; feedback = f; op = op_of ops; feedback_state = feedback_state } in
+    ap (λ a. make a feedback ops (feedback_state_of feedback_state)) ea ∙ ap (λ f. make (get_or n.voice 134 0) f ops (feedback_state_of feedback_state)) ef ∙ ap (λ ops. make (get_or n.voice 134 0) (get_or n.voice 135 0) ops (feedback_state_of feedback_state)) o ∙ ap (make (get_or n.voice 134 0) (get_or n.voice 135 0) (operators_in (after_block n m) (length n.past))) er
 
 pub sample_is : (n : NoteData) (i j : ℕ) (p : Patch) → p ≡ note_patch n i → note_output p j ≡ note_sample n i j
 unfolding note_sample
@@ -133,5 +133,5 @@ pitch_after_block e n m h =
     subst P (sym (length_more n m)) h
 
 -- the two samples that the block left
-pub state_after_block : (n : NoteData) (m : Modulation) (p : Patch) (memory : List ℤ) → p ≡ note_patch (after_block n m) (length n.past) → feedback_state_of memory ≡ feedback_state_left p → feedback_state_of memory ≡ feedback_state_before (after_block n m) (length (after_block n m).past)
-state_after_block n m p memory q l = l ∙ ap feedback_state_left q ∙ sym (state_more (after_block n m) (length n.past)) ∙ ap (feedback_state_before (after_block n m)) (sym (length_more n m))
+pub state_after_block : (n : NoteData) (m : Modulation) (p : Patch) (feedback_state : List ℤ) → p ≡ note_patch (after_block n m) (length n.past) → feedback_state_of feedback_state ≡ feedback_state_left p → feedback_state_of feedback_state ≡ feedback_state_before (after_block n m) (length (after_block n m).past)
+state_after_block n m p feedback_state q l = l ∙ ap feedback_state_left q ∙ sym (state_more (after_block n m) (length n.past)) ∙ ap (feedback_state_before (after_block n m)) (sym (length_more n m))

@@ -84,13 +84,13 @@ operators_same k n off past i a lt =
     rw (e 1, e 2, e 3, e 4, e 5, e 6) refl
 
 abbrev patch_of_ops : NoteData → List OpBlock → FeedbackState → Patch
-patch_of_ops n ops memory = record { algorithm = get_or n.voice 134 0; feedback = get_or n.voice 135 0; op = op_of ops; feedback_state = memory }
+patch_of_ops n ops feedback_state = record { algorithm = get_or n.voice 134 0; feedback = get_or n.voice 135 0; op = op_of ops; feedback_state = feedback_state }
 
-patch_same : (k : ℕ) (n : NoteData) (off : Option ℕ) (past : List Modulation) (i : ℕ) (memory : FeedbackState) → AgreesUpTo k n off past → i < k → patch_in (continued n off past) i memory ≡ patch_in n i memory
-patch_same k n off past i memory a lt = ap (λ ops. patch_of_ops n ops memory) (operators_same k n off past i a lt)
+patch_same : (k : ℕ) (n : NoteData) (off : Option ℕ) (past : List Modulation) (i : ℕ) (feedback_state : FeedbackState) → AgreesUpTo k n off past → i < k → patch_in (continued n off past) i feedback_state ≡ patch_in n i feedback_state
+patch_same k n off past i feedback_state a lt = ap (λ ops. patch_of_ops n ops feedback_state) (operators_same k n off past i a lt)
 
 pub state_same : (k : ℕ) (n : NoteData) (off : Option ℕ) (past : List Modulation) (i : ℕ) → AgreesUpTo k n off past → i ≤ k → feedback_state_before (continued n off past) i ≡ feedback_state_before n i
 unfolding feedback_state_before
 state_same k n off past zero a le = refl
 state_same k n off past (suc i) a le =
-    ap feedback_state_left (patch_same k n off past i (feedback_state_before (continued n off past) i) a (omega arith)) ∙ ap (λ memory. feedback_state_left (patch_in n i memory)) (state_same k n off past i a (omega arith))
+    ap feedback_state_left (patch_same k n off past i (feedback_state_before (continued n off past) i) a (omega arith)) ∙ ap (λ feedback_state. feedback_state_left (patch_in n i feedback_state)) (state_same k n off past i a (omega arith))

@@ -1,5 +1,6 @@
 -- A note as plain data, and what its six operators do in each of its blocks.
-use Rattle.std.specs.Prelude.{ℕ, zero, suc, ◌+◌, ◌-◌, ◌*◌, ◌/◌, ◌%◌, ◌^◌, ◌==◌, Bool, if◌then◌else◌, List, [], ◌∷◌, ◌++◌, length, slice_index, slice_index_or, Option, None, ℤ, pos, ◌+ℤ◌, ◌-ℤ◌, ◌*ℤ◌, unsigned_abs}
+use Rattle.std.specs.Prelude.{ℕ, zero, suc, ◌+◌, ◌-◌, ◌*◌, ◌/◌, ◌%◌, ◌^◌, ◌==◌, Bool, if◌then◌else◌, List, [], ◌∷◌, ◌++◌, length, slice_index}
+use Rattle.std.specs.Prelude.{slice_index_or, Option, None, ℤ, pos, ◌+ℤ◌, ◌-ℤ◌, ◌*ℤ◌, unsigned_abs}
 use Rattle.dx_tables.specs.Numbers.{wrap}
 use Rattle.dx_tables.specs.Powers.{frequency}
 use Rattle.block_rates.specs.Stages.{released_after}
@@ -13,7 +14,8 @@ use Rattle.algorithm_bus.specs.Signals.{Patch, feedback_state_left, note_output}
 use Rattle.algorithm_bus.specs.Buses.{op_of}
 use Rattle.note_voice.specs.Modulation.{Modulation, pitch_modulation, attenuation_of, gain_of}
 
--- a note as plain data: the 155 numbers of its voice, which operators are switched on, its key and velocity, after how many of its blocks the key was released, and what moved it in each block so far
+-- a note as plain data: the 155 numbers of its voice, which operators are switched on, its key and velocity, after how many of its blocks
+-- the key was released, and what moved it in each block so far
 pub record NoteData : Type 0 where
   pub voice : List ℕ
   pub switch : ℕ
@@ -118,11 +120,11 @@ operators_in n i = audible_in n 1 i ∷ audible_in n 2 i ∷ audible_in n 3 i �
 
 -- what block i is made from, where the operator with feedback left these two samples
 abbrev pub patch_in : NoteData → ℕ → FeedbackState → Patch
-patch_in n i memory = record {
+patch_in n i feedback_state = record {
   algorithm = slice_index n.voice 134;
   feedback = slice_index n.voice 135;
   op = op_of (operators_in n i);
-  feedback_state = memory;
+  feedback_state = feedback_state;
 }
 
 -- the last two samples of the operator with feedback before block i

@@ -12,10 +12,13 @@ use Rattle.note_voice.specs.declared.operator.Operator.{Operator}
 use Rattle.note_voice.specs.declared.sounding.Sounding.{Sounding}
 use Rattle.note_voice.specs.declared.note.Note.{Note}
 use Rattle.note_voice.specs.Modulation.{Modulation, tremolo_weight}
-use Rattle.note_voice.specs.Note.{NoteData, envelope_settings, pitch_settings, increments_before, gain_before, feedback_state_before, played_note, pitch_shift_in, after_block}
+use Rattle.note_voice.specs.Note.{NoteData, envelope_settings, pitch_settings, increments_before, gain_before, feedback_state_before, played_note}
+use Rattle.note_voice.specs.Note.{pitch_shift_in, after_block}
 
--- What is kept of an operator stands for it: what changes from block to block, the pitch and the depth that the voice had at the start, and the phase increment where the pitch is moved by this shift.
-pub record IsRunning (phase gain : ℤ) (envelope : Envelope) (pitch : ℤ) (weight : ℕ) (increment shift : ℤ) (operator : ℕ) (n : NoteData) : Type 0 where
+-- What is kept of an operator stands for it: what changes from block to block, the pitch and the depth that the voice had at the start, and
+-- the phase increment where the pitch is moved by this shift.
+pub record IsRunning (phase gain : ℤ) (envelope : Envelope) (pitch : ℤ) (weight : ℕ) (increment shift : ℤ) (operator : ℕ)
+    (n : NoteData) : Type 0 where
   pub phase_is : phase ≡ wrap (pos 64 *ℤ increments_before n operator (length n.past))
   pub gain_is : gain ≡ gain_before n operator (length n.past)
   pub envelope_is : IsEnvelope envelope (envelope_settings n operator) (length n.past) n.off
@@ -31,7 +34,8 @@ abbrev pub AreOperators : List Operator → ℤ → NoteData → Type 0
 AreOperators os shift n = (k : ℕ) (d : Operator) → k < 6 → IsOperator (slice_index_or os k d) shift (k + 1) n
 
 -- what is kept of a note that sounds stands for it, but for the two samples that come back
-pub record IsSet (algorithm feedback depth sensitivity switch : ℕ) (operators : List Operator) (shift : ℤ) (pitch : PitchEnvelope) (n : NoteData) : Type 0 where
+pub record IsSet (algorithm feedback depth sensitivity switch : ℕ) (operators : List Operator) (shift : ℤ) (pitch : PitchEnvelope)
+    (n : NoteData) : Type 0 where
   pub algorithm_is : algorithm ≡ slice_index n.voice 134
   pub feedback_is : feedback ≡ slice_index n.voice 135
   pub depth_is : depth ≡ slice_index n.voice 139

@@ -1,6 +1,7 @@
 //! A note: six operators with their envelopes under an algorithm, block by block.
 #![tactic(auto)]
 
+mod known_gain;
 mod mix;
 mod modulation;
 mod note;

@@ -1,3 +1,4 @@
+//! The sum of notes.
 ghost use Rattle.std.specs.Prelude.{◌+◌, ◌^◌, ℕ, pos, slice_index_or};
 ghost use Rattle.note_voice.specs.Mix.{IsAdded, IsSmall};
 

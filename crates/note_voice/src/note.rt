@@ -1,3 +1,4 @@
+//! A note, idle or sounding.
 ghost use Rattle.std.specs.Prelude.{◌≡◌, ◌≤◌, ◌^◌, ◌+◌, ℕ, length, pos, neg_ℤ, ◌≤ℤ◌, unsigned_abs};
 ghost use Rattle.note_voice.specs.Mix.{IsAdded, IsSmall};
 ghost use Rattle.operator_kernel.specs.Operator.{feedback_state_of};
@@ -67,8 +68,11 @@ impl Note {
         requires bend { bend ≤ 16383 }
         requires wheel { wheel ≤ 127 }
         requires mix { IsSmall (2 ^ 40) mix.old }
-        ensures samples { (n : NoteData) → IsNote self.old (Some n) → IsAdded (note_sample (after_block n (record { lfo = lfo; delay = unsigned_abs delay; bend = bend; wheel = wheel })) (length n.past)) mix.old mix.new }
-        ensures passed { (n : NoteData) → IsNote self.old (Some n) → IsNote self.new (Some (after_block n (record { lfo = lfo; delay = unsigned_abs delay; bend = bend; wheel = wheel }))) }
+        ensures samples { (n : NoteData) → IsNote self.old (Some n) →
+            IsAdded (note_sample (after_block n (record { lfo = lfo; delay = unsigned_abs delay; bend = bend; wheel = wheel }))
+            (length n.past)) mix.old mix.new }
+        ensures passed { (n : NoteData) → IsNote self.old (Some n) →
+            IsNote self.new (Some (after_block n (record { lfo = lfo; delay = unsigned_abs delay; bend = bend; wheel = wheel }))) }
         ensures idle { IsNote self.old None → mix.new ≡ mix.old }
         ensures stays_idle { IsNote self.old None → IsNote self.new None }
         ensures small { (bound : ℕ) → IsSmall bound mix.old → IsSmall (bound + 2 ^ 31) mix.new }
@@ -96,8 +100,11 @@ impl Note {
         requires delay_high { delay ≤ℤ pos (2 ^ 24) }
         requires bend { bend ≤ 16383 }
         requires wheel { wheel ≤ 127 }
-        ensures block { (n : NoteData) → IsNote self.old (Some n) → block_patch result ≡ note_patch (after_block n (record { lfo = lfo; delay = unsigned_abs delay; bend = bend; wheel = wheel })) (length n.past) }
-        ensures begun { (n : NoteData) → IsNote self.old (Some n) → IsNoteBegun self.new (after_block n (record { lfo = lfo; delay = unsigned_abs delay; bend = bend; wheel = wheel })) }
+        ensures block { (n : NoteData) → IsNote self.old (Some n) →
+            block_patch result ≡ note_patch (after_block n (record { lfo = lfo; delay = unsigned_abs delay; bend = bend; wheel = wheel }))
+            (length n.past) }
+        ensures begun { (n : NoteData) → IsNote self.old (Some n) →
+            IsNoteBegun self.new (after_block n (record { lfo = lfo; delay = unsigned_abs delay; bend = bend; wheel = wheel })) }
         ensures silent { IsNote self.old None → (j : ℕ) → note_output (block_patch result) j ≡ pos 0 }
         ensures stays_idle { IsNote self.old None → IsNote self.new None }
     {
@@ -108,12 +115,13 @@ impl Note {
     }
 
     /// Ends a block that was run, with the two samples that it left.
-    pub fn end_block(&mut self, memory: [i32; 2])
-        ensures ended { (n : NoteData) → IsNoteBegun self.old n → feedback_state_of memory ≡ feedback_state_before n (length n.past) → IsNote self.new (Some n) }
+    pub fn end_block(&mut self, feedback_state: [i32; 2])
+        ensures ended { (n : NoteData) → IsNoteBegun self.old n → feedback_state_of feedback_state ≡ feedback_state_before n (length n.past) →
+            IsNote self.new (Some n) }
         ensures stays_idle { IsNote self.old None → IsNote self.new None }
     {
         if let Some(sounding) = &mut self.sounding {
-            sounding.end_block(memory);
+            sounding.end_block(feedback_state);
         }
     }
 }

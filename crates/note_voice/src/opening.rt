@@ -1,3 +1,4 @@
+//! The opening voice.
 ghost use Rattle.note_voice.specs.Opening.{OpeningIsPlain};
 
 /// A law, with nothing to compute: in a note of the opening voice operators 2 to 6 are silent, for every key, velocity, release

@@ -1,9 +1,11 @@
+//! One operator of a note: its envelope, its pitch and its gain, block by block.
 ghost use Rattle.std.specs.Prelude.{◌≡◌, ◌≤◌, ◌*◌, ◌^◌, ◌+◌, ℕ, ℤ, length, pos, neg_ℤ, ◌≤ℤ◌, ◌+ℤ◌};
 ghost use Rattle.dx_tables.specs.Powers.{frequency};
 ghost use Rattle.operator_kernel.specs.Operator.{HasGains};
 ghost use Rattle.note_voice.specs.Modulation.{Modulation, gain_of};
 ghost use Rattle.note_voice.specs.Note.{NoteData, begun, note_released, after_block, played_note, operator_in, pitch_shift_in};
 
+use crate::known_gain::KnownGain;
 use crate::modulation::{attenuation_of, tremolo_weight};
 use crate::settings;
 use block_rates::Envelope;
@@ -13,7 +15,8 @@ use operator_kernel::OpBlock;
 use voice_record::Voice;
 
 /// An operator of a note: its phase, its gain at the end of the last block, and its envelope; of the voice, from the start on, its pitch and
-/// how deep the LFO moves its gain; and the phase increment at the pitch of the last block.
+/// how deep the LFO moves its gain; the phase increment at the pitch of the last block, and the gain
+/// at the last level and attenuation.
 #[derive(Clone, Copy)]
 pub(crate) struct Operator {
     phase: i32,
@@ -22,6 +25,7 @@ pub(crate) struct Operator {
     pitch: i32,
     weight: u32,
     increment: i32,
+    known: KnownGain,
     ghost gain_from_zero: { pos 0 ≤ℤ gain },
     ghost gain_small: { gain ≤ℤ pos (2 ^ 26) },
     ghost pitch_from_zero: { pos 0 ≤ℤ pitch },
@@ -42,7 +46,7 @@ fn increment_at(tables: &Tables, pitch: i32, shift: i32) -> i32
 
 /// The gain at a level of the envelope that is lowered by an attenuation.
 #[tactic(auto, unfolding(crate::specs::Modulation::gain_of))]
-fn gain(tables: &Tables, level: i32, attenuation: i32) -> i32
+pub(crate) fn gain(tables: &Tables, level: i32, attenuation: i32) -> i32
     requires level_low { pos 0 ≤ℤ level }
     requires level_high { level ≤ℤ pos 266338304 }
     requires attenuation_low { neg_ℤ (pos 509) ≤ℤ attenuation }
@@ -86,12 +90,14 @@ impl Operator {
             pitch,
             weight: tremolo_weight(voice, operator),
             increment: increment_at(tables, pitch, 0),
+            known: KnownGain::of(tables, 0, 0),
         }
     }
 
     /// The key is released: the envelope enters its last stage.
     pub(crate) fn release(&mut self)
-        ensures { (n : NoteData) (shift : ℤ) (operator : ℕ) → IsOperator self.old shift operator n → IsOperator self.new shift operator (note_released n) }
+        ensures { (n : NoteData) (shift : ℤ) (operator : ℕ) → IsOperator self.old shift operator n →
+            IsOperator self.new shift operator (note_released n) }
     {
         self.envelope.release();
     }
@@ -111,16 +117,21 @@ impl Operator {
         requires lfo_high { lfo ≤ℤ pos (2 ^ 24 + 64) }
         requires delay { delay ≤ 2 ^ 24 }
         ensures gains { HasGains result }
-        ensures block { (n : NoteData) (m : Modulation) (shift : ℤ) (operator : ℕ) → IsOperator self.old shift operator n → shift ≡ pitch_shift_in (after_block n m) (length n.past) → m.lfo ≡ lfo → m.delay ≡ delay → result ≡ operator_in (after_block n m) operator (length n.past) }
-        ensures passed { (n : NoteData) (m : Modulation) (shift : ℤ) (operator : ℕ) → IsOperator self.old shift operator n → shift ≡ pitch_shift_in (after_block n m) (length n.past) → m.lfo ≡ lfo → m.delay ≡ delay → IsOperator self.new shift operator (after_block n m) }
+        ensures block { (n : NoteData) (m : Modulation) (shift : ℤ) (operator : ℕ) → IsOperator self.old shift operator n →
+            shift ≡ pitch_shift_in (after_block n m) (length n.past) → m.lfo ≡ lfo → m.delay ≡ delay →
+            result ≡ operator_in (after_block n m) operator (length n.past) }
+        ensures passed { (n : NoteData) (m : Modulation) (shift : ℤ) (operator : ℕ) → IsOperator self.old shift operator n →
+            shift ≡ pitch_shift_in (after_block n m) (length n.past) → m.lfo ≡ lfo → m.delay ≡ delay →
+            IsOperator self.new shift operator (after_block n m) }
     {
         let attenuation = attenuation_of(self.weight, lfo, delay);
         let level = self.envelope.step();
+        self.known = self.known.moved(tables, level, attenuation);
         let op = OpBlock {
             phase: self.phase,
             freq: self.increment,
             g1: self.gain,
-            g2: gain(tables, level, attenuation),
+            g2: self.known.gain,
         };
         self.phase = op.phase.wrapping_add(op.freq.wrapping_mul(64));
         self.gain = op.g2;

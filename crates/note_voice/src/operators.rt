@@ -91,8 +91,10 @@ pub(crate) fn pass_all(
     requires lfo_high { lfo ≤ℤ pos (2 ^ 24 + 64) }
     requires delay { delay ≤ 2 ^ 24 }
     ensures gains { HaveGains result }
-    ensures blocks { (n : NoteData) (m : Modulation) (shift : ℤ) → IsModulated switch shift lfo delay n m → AreOperators operators.old shift n → result ≡ operators_in (after_block n m) (length n.past) }
-    ensures passed { (n : NoteData) (m : Modulation) (shift : ℤ) → IsModulated switch shift lfo delay n m → AreOperators operators.old shift n → AreOperators operators.new shift (after_block n m) }
+    ensures blocks { (n : NoteData) (m : Modulation) (shift : ℤ) → IsModulated switch shift lfo delay n m → AreOperators operators.old shift n →
+        result ≡ operators_in (after_block n m) (length n.past) }
+    ensures passed { (n : NoteData) (m : Modulation) (shift : ℤ) → IsModulated switch shift lfo delay n m → AreOperators operators.old shift n →
+        AreOperators operators.new shift (after_block n m) }
 {
     let mut ops = [OpBlock {
         phase: 0,

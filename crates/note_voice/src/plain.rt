@@ -225,7 +225,12 @@ fn sample(tables: &Tables, op: &PlainOperator, j: i32, input: i32) -> i32 {
 }
 
 /// The 64 samples of block `i`, where the operator with feedback left two samples.
-pub fn block(tables: &Tables, note: &PlainNote, i: u32, memory: &mut [i32; 2]) -> [i32; 64] {
+pub fn block(
+    tables: &Tables,
+    note: &PlainNote,
+    i: u32,
+    feedback_state: &mut [i32; 2],
+) -> [i32; 64] {
     let mut ops = [PlainOperator {
         phase: 0,
         step: 0,
@@ -239,7 +244,7 @@ pub fn block(tables: &Tables, note: &PlainNote, i: u32, memory: &mut [i32; 2]) -
     let feedback = number(&note.voice, 135).clamp(0, 7) as u8;
     let mut out = [0i32; 64];
     for j in 0..64usize {
-        out[j] = sum(tables, &ops, algorithm, feedback, j as i32, memory);
+        out[j] = sum(tables, &ops, algorithm, feedback, j as i32, feedback_state);
     }
     out
 }
@@ -251,7 +256,7 @@ fn sum(
     algorithm: u8,
     feedback: u8,
     j: i32,
-    memory: &mut [i32; 2],
+    feedback_state: &mut [i32; 2],
 ) -> i32
     requires algorithm { algorithm ≤ 31 }
     requires feedback { feedback ≤ 7 }
@@ -268,13 +273,13 @@ fn sum(
         }
         let is_fed_back = feedback_operator(algorithm) == Some(o);
         if is_fed_back && 0 < feedback {
-            let both = i64::from(memory[0]).wrapping_add(i64::from(memory[1]));
+            let both = i64::from(feedback_state[0]).wrapping_add(i64::from(feedback_state[1]));
             input = i32::try_from(both >> (9 - feedback)).unwrap_or(0);
         }
         let y = sample(tables, &ops[o as usize], j, input);
         samples[o as usize] = y;
         if is_fed_back {
-            *memory = [memory[1], y];
+            *feedback_state = [feedback_state[1], y];
         }
         if is_carrier(algorithm, o) {
             after_block = after_block.wrapping_add(y);

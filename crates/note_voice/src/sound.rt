@@ -16,7 +16,7 @@ pub fn sound_alone(tables: &Tables, block: &mut NoteBlock, mix: &mut [i64; 64])
     requires { IsSmall (2 ^ 40) mix.old }
     ensures samples { IsAdded (note_output (block_patch block.old)) mix.old mix.new }
     ensures small { (bound : ℕ) → IsSmall bound mix.old → IsSmall (bound + 2 ^ 31) mix.new }
-    ensures memory { feedback_state_of block.new.feedback_state ≡ feedback_state_left (block_patch block.old) }
+    ensures feedback_state { feedback_state_of block.new.feedback_state ≡ feedback_state_left (block_patch block.old) }
 {
     if block.is_audible() {
         let mut bus = [0i32; 64];
@@ -44,15 +44,18 @@ pub fn sound_four(
     fourth: &mut NoteBlock,
     mix: &mut [i64; 64],
 )
-    requires algorithm { (second.old.algorithm ≡ first.old.algorithm) × (third.old.algorithm ≡ first.old.algorithm) × (fourth.old.algorithm ≡ first.old.algorithm) }
-    requires feedback { (second.old.feedback ≡ first.old.feedback) × (third.old.feedback ≡ first.old.feedback) × (fourth.old.feedback ≡ first.old.feedback) }
+    requires algorithm { (second.old.algorithm ≡ first.old.algorithm) × (third.old.algorithm ≡ first.old.algorithm)
+        × (fourth.old.algorithm ≡ first.old.algorithm) }
+    requires feedback { (second.old.feedback ≡ first.old.feedback) × (third.old.feedback ≡ first.old.feedback)
+        × (fourth.old.feedback ≡ first.old.feedback) }
     requires mix { IsSmall (2 ^ 39) mix.old }
-    ensures samples { IsAdded (λ j. note_output (block_patch first.old) j +ℤ note_output (block_patch second.old) j +ℤ note_output (block_patch third.old) j +ℤ note_output (block_patch fourth.old) j) mix.old mix.new }
+    ensures samples { IsAdded (λ j. note_output (block_patch first.old) j +ℤ note_output (block_patch second.old) j
+        +ℤ note_output (block_patch third.old) j +ℤ note_output (block_patch fourth.old) j) mix.old mix.new }
     ensures small { (bound : ℕ) → IsSmall bound mix.old → IsSmall (bound + 4 * 2 ^ 31) mix.new }
-    ensures memory0 { feedback_state_of first.new.feedback_state ≡ feedback_state_left (block_patch first.old) }
-    ensures memory1 { feedback_state_of second.new.feedback_state ≡ feedback_state_left (block_patch second.old) }
-    ensures memory2 { feedback_state_of third.new.feedback_state ≡ feedback_state_left (block_patch third.old) }
-    ensures memory3 { feedback_state_of fourth.new.feedback_state ≡ feedback_state_left (block_patch fourth.old) }
+    ensures feedback_state0 { feedback_state_of first.new.feedback_state ≡ feedback_state_left (block_patch first.old) }
+    ensures feedback_state1 { feedback_state_of second.new.feedback_state ≡ feedback_state_left (block_patch second.old) }
+    ensures feedback_state2 { feedback_state_of third.new.feedback_state ≡ feedback_state_left (block_patch third.old) }
+    ensures feedback_state3 { feedback_state_of fourth.new.feedback_state ≡ feedback_state_left (block_patch fourth.old) }
 {
     let mut out0 = room();
     let mut out1 = room();
@@ -80,21 +83,28 @@ pub fn sound_eight(
     eighth: &mut NoteBlock,
     mix: &mut [i64; 64],
 )
-    requires low_algorithm { (second.old.algorithm ≡ first.old.algorithm) × (third.old.algorithm ≡ first.old.algorithm) × (fourth.old.algorithm ≡ first.old.algorithm) }
-    requires high_algorithm { (fifth.old.algorithm ≡ first.old.algorithm) × (sixth.old.algorithm ≡ first.old.algorithm) × (seventh.old.algorithm ≡ first.old.algorithm) × (eighth.old.algorithm ≡ first.old.algorithm) }
-    requires low_feedback { (second.old.feedback ≡ first.old.feedback) × (third.old.feedback ≡ first.old.feedback) × (fourth.old.feedback ≡ first.old.feedback) }
-    requires high_feedback { (fifth.old.feedback ≡ first.old.feedback) × (sixth.old.feedback ≡ first.old.feedback) × (seventh.old.feedback ≡ first.old.feedback) × (eighth.old.feedback ≡ first.old.feedback) }
+    requires low_algorithm { (second.old.algorithm ≡ first.old.algorithm) × (third.old.algorithm ≡ first.old.algorithm)
+        × (fourth.old.algorithm ≡ first.old.algorithm) }
+    requires high_algorithm { (fifth.old.algorithm ≡ first.old.algorithm) × (sixth.old.algorithm ≡ first.old.algorithm)
+        × (seventh.old.algorithm ≡ first.old.algorithm) × (eighth.old.algorithm ≡ first.old.algorithm) }
+    requires low_feedback { (second.old.feedback ≡ first.old.feedback) × (third.old.feedback ≡ first.old.feedback)
+        × (fourth.old.feedback ≡ first.old.feedback) }
+    requires high_feedback { (fifth.old.feedback ≡ first.old.feedback) × (sixth.old.feedback ≡ first.old.feedback)
+        × (seventh.old.feedback ≡ first.old.feedback) × (eighth.old.feedback ≡ first.old.feedback) }
     requires mix { IsSmall (2 ^ 39) mix.old }
-    ensures samples { IsAdded (λ j. (note_output (block_patch first.old) j +ℤ note_output (block_patch second.old) j +ℤ note_output (block_patch third.old) j +ℤ note_output (block_patch fourth.old) j) +ℤ (note_output (block_patch fifth.old) j +ℤ note_output (block_patch sixth.old) j +ℤ note_output (block_patch seventh.old) j +ℤ note_output (block_patch eighth.old) j)) mix.old mix.new }
+    ensures samples { IsAdded (λ j. (note_output (block_patch first.old) j +ℤ note_output (block_patch second.old) j
+        +ℤ note_output (block_patch third.old) j +ℤ note_output (block_patch fourth.old) j)
+        +ℤ (note_output (block_patch fifth.old) j +ℤ note_output (block_patch sixth.old) j +ℤ note_output (block_patch seventh.old) j
+        +ℤ note_output (block_patch eighth.old) j)) mix.old mix.new }
     ensures small { (bound : ℕ) → IsSmall bound mix.old → IsSmall (bound + 8 * 2 ^ 31) mix.new }
-    ensures memory0 { feedback_state_of first.new.feedback_state ≡ feedback_state_left (block_patch first.old) }
-    ensures memory1 { feedback_state_of second.new.feedback_state ≡ feedback_state_left (block_patch second.old) }
-    ensures memory2 { feedback_state_of third.new.feedback_state ≡ feedback_state_left (block_patch third.old) }
-    ensures memory3 { feedback_state_of fourth.new.feedback_state ≡ feedback_state_left (block_patch fourth.old) }
-    ensures memory4 { feedback_state_of fifth.new.feedback_state ≡ feedback_state_left (block_patch fifth.old) }
-    ensures memory5 { feedback_state_of sixth.new.feedback_state ≡ feedback_state_left (block_patch sixth.old) }
-    ensures memory6 { feedback_state_of seventh.new.feedback_state ≡ feedback_state_left (block_patch seventh.old) }
-    ensures memory7 { feedback_state_of eighth.new.feedback_state ≡ feedback_state_left (block_patch eighth.old) }
+    ensures feedback_state0 { feedback_state_of first.new.feedback_state ≡ feedback_state_left (block_patch first.old) }
+    ensures feedback_state1 { feedback_state_of second.new.feedback_state ≡ feedback_state_left (block_patch second.old) }
+    ensures feedback_state2 { feedback_state_of third.new.feedback_state ≡ feedback_state_left (block_patch third.old) }
+    ensures feedback_state3 { feedback_state_of fourth.new.feedback_state ≡ feedback_state_left (block_patch fourth.old) }
+    ensures feedback_state4 { feedback_state_of fifth.new.feedback_state ≡ feedback_state_left (block_patch fifth.old) }
+    ensures feedback_state5 { feedback_state_of sixth.new.feedback_state ≡ feedback_state_left (block_patch sixth.old) }
+    ensures feedback_state6 { feedback_state_of seventh.new.feedback_state ≡ feedback_state_left (block_patch seventh.old) }
+    ensures feedback_state7 { feedback_state_of eighth.new.feedback_state ≡ feedback_state_left (block_patch eighth.old) }
 {
     let mut out0 = room();
     let mut out1 = room();

@@ -1,3 +1,4 @@
+//! A note that sounds.
 ghost use Rattle.std.specs.Prelude.{◌≡◌, ◌≤◌, ◌^◌, ◌+◌, ℕ, length, pos, neg_ℤ, ◌≤ℤ◌};
 ghost use Rattle.operator_kernel.specs.Operator.{feedback_state_of};
 ghost use Rattle.algorithm_bus.specs.NoteBlocks.{block_patch};
@@ -81,8 +82,10 @@ impl Sounding {
         requires delay { delay ≤ 2 ^ 24 }
         requires bend { bend ≤ 16383 }
         requires wheel { wheel ≤ 127 }
-        ensures block { (n : NoteData) → IsSounding self.old n → block_patch result ≡ note_patch (after_block n (record { lfo = lfo; delay = delay; bend = bend; wheel = wheel })) (length n.past) }
-        ensures begun { (n : NoteData) → IsSounding self.old n → IsUnended self.new (after_block n (record { lfo = lfo; delay = delay; bend = bend; wheel = wheel })) }
+        ensures block { (n : NoteData) → IsSounding self.old n →
+            block_patch result ≡ note_patch (after_block n (record { lfo = lfo; delay = delay; bend = bend; wheel = wheel })) (length n.past) }
+        ensures begun { (n : NoteData) → IsSounding self.old n →
+            IsUnended self.new (after_block n (record { lfo = lfo; delay = delay; bend = bend; wheel = wheel })) }
     {
         let level = self.pitch.step();
         let shift = pitch_modulation(self.depth, self.sensitivity, level, lfo, delay, bend, wheel);
@@ -98,9 +101,10 @@ impl Sounding {
     }
 
     /// Takes the two samples that come back, once the block was run.
-    pub(crate) fn end_block(&mut self, memory: [i32; 2])
-        ensures { (n : NoteData) → IsUnended self.old n → feedback_state_of memory ≡ feedback_state_before n (length n.past) → IsSounding self.new n }
+    pub(crate) fn end_block(&mut self, feedback_state: [i32; 2])
+        ensures { (n : NoteData) → IsUnended self.old n → feedback_state_of feedback_state ≡ feedback_state_before n (length n.past) →
+            IsSounding self.new n }
     {
-        self.feedback_state = memory;
+        self.feedback_state = feedback_state;
     }
 }

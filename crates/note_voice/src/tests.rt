@@ -1,3 +1,4 @@
+//! Tests: notes beside a plain program.
 ghost use Rattle.std.specs.Prelude.{◌≤◌, ◌<◌, ◌^◌};
 ghost use Rattle.note_voice.specs.Mix.{IsSmall};
 
@@ -32,7 +33,7 @@ fn compare(rt: &impl Abort, tables: &Tables, plain: &PlainNote) -> u32
         plain.key,
         plain.velocity,
     );
-    let mut memory = [0i32; 2];
+    let mut feedback_state = [0i32; 2];
     let mut sounding = 0u32;
     for i in 0..30u32 {
         if i == plain.off {
@@ -41,7 +42,7 @@ fn compare(rt: &impl Abort, tables: &Tables, plain: &PlainNote) -> u32
         let m = modulation(i);
         let mut mix = nothing();
         note.block(tables, m.lfo, m.delay as i32, m.bend, m.wheel, &mut mix);
-        let samples = block(tables, plain, i, &mut memory);
+        let samples = block(tables, plain, i, &mut feedback_state);
         for j in 0..64usize {
             assert_eq!(rt; mix[j], i64::from(samples[j]), "block {i} sample {j}");
             if mix[j] != 0 {

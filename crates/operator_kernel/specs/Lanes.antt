@@ -10,7 +10,8 @@ gain_lanes op j = gain_at op j ∷ gain_at op j ∷ gain_at op (j + 1) ∷ gain_
 
 -- the even lanes of two vectors
 abbrev pub multiplied_lanes : List ℤ → List ℤ → List ℤ
-multiplied_lanes low high = slice_index_or low 0 (pos 0) ∷ slice_index_or low 2 (pos 0) ∷ slice_index_or high 0 (pos 0) ∷ slice_index_or high 2 (pos 0) ∷ []
+multiplied_lanes low high = slice_index_or low 0 (pos 0) ∷ slice_index_or low 2 (pos 0) ∷ slice_index_or high 0 (pos 0)
+    ∷ slice_index_or high 2 (pos 0) ∷ []
 
 -- the phase of sample j without input
 abbrev pub phase_of : OpBlock → ℕ → ℤ

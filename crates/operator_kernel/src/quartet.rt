@@ -140,7 +140,8 @@ pub(crate) fn later(
     y: i32x4,
 ) -> Quartet
     requires gains { HasGains op0.now × HasGains op1.now × HasGains op2.now × HasGains op3.now }
-    ensures { (v : Four) (j : ℕ) → j < 64 → (v.op0 ≡ op0.now) × (v.op1 ≡ op1.now) × (v.op2 ≡ op2.now) × (v.op3 ≡ op3.now) → AreLive v → AreAt v j at → y ≡ fed_samples v j → AreAt v (j + 1) result }
+    ensures { (v : Four) (j : ℕ) → j < 64 → (v.op0 ≡ op0.now) × (v.op1 ≡ op1.now) × (v.op2 ≡ op2.now) × (v.op3 ≡ op3.now) → AreLive v →
+        AreAt v j at → y ≡ fed_samples v j → AreAt v (j + 1) result }
 {
     Quartet {
         phases: next_phases(op0, op1, op2, op3, at.phases),

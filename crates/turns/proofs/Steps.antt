@@ -121,7 +121,7 @@ player_none line k p h = record {
     past = tt;
     due = tt;
     late = h.refusals;
-    in_time = record { early = []; later = []; behind = []; sent_is = refl; blocks_is = refl; why = inl (refl, refl, from_zero (due_blocks p.left)) };
+    in_time = record { early = []; later = []; late_blocks = []; sent_is = refl; blocks_is = refl; why = inl (refl, refl, from_zero (due_blocks p.left)) };
   };
 }
 

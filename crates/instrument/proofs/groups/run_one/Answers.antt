@@ -12,7 +12,7 @@ returns-clause-run c = λ bs from r.
     let b = c.index-blocks-i.result in
     let at : (e : NoteBlock) → block_patch (get_or c.args.blocks.now i b) ≡ block_patch (get_or bs i e) = λ e. r.marked.same i b e c.requires.i c.requires.left in
     record {
-      marked = marked_next _ bs _ i _ r.marked c.requires.i (λ e. c.sound_alone.ensures.memory ∙ ap feedback_state_left (at e));
+      marked = marked_next _ bs _ i _ r.marked c.requires.i (λ e. c.sound_alone.ensures.feedback_state ∙ ap feedback_state_left (at e));
       added = λ y o. added_next _ _ _ (y i) _ _ _ (r.added y o) c.sound_alone.ensures.samples (λ j. ap (λ p. note_output p j) (at b) ∙ o i b c.requires.i j) (λ j. done_sum _ i y j r.marked.done_len c.requires.i c.requires.left);
     }
 

@@ -12,11 +12,11 @@ returns-clause-out1 c =
     let f = c.requires.low_feedback.0 in
     rw (a, f) c.run_eight_notes.ensures.out1
 
-pub returns-clause-memory1 : goal.returns-clause-memory1
-returns-clause-memory1 c =
+pub returns-clause-feedback_state1 : goal.returns-clause-feedback_state1
+returns-clause-feedback_state1 c =
     let a = c.requires.low_algorithm.0 in
     let f = c.requires.low_feedback.0 in
-    rw (a, f) c.run_eight_notes.ensures.memory1
+    rw (a, f) c.run_eight_notes.ensures.feedback_state1
 
 pub returns-clause-out2 : goal.returns-clause-out2
 returns-clause-out2 c =
@@ -24,11 +24,11 @@ returns-clause-out2 c =
     let f = c.requires.low_feedback.1 in
     rw (a, f) c.run_eight_notes.ensures.out2
 
-pub returns-clause-memory2 : goal.returns-clause-memory2
-returns-clause-memory2 c =
+pub returns-clause-feedback_state2 : goal.returns-clause-feedback_state2
+returns-clause-feedback_state2 c =
     let a = c.requires.low_algorithm.1 in
     let f = c.requires.low_feedback.1 in
-    rw (a, f) c.run_eight_notes.ensures.memory2
+    rw (a, f) c.run_eight_notes.ensures.feedback_state2
 
 pub returns-clause-out3 : goal.returns-clause-out3
 returns-clause-out3 c =
@@ -36,11 +36,11 @@ returns-clause-out3 c =
     let f = c.requires.low_feedback.2 in
     rw (a, f) c.run_eight_notes.ensures.out3
 
-pub returns-clause-memory3 : goal.returns-clause-memory3
-returns-clause-memory3 c =
+pub returns-clause-feedback_state3 : goal.returns-clause-feedback_state3
+returns-clause-feedback_state3 c =
     let a = c.requires.low_algorithm.2 in
     let f = c.requires.low_feedback.2 in
-    rw (a, f) c.run_eight_notes.ensures.memory3
+    rw (a, f) c.run_eight_notes.ensures.feedback_state3
 
 pub returns-clause-out4 : goal.returns-clause-out4
 returns-clause-out4 c =
@@ -48,11 +48,11 @@ returns-clause-out4 c =
     let f = c.requires.high_feedback.0 in
     rw (a, f) c.run_eight_notes.ensures.out4
 
-pub returns-clause-memory4 : goal.returns-clause-memory4
-returns-clause-memory4 c =
+pub returns-clause-feedback_state4 : goal.returns-clause-feedback_state4
+returns-clause-feedback_state4 c =
     let a = c.requires.high_algorithm.0 in
     let f = c.requires.high_feedback.0 in
-    rw (a, f) c.run_eight_notes.ensures.memory4
+    rw (a, f) c.run_eight_notes.ensures.feedback_state4
 
 pub returns-clause-out5 : goal.returns-clause-out5
 returns-clause-out5 c =
@@ -60,11 +60,11 @@ returns-clause-out5 c =
     let f = c.requires.high_feedback.1 in
     rw (a, f) c.run_eight_notes.ensures.out5
 
-pub returns-clause-memory5 : goal.returns-clause-memory5
-returns-clause-memory5 c =
+pub returns-clause-feedback_state5 : goal.returns-clause-feedback_state5
+returns-clause-feedback_state5 c =
     let a = c.requires.high_algorithm.1 in
     let f = c.requires.high_feedback.1 in
-    rw (a, f) c.run_eight_notes.ensures.memory5
+    rw (a, f) c.run_eight_notes.ensures.feedback_state5
 
 pub returns-clause-out6 : goal.returns-clause-out6
 returns-clause-out6 c =
@@ -72,11 +72,11 @@ returns-clause-out6 c =
     let f = c.requires.high_feedback.2 in
     rw (a, f) c.run_eight_notes.ensures.out6
 
-pub returns-clause-memory6 : goal.returns-clause-memory6
-returns-clause-memory6 c =
+pub returns-clause-feedback_state6 : goal.returns-clause-feedback_state6
+returns-clause-feedback_state6 c =
     let a = c.requires.high_algorithm.2 in
     let f = c.requires.high_feedback.2 in
-    rw (a, f) c.run_eight_notes.ensures.memory6
+    rw (a, f) c.run_eight_notes.ensures.feedback_state6
 
 pub returns-clause-out7 : goal.returns-clause-out7
 returns-clause-out7 c =
@@ -84,8 +84,8 @@ returns-clause-out7 c =
     let f = c.requires.high_feedback.3 in
     rw (a, f) c.run_eight_notes.ensures.out7
 
-pub returns-clause-memory7 : goal.returns-clause-memory7
-returns-clause-memory7 c =
+pub returns-clause-feedback_state7 : goal.returns-clause-feedback_state7
+returns-clause-feedback_state7 c =
     let a = c.requires.high_algorithm.3 in
     let f = c.requires.high_feedback.3 in
-    rw (a, f) c.run_eight_notes.ensures.memory7
+    rw (a, f) c.run_eight_notes.ensures.feedback_state7

@@ -9,11 +9,11 @@ returns-clause-out1 c =
     let f = c.requires.feedback.0 in
     rw (a, f) c.run_four_notes.ensures.out1
 
-pub returns-clause-memory1 : goal.returns-clause-memory1
-returns-clause-memory1 c =
+pub returns-clause-feedback_state1 : goal.returns-clause-feedback_state1
+returns-clause-feedback_state1 c =
     let a = c.requires.algorithm.0 in
     let f = c.requires.feedback.0 in
-    rw (a, f) c.run_four_notes.ensures.memory1
+    rw (a, f) c.run_four_notes.ensures.feedback_state1
 
 pub returns-clause-out2 : goal.returns-clause-out2
 returns-clause-out2 c =
@@ -21,11 +21,11 @@ returns-clause-out2 c =
     let f = c.requires.feedback.1 in
     rw (a, f) c.run_four_notes.ensures.out2
 
-pub returns-clause-memory2 : goal.returns-clause-memory2
-returns-clause-memory2 c =
+pub returns-clause-feedback_state2 : goal.returns-clause-feedback_state2
+returns-clause-feedback_state2 c =
     let a = c.requires.algorithm.1 in
     let f = c.requires.feedback.1 in
-    rw (a, f) c.run_four_notes.ensures.memory2
+    rw (a, f) c.run_four_notes.ensures.feedback_state2
 
 pub returns-clause-out3 : goal.returns-clause-out3
 returns-clause-out3 c =
@@ -33,8 +33,8 @@ returns-clause-out3 c =
     let f = c.requires.feedback.2 in
     rw (a, f) c.run_four_notes.ensures.out3
 
-pub returns-clause-memory3 : goal.returns-clause-memory3
-returns-clause-memory3 c =
+pub returns-clause-feedback_state3 : goal.returns-clause-feedback_state3
+returns-clause-feedback_state3 c =
     let a = c.requires.algorithm.2 in
     let f = c.requires.feedback.2 in
-    rw (a, f) c.run_four_notes.ensures.memory3
+    rw (a, f) c.run_four_notes.ensures.feedback_state3
