@@ -30,6 +30,4 @@ pub use top::tool_main;
 pub use words::Request;
 
 #[cfg(test)]
-mod one_byte;
-#[cfg(test)]
 mod tests;

@@ -2,12 +2,11 @@
 
 mod librarian;
 
-use crate::one_byte::OneByteShelf;
 use crate::{tool_main, tool_never_failing};
 use cartridge::Cartridge;
 use generator::script_text;
 use librarian::{cartridge_message, voice_message};
-use outside::{MemOut, MemShelf, SureShelf};
+use outside::{MemOut, MemShelf, OneByteShelf, SureShelf};
 use std::alloc::{AllocError, Global};
 use std::test::Fail;
 use sysex_frame::write_voice;
