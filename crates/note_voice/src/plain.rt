@@ -12,7 +12,7 @@ use voice_record::Voice;
 
 /// What moves a block.
 #[derive(Clone, Copy)]
-pub struct Moved {
+pub struct PlainModulation {
     pub lfo: i32,
     pub delay: u32,
     pub bend: u16,
@@ -21,7 +21,7 @@ pub struct Moved {
 
 /// What moves block `i`: the LFO in jumps over its whole range, the delay in growth, bend and wheel at their ends
 /// and between.
-pub fn modulation(i: u32) -> Moved
+pub fn modulation(i: u32) -> PlainModulation
     ensures lfo_low { neg_ℤ (pos 64) ≤ℤ result.lfo }
     ensures lfo_high { result.lfo ≤ℤ pos (2 ^ 24 + 64) }
     ensures delay { result.delay ≤ 2 ^ 24 }
@@ -29,7 +29,7 @@ pub fn modulation(i: u32) -> Moved
     ensures wheel { result.wheel ≤ 127 }
 {
     let hash = i.wrapping_mul(2_654_435_761) >> 4;
-    Moved {
+    PlainModulation {
         lfo: (hash % 16_777_345) as i32 - 64,
         delay: i.min(16) * 1_048_576,
         bend: (hash % 16_384) as u16,

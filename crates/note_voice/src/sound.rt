@@ -1,13 +1,13 @@
 //! Blocks of notes are run and added to a sum.
 
-ghost use Rattle.std.specs.Prelude.{◌≡◌, ◌+◌, ◌*◌, ◌^◌, ◌+ℤ◌, ℕ, length};
+ghost use Rattle.std.specs.Prelude.{◌≡◌, ◌+◌, ◌*◌, ◌^◌, ◌+ℤ◌, ℕ};
 ghost use Rattle.operator_kernel.specs.Operator.{feedback_state_of};
 ghost use Rattle.algorithm_bus.specs.Signals.{feedback_state_left, note_output};
 ghost use Rattle.algorithm_bus.specs.NoteBlocks.{block_patch};
 ghost use Rattle.note_voice.specs.Mix.{IsAdded, IsSmall};
 
 use crate::mix::add;
-use algorithm_bus::NoteBlock;
+use algorithm_bus::{NoteBlock, silence};
 use dx_tables::Tables;
 
 /// Runs a note's block and adds its samples to a sum of notes whose values are at most 2^40 in size. Where no carrier sounds
@@ -25,13 +25,6 @@ pub fn sound_alone(tables: &Tables, block: &mut NoteBlock, mix: &mut [i64; 64])
     } else {
         block.pass_inaudible(tables);
     }
-}
-
-/// Room for the samples of a block.
-fn room() -> [i32; 64]
-    ensures { length result ≡ 64 }
-{
-    [0; 64]
 }
 
 /// The same for four notes of one algorithm and feedback, whose operators with feedback run side by side; the values of the sum are at
@@ -57,10 +50,10 @@ pub fn sound_four(
     ensures feedback_state2 { feedback_state_of third.new.feedback_state ≡ feedback_state_left (block_patch third.old) }
     ensures feedback_state3 { feedback_state_of fourth.new.feedback_state ≡ feedback_state_left (block_patch fourth.old) }
 {
-    let mut out0 = room();
-    let mut out1 = room();
-    let mut out2 = room();
-    let mut out3 = room();
+    let mut out0 = silence();
+    let mut out1 = silence();
+    let mut out2 = silence();
+    let mut out3 = silence();
     NoteBlock::run_four(
         tables, first, second, third, fourth, &mut out0, &mut out1, &mut out2, &mut out3,
     );
@@ -106,14 +99,14 @@ pub fn sound_eight(
     ensures feedback_state6 { feedback_state_of seventh.new.feedback_state ≡ feedback_state_left (block_patch seventh.old) }
     ensures feedback_state7 { feedback_state_of eighth.new.feedback_state ≡ feedback_state_left (block_patch eighth.old) }
 {
-    let mut out0 = room();
-    let mut out1 = room();
-    let mut out2 = room();
-    let mut out3 = room();
-    let mut out4 = room();
-    let mut out5 = room();
-    let mut out6 = room();
-    let mut out7 = room();
+    let mut out0 = silence();
+    let mut out1 = silence();
+    let mut out2 = silence();
+    let mut out3 = silence();
+    let mut out4 = silence();
+    let mut out5 = silence();
+    let mut out6 = silence();
+    let mut out7 = silence();
     NoteBlock::run_eight(
         tables, first, second, third, fourth, fifth, sixth, seventh, eighth, &mut out0, &mut out1,
         &mut out2, &mut out3, &mut out4, &mut out5, &mut out6, &mut out7,

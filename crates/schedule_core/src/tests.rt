@@ -33,7 +33,7 @@ fn one_place(rt: HostRuntime) -> Result<(), Fail> {
     Ok(())
 }
 
-/// A step of the world and the plain core, by a random number. Is anything heard?
+/// A step of the world and the plain core, by a random number. Is anything audible?
 fn one_step(
     rt: &impl Abort,
     alloc: Global,
@@ -69,7 +69,7 @@ fn one_step(
     Ok(false)
 }
 
-/// A hundred steps by random numbers. In how many blocks is anything heard?
+/// A hundred steps by random numbers. In how many blocks is anything audible?
 fn one_schedule(
     rt: &impl Abort,
     alloc: Global,
@@ -81,29 +81,29 @@ fn one_schedule(
     ensures { OnOk result (length world.new.scripts ≡ 3) }
 {
     let mut random = seed;
-    let mut heard = 0u32;
+    let mut audible = 0u32;
     for turn in 0..100u32 {
         random = random
             .wrapping_mul(1_664_525)
             .wrapping_add(1_013_904_223 + turn);
         if one_step(rt, alloc, world, plain, random >> 8)? {
-            heard = heard.wrapping_add(1);
+            audible = audible.wrapping_add(1);
         }
     }
-    Ok(heard)
+    Ok(audible)
 }
 
 #[test]
 fn random_schedules(rt: HostRuntime) -> Result<(), Fail> {
     let alloc = rt.alloc();
-    let mut heard = 0u32;
+    let mut audible = 0u32;
     let mut refused = 0u32;
     for seed in 0..20u32 {
         let places = 1 + seed as usize % 4 * 12;
         let mut world = World::new(alloc, places, 3, Engine::One)?;
         let mut plain = PlainCore::new(alloc, places);
         let blocks = one_schedule(&rt, alloc, &mut world, &mut plain, seed)?;
-        heard = heard.wrapping_add(blocks);
+        audible = audible.wrapping_add(blocks);
         assert_eq!(rt; world.blocks(), plain.blocks);
         for script in 0..3u32 {
             assert_eq!(rt;
@@ -124,8 +124,8 @@ fn random_schedules(rt: HostRuntime) -> Result<(), Fail> {
         }
     }
     assert!(rt;
-        100 < heard && 30 < refused && refused < 60,
-        "{heard} {refused}"
+        100 < audible && 30 < refused && refused < 60,
+        "{audible} {refused}"
     );
     Ok(())
 }

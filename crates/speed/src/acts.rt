@@ -6,7 +6,7 @@ use editor::Editor;
 use std::alloc::{AllocError, Global};
 use voice_record::Voice;
 
-/// 10,000,032 acts at depth 100: runs of 64 changed fields, each with 24 acts undone and 8 of these redone behind it.
+/// 10,000,032 acts at depth 100: runs of 64 changed fields, each with 24 acts undone and 8 of these redone after it.
 pub fn edit_voice(alloc: Global) -> Result<u32, AllocError> {
     let mut editor = Editor::new(alloc, &Voice::init(), 100)?;
     let mut acts = 0u32;

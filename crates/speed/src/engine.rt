@@ -19,7 +19,7 @@ const INSTRUMENT_BLOCKS: u32 = 10_000;
 /// How many commands are applied.
 const COMMANDS: u32 = 1_000_000;
 
-/// One note of six operators, three of them carriers, and feedback. Where its key is let go at once it soon has died away.
+/// One note of six operators, three of them carriers, and feedback. Where its key is released at once it soon has died away.
 pub fn render_note(alloc: Global, is_let_go: bool) -> Result<i64, AllocError> {
     let tables = Tables::new(alloc)?;
     let mut voice = Voice::init();

@@ -4,7 +4,7 @@ use Rattle.std.specs.Prelude.{Option, option_map}
 use Rattle.outside.specs.Files.{said, SaidSome}
 use Rattle.outside.proofs.Shelves.{then_said}
 use Rattle.tool_core.specs.Pages.{Holds, FailsIn}
-use Rattle.fault_lines.proofs.Pieces.{some_behind, some_before}
+use Rattle.fault_lines.proofs.Pieces.{some_after, some_before}
 
 pub page_put : (o before now : Option (List ℕ)) (page put text : List ℕ) → put ≡ page → now ≡ option_map (said put) before
     → Holds o before page text → Holds o now [] text
@@ -18,7 +18,7 @@ pub page_failed : (o before now : Option (List ℕ)) (page put text : List ℕ) 
     → Holds o before page text → FailsIn text o now
 page_failed o before now page put text same some p =
     let part : (now ≡ before) ⊎ SaidSome page before now = subst (λ (l : List ℕ). (now ≡ before) ⊎ SaidSome l before now) same some in
-    subst (λ (t : List ℕ). FailsIn t o now) p.whole (some_behind o before now p.prefix page p.was_put part)
+    subst (λ (t : List ℕ). FailsIn t o now) p.whole (some_after o before now p.prefix page p.was_put part)
 
 pub line_added : (o now : Option (List ℕ)) (page more text line : List ℕ) → more ≡ page ++ line → Holds o now page text → Holds o now more (text ++ line)
 line_added o now page more text line is p = record {

@@ -1,3 +1,5 @@
+//! Scripts that are played beside each other through lines of few places.
+
 ghost use Rattle.std.specs.Prelude.{◌≡◌, ◌+◌, ◌≤◌, All, IfOk, length, map, sum};
 ghost use Rattle.lateness.specs.Late.{AllBelow};
 ghost use Rattle.script_plan.specs.Plan.{due_blocks};

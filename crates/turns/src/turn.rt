@@ -30,7 +30,7 @@ pub(crate) fn run_turn<R: Threads + Wait + Sync, G: Gate>(
     requires turns { (before : List PlayerView) × AfterTurns t line.now before renderer.old players.old }
     ensures turns { (before : List PlayerView) → AfterTurns t line.now before renderer.old players.old
         → AfterTurns (t + 1) line.now before renderer.new players.new }
-    ensures heard { wav_blocks renderer.new.journal t ≡ wav_blocks renderer.old.journal (t - 1) ++ block_before t samples.new }
+    ensures sounded { wav_blocks renderer.new.journal t ≡ wav_blocks renderer.old.journal (t - 1) ++ block_before t samples.new }
     ensures prefix { (take (length renderer.old.journal) renderer.new.journal ≡ renderer.old.journal)
         × (length renderer.old.journal ≤ length renderer.new.journal) }
     ensures live { IsLive renderer.new }
