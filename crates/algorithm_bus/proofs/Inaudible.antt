@@ -43,7 +43,7 @@ sum_alike chosen y y' (suc k) j h =
 pub record AreMuted (p q : Patch) (kept : ℕ → Bool) : Type 0 where
   pub algorithm_is : q.algorithm ≡ p.algorithm
   pub feedback_is : q.feedback ≡ p.feedback
-  pub memory_is : q.feedback_state ≡ p.feedback_state
+  pub feedback_state_is : q.feedback_state ≡ p.feedback_state
   pub op_is : (o : ℕ) → 1 ≤ o → o ≤ 6 → q.op o ≡ if_kept (kept o) (p.op o)
 
 still_silent : (t : Bool) (op : OpBlock) → silent op ≡ true → silent (if_kept t op) ≡ true
@@ -75,7 +75,7 @@ module _ (p q : Patch) (kept : ℕ → Bool) (m : AreMuted p q kept)
         | inr t ↦
             let same : q.op (6 - k) ≡ p.op (6 - k) = op ∙ ap (λ b. if_kept b (p.op (6 - k))) t in
             own_same q (6 - k) _ _ j (input_same p q kept k j m.algorithm_is (λ i l e. before i l (closed (6 - i) (6 - k) (omega arith) (omega arith) (omega arith) (omega arith) e t)))
-            ∙ own_kept p q (6 - k) _ j m.algorithm_is m.feedback_is m.memory_is same
+            ∙ own_kept p q (6 - k) _ j m.algorithm_is m.feedback_is m.feedback_state_is same
       ]
 
   -- what is heard of the operators that are silent or kept is as it was
@@ -183,7 +183,7 @@ few_output a ops few kept n le c m p ea eo j =
     (record {
       algorithm_is = refl;
       feedback_is = refl;
-      memory_is = refl;
+      feedback_state_is = refl;
       op_is = λ o low high. m.each (o - 1) (omega arith) ∙ ap (if_kept (is_kept kept o)) (sym (at o));
     })
     (λ o to a1 a2 a3 a4 e q. let e' : modulates a o to ≡ true = rw (← ea) e in cover o (c.modulators o to a1 a2 a3 a4 e' q))

@@ -51,7 +51,7 @@ IsUnended s n = IsSet s.algorithm s.feedback s.depth s.sensitivity s.switch s.op
 -- what is kept of a note that sounds stands for it
 pub record IsPlaying (s : Sounding) (n : NoteData) : Type 0 where
   pub set : IsUnended s n
-  pub memory_is : feedback_state_of s.feedback_state ≡ feedback_state_before n (length n.past)
+  pub feedback_state_is : feedback_state_of s.feedback_state ≡ feedback_state_before n (length n.past)
 
 abbrev pub IsSounding : Sounding → NoteData → Type 0
 IsSounding s n = IsPlaying s n

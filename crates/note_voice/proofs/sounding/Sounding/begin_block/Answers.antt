@@ -19,7 +19,7 @@ returns-clause-block c =
     λ n r.
     let s = shift_is n m _ _ _ _ r.set.depth_is r.set.sensitivity_is shift (c.step-level.ensures.value (pitch_settings n.voice) (length n.past) n.off r.set.pitch_is) in
     let moved : IsModulated c.args.self.now.switch c.pitch_modulation-shift.result c.args.lfo c.args.delay n m = record { switch_is = r.set.switch_is; shift_is = s; lfo_is = refl; delay_is = refl } in
-    patch_is n m _ _ _ c.args.self.now.feedback_state r.set.algorithm_is r.set.feedback_is (blocks n m _ moved (tuned n r.set.operators_are)) r.memory_is
+    patch_is n m _ _ _ c.args.self.now.feedback_state r.set.algorithm_is r.set.feedback_is (blocks n m _ moved (tuned n r.set.operators_are)) r.feedback_state_is
 
 pub returns-clause-begun : goal.returns-clause-begun
 returns-clause-begun c =

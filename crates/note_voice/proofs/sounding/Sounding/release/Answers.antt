@@ -14,5 +14,5 @@ returns c = λ n r. record {
     operators_are = c.release_all.ensures n _ r.set.operators_are;
     pitch_is = c.release.ensures (pitch_settings n.voice) (length n.past) n.off r.set.pitch_is;
   };
-  memory_is = state_released n c.args.self.now.feedback_state r.memory_is;
+  feedback_state_is = state_released n c.args.self.now.feedback_state r.feedback_state_is;
 }

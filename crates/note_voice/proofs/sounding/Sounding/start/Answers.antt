@@ -16,5 +16,5 @@ returns c =
         operators_are = c.start_all.ensures c.args.switch c.args.key (simp to_z-of_z c.played_note-note.ensures.value);
         pitch_is = pitch_begun _ _ _ _ c.pitch_rates.ensures.value c.pitch_levels.ensures.value c.new.ensures;
       };
-      memory_is = state_at_start _;
+      feedback_state_is = state_at_start _;
     }
