@@ -9,7 +9,7 @@ use Rattle.hex.proofs.HexLemmas.{decode_of-encode_lower, decode_sized-encode_low
 use Rattle.voice_record.specs.Voice.{IsVoice}
 use Rattle.cartridge.specs.Cartridge.{IsCartridge, PacksAll, voices_of}
 use Rattle.cartridge.proofs.Voices.{is_cartridge, packs_own}
-use Rattle.command_set.specs.Command.{CommandData, TakesVoice, TakesCartridge, IsInRange}
+use Rattle.command_set.specs.Command.{CommandData, LoadsVoice, LoadsCartridge, IsInRange}
 use Rattle.command_set.specs.Text.{packed}
 use Rattle.command_set.specs.Words.{words, AreWordsOf, AreWordsOfNone}
 use Rattle.command_set.proofs.Packs.{packs_all}
@@ -31,18 +31,18 @@ second_word : (a b : List (List ℕ)) → a ≡ b → get_or a 1 [] ≡ get_or b
 second_word a b e = ap (λ ws. get_or ws 1 []) e
 
 pub as_voice : (word : List ℕ) (d : CommandData) → IsInRange d → words d ≡ codes "voice" ∷ word ∷ []
-    → (voice : List ℕ) × (d ≡ TakesVoice voice) × IsVoice voice × (encode_lower voice ≡ word)
+    → (voice : List ℕ) × (d ≡ LoadsVoice voice) × IsVoice voice × (encode_lower voice ≡ word)
 as_voice word d r same =
-    let found = some_bytes TakesVoice (decode_of word) d (sym (voice_words word) ∙ sym (one_word (codes "voice") word) ∙ read_as _ d r same) in
-    let is : d ≡ TakesVoice found.0 = found.2 in
-    (found.0, is, subst IsInRange is r, second_word (words (TakesVoice found.0)) _ (subst (λ x. words x ≡ codes "voice" ∷ word ∷ []) is same))
+    let found = some_bytes LoadsVoice (decode_of word) d (sym (voice_words word) ∙ sym (one_word (codes "voice") word) ∙ read_as _ d r same) in
+    let is : d ≡ LoadsVoice found.0 = found.2 in
+    (found.0, is, subst IsInRange is r, second_word (words (LoadsVoice found.0)) _ (subst (λ x. words x ≡ codes "voice" ∷ word ∷ []) is same))
 
 pub as_cartridge : (word : List ℕ) (d : CommandData) → IsInRange d → words d ≡ codes "cartridge" ∷ word ∷ []
-    → (voices : List (List ℕ)) × (d ≡ TakesCartridge voices) × IsCartridge voices × (encode_lower (flat_map packed voices) ≡ word)
+    → (voices : List (List ℕ)) × (d ≡ LoadsCartridge voices) × IsCartridge voices × (encode_lower (flat_map packed voices) ≡ word)
 as_cartridge word d r same =
-    let found = some_bytes (λ bytes. TakesCartridge (voices_of bytes)) (decode_of word) d (sym (cartridge_words word) ∙ sym (one_word (codes "cartridge") word) ∙ read_as _ d r same) in
-    let is : d ≡ TakesCartridge (voices_of found.0) = found.2 in
-    (voices_of found.0, is, subst IsInRange is r, second_word (words (TakesCartridge (voices_of found.0))) _ (subst (λ x. words x ≡ codes "cartridge" ∷ word ∷ []) is same))
+    let found = some_bytes (λ bytes. LoadsCartridge (voices_of bytes)) (decode_of word) d (sym (cartridge_words word) ∙ sym (one_word (codes "cartridge") word) ∙ read_as _ d r same) in
+    let is : d ≡ LoadsCartridge (voices_of found.0) = found.2 in
+    (voices_of found.0, is, subst IsInRange is r, second_word (words (LoadsCartridge (voices_of found.0))) _ (subst (λ x. words x ≡ codes "cartridge" ∷ word ∷ []) is same))
 
 voice_decoded : (voice word : List ℕ) → IsVoice voice → encode_lower voice ≡ word → decode_sized word 155 ≡ Ok voice
 voice_decoded voice word v is = subst (λ w. decode_sized w 155 ≡ Ok voice) is (decode_sized-encode_lower voice 155 v.count (voice_bytes voice v))
@@ -100,7 +100,7 @@ no_digits word bytes count e failed b size is =
 
 -- voices
 
-pub voice_read : (word voice : List ℕ) → IsVoice voice → encode_lower voice ≡ word → AreWordsOf (codes "voice" ∷ word ∷ []) (TakesVoice voice)
+pub voice_read : (word voice : List ℕ) → IsVoice voice → encode_lower voice ≡ word → AreWordsOf (codes "voice" ∷ word ∷ []) (LoadsVoice voice)
 voice_read word voice v is = (v, ap (λ w. codes "voice" ∷ w ∷ []) is)
 
 -- a word that no 155 bytes have
@@ -118,7 +118,7 @@ other_voice word bytes voice only same differs d r e =
 -- cartridges
 
 pub cartridge_read : (word bytes : List ℕ) → PacksAll (voices_of bytes) bytes → encode_lower bytes ≡ word
-    → AreWordsOf (codes "cartridge" ∷ word ∷ []) (TakesCartridge (voices_of bytes))
+    → AreWordsOf (codes "cartridge" ∷ word ∷ []) (LoadsCartridge (voices_of bytes))
 cartridge_read word bytes p is =
     let h = is_cartridge (voices_of bytes) bytes p in
     (h, ap (λ w. codes "cartridge" ∷ w ∷ []) (ap (λ s. encode_lower s) (sym (payload_is (voices_of bytes) bytes h p)) ∙ is))

@@ -13,7 +13,7 @@ use Rattle.cartridge.proofs.Voices.{voices_are}
 use Rattle.plain_text.specs.Number.{number}
 use Rattle.plain_text.specs.Split.{split}
 use Rattle.plain_text.proofs.Numbers.{reads_decimal}
-use Rattle.command_set.specs.Command.{CommandData, StartsNote, EndsNote, Bends, Controls, PicksProgram, SetsNumber, StoresVoice, TakesVoice, TakesCartridge, IsInRange}
+use Rattle.command_set.specs.Command.{CommandData, StartsNote, EndsNote, Bends, Controls, PicksProgram, SetsNumber, StoresVoice, LoadsVoice, LoadsCartridge, IsInRange}
 use Rattle.command_set.specs.Text.{text, packed}
 use Rattle.command_set.specs.Unique.{TextsAreUnique}
 use Rattle.command_set.specs.Words.{words, AreWordsOf, AreWordsOfNone, store_of, two_bytes_of, two_of, three_bytes_of, three_of}
@@ -28,8 +28,8 @@ bytes_of f (Err e) = None
 -- a kind and one word
 unfoldable pub one_of : List ℕ → List ℕ → Option CommandData
 one_of kind word =
-    if bytes_eq kind (codes "voice") then bytes_of TakesVoice (decode_of word)
-    else if bytes_eq kind (codes "cartridge") then bytes_of (λ bytes. TakesCartridge (voices_of bytes)) (decode_of word)
+    if bytes_eq kind (codes "voice") then bytes_of LoadsVoice (decode_of word)
+    else if bytes_eq kind (codes "cartridge") then bytes_of (λ bytes. LoadsCartridge (voices_of bytes)) (decode_of word)
     else store_of kind word
 
 -- the command that the words write, whether it is in range or not
@@ -60,22 +60,22 @@ own_store : (slot : ℕ) → slot ≤ 255 → one_of (codes "store") (decimal sl
 unfolding one_of store_of
 own_store slot l = rw (reads_own 255 slot (omega arith) l) refl
 
-pub voice_words : (word : List ℕ) → one_of (codes "voice") word ≡ bytes_of TakesVoice (decode_of word)
+pub voice_words : (word : List ℕ) → one_of (codes "voice") word ≡ bytes_of LoadsVoice (decode_of word)
 unfolding one_of
 voice_words word = refl
 
-pub cartridge_words : (word : List ℕ) → one_of (codes "cartridge") word ≡ bytes_of (λ bytes. TakesCartridge (voices_of bytes)) (decode_of word)
+pub cartridge_words : (word : List ℕ) → one_of (codes "cartridge") word ≡ bytes_of (λ bytes. LoadsCartridge (voices_of bytes)) (decode_of word)
 unfolding one_of
 cartridge_words word = refl
 
-own_voice : (voice : List ℕ) → IsVoice voice → one_of (codes "voice") (encode_lower voice) ≡ Some (TakesVoice voice)
-own_voice voice v = voice_words (encode_lower voice) ∙ ap (bytes_of TakesVoice) (decode_of-encode_lower voice (voice_bytes voice v))
+own_voice : (voice : List ℕ) → IsVoice voice → one_of (codes "voice") (encode_lower voice) ≡ Some (LoadsVoice voice)
+own_voice voice v = voice_words (encode_lower voice) ∙ ap (bytes_of LoadsVoice) (decode_of-encode_lower voice (voice_bytes voice v))
 
-own_cartridge : (voices : List (List ℕ)) → IsCartridge voices → one_of (codes "cartridge") (encode_lower (flat_map packed voices)) ≡ Some (TakesCartridge voices)
+own_cartridge : (voices : List (List ℕ)) → IsCartridge voices → one_of (codes "cartridge") (encode_lower (flat_map packed voices)) ≡ Some (LoadsCartridge voices)
 own_cartridge voices h =
     cartridge_words (encode_lower (flat_map packed voices))
-    ∙ ap (bytes_of (λ bytes. TakesCartridge (voices_of bytes))) (decode_of-encode_lower (flat_map packed voices) (cartridge_bytes voices h))
-    ∙ ap (λ vs. Some (TakesCartridge vs)) (voices_are voices (flat_map packed voices) (packs_all voices h))
+    ∙ ap (bytes_of (λ bytes. LoadsCartridge (voices_of bytes))) (decode_of-encode_lower (flat_map packed voices) (cartridge_bytes voices h))
+    ∙ ap (λ vs. Some (LoadsCartridge vs)) (voices_are voices (flat_map packed voices) (packs_all voices h))
 
 reads : (d : CommandData) → IsInRange d → command_of (words d) ≡ Some d
 unfolding command_of three_bytes_of two_bytes_of
@@ -86,8 +86,8 @@ reads (Controls channel n value) (a, known, b) = own_three (codes "control") cha
 reads (PicksProgram channel n) (a, b) = own_two (codes "program") channel n refl (omega arith) (omega arith)
 reads (SetsNumber n value) (a, b) = own_two (codes "param") n value refl (omega arith) (omega (arith, greatest_small n (omega arith)))
 reads (StoresVoice slot) a = own_store slot (omega arith)
-reads (TakesVoice voice) v = own_voice voice v
-reads (TakesCartridge voices) h = own_cartridge voices h
+reads (LoadsVoice voice) v = own_voice voice v
+reads (LoadsCartridge voices) h = own_cartridge voices h
 
 pub read_as : (found : List (List ℕ)) (d : CommandData) → IsInRange d → words d ≡ found → command_of found ≡ Some d
 read_as found d r same = subst (λ ws. command_of ws ≡ Some d) same (reads d r)

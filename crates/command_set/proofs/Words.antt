@@ -13,7 +13,7 @@ use Rattle.voice_record.proofs.Voices.{greatest_small}
 use Rattle.cartridge.specs.Cartridge.{IsCartridge}
 use Rattle.cartridge.proofs.Voices.{all_data}
 use Rattle.plain_text.specs.Split.{split, spaced}
-use Rattle.command_set.specs.Command.{CommandData, StartsNote, EndsNote, Bends, Controls, PicksProgram, SetsNumber, StoresVoice, TakesVoice, TakesCartridge, IsKnownControl, IsInRange}
+use Rattle.command_set.specs.Command.{CommandData, StartsNote, EndsNote, Bends, Controls, PicksProgram, SetsNumber, StoresVoice, LoadsVoice, LoadsCartridge, IsKnownControl, IsInRange}
 use Rattle.command_set.specs.Text.{text, packed}
 use Rattle.command_set.specs.Words.{words}
 use Rattle.command_set.proofs.Packs.{packs_all}
@@ -81,6 +81,6 @@ parts_text (SetsNumber number value) (a, b) =
     parts_spaced _ _ (codes_whole 32 (codes "param") refl)
     (two_whole _ _ (number_whole number (omega arith)) (number_whole value (omega (arith, greatest_small number (omega arith)))))
 parts_text (StoresVoice slot) a = parts_spaced _ _ (codes_whole 32 (codes "store") refl) (one_whole _ (number_whole slot (omega arith)))
-parts_text (TakesVoice voice) v = parts_spaced _ _ (codes_whole 32 (codes "voice") refl) (one_whole _ (hex_whole 32 voice (omega arith) (voice_bytes voice v)))
-parts_text (TakesCartridge voices) h =
+parts_text (LoadsVoice voice) v = parts_spaced _ _ (codes_whole 32 (codes "voice") refl) (one_whole _ (hex_whole 32 voice (omega arith) (voice_bytes voice v)))
+parts_text (LoadsCartridge voices) h =
     parts_spaced _ _ (codes_whole 32 (codes "cartridge") refl) (one_whole _ (hex_whole 32 (flat_map packed voices) (omega arith) (cartridge_bytes voices h)))

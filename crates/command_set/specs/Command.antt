@@ -14,8 +14,8 @@ pub data CommandData : Type 0 where
   PicksProgram : ℕ → ℕ → CommandData
   SetsNumber : ℕ → ℕ → CommandData
   StoresVoice : ℕ → CommandData
-  TakesVoice : List ℕ → CommandData
-  TakesCartridge : List (List ℕ) → CommandData
+  LoadsVoice : List ℕ → CommandData
+  LoadsCartridge : List (List ℕ) → CommandData
 
 abbrev pub content : Command → CommandData
 content (NoteOn channel key velocity) = StartsNote channel key velocity
@@ -25,8 +25,8 @@ content (Control channel number value) = Controls channel number value
 content (Program channel number) = PicksProgram channel number
 content (Param number value) = SetsNumber number value
 content (Store slot) = StoresVoice slot
-content (Voice boxed) = TakesVoice boxed.value
-content (Cartridge boxed) = TakesCartridge boxed.value
+content (Voice boxed) = LoadsVoice boxed.value
+content (Cartridge boxed) = LoadsCartridge boxed.value
 
 -- the controls that act: modulation wheel, hold pedal, all notes off
 abbrev pub IsKnownControl : ℕ → Type 0
@@ -41,5 +41,5 @@ IsInRange (Controls channel number value) = (channel ≤ 15) × IsKnownControl n
 IsInRange (PicksProgram channel number) = (channel ≤ 15) × (number ≤ 127)
 IsInRange (SetsNumber number value) = (number ≤ 155) × (value ≤ greatest_value number)
 IsInRange (StoresVoice slot) = slot ≤ 31
-IsInRange (TakesVoice fields) = IsVoice fields
-IsInRange (TakesCartridge voices) = IsCartridge voices
+IsInRange (LoadsVoice fields) = IsVoice fields
+IsInRange (LoadsCartridge voices) = IsCartridge voices

@@ -14,7 +14,7 @@ use Rattle.midi_stream.specs.declared.message.MidiMessage.TheVariants.{NoteOff, 
 use Rattle.midi_stream.specs.declared.message.MidiMessage.TheVariants.{Bend, SysEx, SysExTooLong}
 use Rattle.velocity_map.specs.declared.curve.Curve.{Curve}
 use Rattle.velocity_map.specs.Curve.{curve_value}
-use Rattle.command_set.specs.Command.{CommandData, StartsNote, EndsNote, Bends, Controls, PicksProgram, SetsNumber, TakesVoice, TakesCartridge}
+use Rattle.command_set.specs.Command.{CommandData, StartsNote, EndsNote, Bends, Controls, PicksProgram, SetsNumber, LoadsVoice, LoadsCartridge}
 use Rattle.command_set.specs.declared.message.CommandFault.{CommandFault}
 use Rattle.command_set.specs.declared.message.CommandFault.TheVariants as faults
 
@@ -35,8 +35,8 @@ clamped_voice bytes = map (λ number. min (slice_index bytes number % 128) (grea
 
 -- what a message of the DX7 tells by what it holds
 abbrev pub told_by : Content → Told
-told_by (VoiceDump device payload) = Tells (TakesVoice (clamped_voice payload))
-told_by (CartridgeDump device payload) = Tells (TakesCartridge (voices_of payload))
+told_by (VoiceDump device payload) = Tells (LoadsVoice (clamped_voice payload))
+told_by (CartridgeDump device payload) = Tells (LoadsCartridge (voices_of payload))
 told_by (ParamChange device number value) = Tells (SetsNumber number value)
 told_by (OtherChange device group number) = PassedOver
 told_by (DumpRequest device) = PassedOver

@@ -5,7 +5,7 @@ use Rattle.hex.specs.Hex.{encode_lower}
 use Rattle.plain_text.specs.Split.{spaced}
 use Rattle.voice_record.specs.Packing.{row_of}
 use Rattle.command_set.specs.Command.{CommandData, StartsNote, EndsNote, Bends, Controls, PicksProgram, SetsNumber, StoresVoice}
-use Rattle.command_set.specs.Command.{TakesVoice, TakesCartridge}
+use Rattle.command_set.specs.Command.{LoadsVoice, LoadsCartridge}
 
 -- what a field of a voice adds to a packed byte
 abbrev pub share : List ℕ → ℕ → ℕ → ℕ
@@ -24,5 +24,5 @@ text (Controls channel number value) = spaced (codes "control") (decimal channel
 text (PicksProgram channel number) = spaced (codes "program") (decimal channel ∷ decimal number ∷ [])
 text (SetsNumber number value) = spaced (codes "param") (decimal number ∷ decimal value ∷ [])
 text (StoresVoice slot) = spaced (codes "store") (decimal slot ∷ [])
-text (TakesVoice voice) = spaced (codes "voice") (encode_lower voice ∷ [])
-text (TakesCartridge voices) = spaced (codes "cartridge") (encode_lower (flat_map packed voices) ∷ [])
+text (LoadsVoice voice) = spaced (codes "voice") (encode_lower voice ∷ [])
+text (LoadsCartridge voices) = spaced (codes "cartridge") (encode_lower (flat_map packed voices) ∷ [])

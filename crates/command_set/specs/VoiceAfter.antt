@@ -1,7 +1,7 @@
 -- What a command that edits makes of the voice.
 use Rattle.std.specs.Prelude.{ℕ, ◌≡◌, ◌==◌, if◌then◌else◌, List, [], ◌∷◌, slice_set}
 use Rattle.command_set.specs.Command.{CommandData, StartsNote, EndsNote, Bends, Controls, PicksProgram, SetsNumber, StoresVoice}
-use Rattle.command_set.specs.Command.{TakesVoice, TakesCartridge}
+use Rattle.command_set.specs.Command.{LoadsVoice, LoadsCartridge}
 
 -- The voice after a command that sets a number of it or replaces it whole. Number 155 is the operator switch, which is no number of the voice.
 -- Of the other commands only a program changes the voice, and it takes it from the cartridge.
@@ -13,8 +13,8 @@ voice_after voice (Controls channel number value) = voice
 voice_after voice (PicksProgram channel number) = voice
 voice_after voice (SetsNumber number value) = if number == 155 then voice else slice_set voice number value
 voice_after voice (StoresVoice slot) = voice
-voice_after voice (TakesVoice other) = other
-voice_after voice (TakesCartridge voices) = voice
+voice_after voice (LoadsVoice other) = other
+voice_after voice (LoadsCartridge voices) = voice
 
 -- the commands that edit: those that set a number, or take another voice
 abbrev pub IsEdit : CommandData → Type 0
@@ -25,8 +25,8 @@ IsEdit (Controls channel number value) = ⊥
 IsEdit (PicksProgram channel number) = ⊥
 IsEdit (SetsNumber number value) = Unit {0}
 IsEdit (StoresVoice slot) = ⊥
-IsEdit (TakesVoice other) = Unit {0}
-IsEdit (TakesCartridge voices) = ⊥
+IsEdit (LoadsVoice other) = Unit {0}
+IsEdit (LoadsCartridge voices) = ⊥
 
 -- the command edits, and turns the old voice into the new one
 pub record Turns (old : List ℕ) (command : CommandData) (new : List ℕ) : Type 0 where

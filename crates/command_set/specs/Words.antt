@@ -4,7 +4,7 @@ use Rattle.std.specs.List.{flat_map}
 use Rattle.hex.specs.Hex.{encode_lower}
 use Rattle.plain_text.specs.Number.{number}
 use Rattle.command_set.specs.Command.{CommandData, StartsNote, EndsNote, Bends, Controls, PicksProgram, SetsNumber, StoresVoice}
-use Rattle.command_set.specs.Command.{TakesVoice, TakesCartridge, IsInRange}
+use Rattle.command_set.specs.Command.{LoadsVoice, LoadsCartridge, IsInRange}
 use Rattle.command_set.specs.Text.{packed}
 
 -- the words of a command's text
@@ -16,8 +16,8 @@ words (Controls channel number value) = codes "control" ∷ decimal channel ∷ 
 words (PicksProgram channel number) = codes "program" ∷ decimal channel ∷ decimal number ∷ []
 words (SetsNumber number value) = codes "param" ∷ decimal number ∷ decimal value ∷ []
 words (StoresVoice slot) = codes "store" ∷ decimal slot ∷ []
-words (TakesVoice voice) = codes "voice" ∷ encode_lower voice ∷ []
-words (TakesCartridge voices) = codes "cartridge" ∷ encode_lower (flat_map packed voices) ∷ []
+words (LoadsVoice voice) = codes "voice" ∷ encode_lower voice ∷ []
+words (LoadsCartridge voices) = codes "cartridge" ∷ encode_lower (flat_map packed voices) ∷ []
 
 -- the words of a command in range
 abbrev pub AreWordsOf : List (List ℕ) → CommandData → Type 0

@@ -7,7 +7,7 @@ ghost use Rattle.sysex_frame.specs.Frame.{content_of};
 ghost use Rattle.sysex_frame.specs.FrameFault.{first_fault};
 ghost use Rattle.sysex_frame.specs.Reading.{reading};
 ghost use Rattle.cartridge.specs.Cartridge.{IsCartridge, voices_of};
-ghost use Rattle.command_set.specs.Command.{Controls, IsInRange, TakesCartridge, TakesVoice, content};
+ghost use Rattle.command_set.specs.Command.{Controls, IsInRange, LoadsCartridge, LoadsVoice, content};
 ghost use Rattle.command_set.specs.Message.{IsRefusal, IsSound, PassedOver, Tells, acts, clamped_voice, command_of, told, told_by};
 ghost use Rattle.command_set.specs.Message.{told_by_bytes, told_by_fault};
 ghost use Rattle.command_set.specs.declared.message.CommandFault.TheVariants.{Memory};
@@ -142,7 +142,7 @@ fn from_fault(fault: FrameFault) -> Result<Option<Command>, CommandFault>
 /// The voice of 155 bytes as they were sent.
 fn voice(alloc: Global, payload: &[u8]) -> Result<Option<Command>, CommandFault>
     requires { length payload.now ≡ 155 }
-    ensures command { IfOk result (λ found. option_map content found ≡ Some (TakesVoice (clamped_voice payload.now))) }
+    ensures command { IfOk result (λ found. option_map content found ≡ Some (LoadsVoice (clamped_voice payload.now))) }
     ensures refused { IfErr result (λ why. why ≡ Memory) }
     ensures range { IfOk result (λ found. IfSome found (λ command. IsInRange (content command))) }
 {
@@ -157,7 +157,7 @@ fn voice(alloc: Global, payload: &[u8]) -> Result<Option<Command>, CommandFault>
 /// The cartridge of 4096 packed bytes.
 fn cartridge(alloc: Global, payload: &[u8]) -> Result<Option<Command>, CommandFault>
     requires { length payload.now ≡ 4096 }
-    ensures command { IfOk result (λ found. option_map content found ≡ Some (TakesCartridge (voices_of payload.now))) }
+    ensures command { IfOk result (λ found. option_map content found ≡ Some (LoadsCartridge (voices_of payload.now))) }
     ensures refused { IfErr result (λ why. why ≡ Memory) }
     ensures range { IfOk result (λ found. IfSome found (λ command. IsInRange (content command))) }
 {
@@ -170,7 +170,7 @@ fn cartridge(alloc: Global, payload: &[u8]) -> Result<Option<Command>, CommandFa
 /// The command that takes a cartridge.
 fn boxed(alloc: Global, cartridge: Cartridge) -> Result<Option<Command>, CommandFault>
     requires { IsCartridge cartridge }
-    ensures command { IfOk result (λ found. option_map content found ≡ Some (TakesCartridge cartridge)) }
+    ensures command { IfOk result (λ found. option_map content found ≡ Some (LoadsCartridge cartridge)) }
     ensures refused { IfErr result (λ why. why ≡ Memory) }
     ensures range { IfOk result (λ found. IfSome found (λ command. IsInRange (content command))) }
 {

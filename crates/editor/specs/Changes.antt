@@ -1,7 +1,7 @@
 -- The kept changes, and the history that they and the present voice stand for.
 use Rattle.std.specs.Prelude.{ℕ, ◌≡◌, ◌+◌, ◌≤◌, List, [], ◌∷◌, length, slice_set}
 use Rattle.circular_buffer.specs.Buffer.{Buffer}
-use Rattle.command_set.specs.Command.{CommandData, SetsNumber, TakesVoice}
+use Rattle.command_set.specs.Command.{CommandData, SetsNumber, LoadsVoice}
 use Rattle.editor.specs.declared.change.Change.{Change}
 use Rattle.editor.specs.declared.change.Change.TheVariants.{Number, Whole}
 use Rattle.editor.specs.History.{Kind, OneNumber, WholeVoice, Left, left, History}
@@ -18,7 +18,7 @@ other_voice voice (Whole boxed) = boxed.value
 -- the command that makes the change
 abbrev pub command_of : Change → CommandData
 command_of (Number s) = SetsNumber s.number s.value
-command_of (Whole boxed) = TakesVoice boxed.value
+command_of (Whole boxed) = LoadsVoice boxed.value
 
 -- the voices that the editor had, each made from the one after it
 abbrev pub left_by : List ℕ → List Change → List Left

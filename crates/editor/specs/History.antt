@@ -1,6 +1,6 @@
 -- The editing history: the voice, what an act, an undo and a redo make of it, and the command that each answers.
 use Rattle.std.specs.Prelude.{ℕ, ◌≡◌, List, [], ◌∷◌, take, slice_index, Option, Some, None, option_map}
-use Rattle.command_set.specs.Command.{CommandData, SetsNumber, TakesVoice}
+use Rattle.command_set.specs.Command.{CommandData, SetsNumber, LoadsVoice}
 
 -- what an act changes: one number of the voice, or the whole voice
 pub data Kind : Type 0 where
@@ -38,7 +38,7 @@ acted h kind voice = record {
 -- the command that makes the voice what it has become: the number that was changed, or the whole voice
 abbrev pub answer : Kind → List ℕ → CommandData
 answer (OneNumber number) voice = SetsNumber number (slice_index voice number)
-answer WholeVoice voice = TakesVoice voice
+answer WholeVoice voice = LoadsVoice voice
 
 -- a step from one list to the other: the voice, the two lists, and the command that is answered
 pub record Step : Type 0 where

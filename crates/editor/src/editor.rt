@@ -2,7 +2,7 @@
 
 ghost use Rattle.std.specs.Prelude.{◌≡◌, ◌≤◌, ◌↔◌, ℕ, [], IsOk, None, IfOk, IfErr, OnOk, OnErr, IfSome, Some, ◌⊎◌, slice_set, ◌<◌};
 ghost use Rattle.voice_record.specs.Voice.{greatest_value};
-ghost use Rattle.command_set.specs.Command.{content, IsInRange, SetsNumber, TakesVoice};
+ghost use Rattle.command_set.specs.Command.{content, IsInRange, SetsNumber, LoadsVoice};
 ghost use Rattle.command_set.specs.VoiceAfter.{Turns};
 ghost use Rattle.editor.specs.History.{acted, begun, undone, redone, IsWholeNext, OneNumber, WholeVoice};
 ghost use Rattle.editor.specs.Names.{first_high, renamed};
@@ -90,7 +90,7 @@ impl Editor {
     /// Gives the voice another name, of ten bytes up to 127.
     pub fn rename(&mut self, alloc: Global, name: &[u8; 10]) -> Result<Command, EditFault>
         ensures acted { OnOk result (self.new ≡ acted self.old WholeVoice (renamed self.old.voice name.now)) }
-        ensures command { IfOk result (λ command. content command ≡ TakesVoice self.new.voice) }
+        ensures command { IfOk result (λ command. content command ≡ LoadsVoice self.new.voice) }
         ensures follows { IfOk result (λ command. Turns self.old.voice (content command) self.new.voice) }
         ensures range { IfOk result (λ command. IsInRange (content command)) }
         ensures high { (place : ℕ) → (result ≡ Err (EditFault.NameByte place)) ↔ (first_high name.now ≡ Some place) }
@@ -107,7 +107,7 @@ impl Editor {
     /// Takes another voice.
     pub fn load(&mut self, alloc: Global, voice: &Voice) -> Result<Command, EditFault>
         ensures acted { OnOk result (self.new ≡ acted self.old WholeVoice voice.now) }
-        ensures command { IfOk result (λ command. content command ≡ TakesVoice voice.now) }
+        ensures command { IfOk result (λ command. content command ≡ LoadsVoice voice.now) }
         ensures follows { IfOk result (λ command. Turns self.old.voice (content command) self.new.voice) }
         ensures range { IfOk result (λ command. IsInRange (content command)) }
         ensures refused { IfErr result (λ fault. fault ≡ EditFault.Memory) }
@@ -119,7 +119,7 @@ impl Editor {
     // The act of another voice.
     fn replace(&mut self, alloc: Global, voice: &Voice) -> Result<Command, AllocError>
         ensures acted { OnOk result (self.new ≡ acted self.old WholeVoice voice.now) }
-        ensures command { IfOk result (λ command. content command ≡ TakesVoice voice.now) }
+        ensures command { IfOk result (λ command. content command ≡ LoadsVoice voice.now) }
         ensures range { IfOk result (λ command. IsInRange (content command)) }
         ensures kept { OnErr result (self.new ≡ self.old) }
     {

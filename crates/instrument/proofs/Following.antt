@@ -1,7 +1,7 @@
 -- An instrument that takes only commands that edit has the voice that they make.
 use Rattle.std.proofs.Common.{ℕ, ◌≡◌, List, [], ◌∷◌, true, false, refl, ◌∙◌, cond}
 use Rattle.std.specs.Prelude.{◌==◌, Bool}
-use Rattle.command_set.specs.Command.{CommandData, StartsNote, EndsNote, Bends, Controls, PicksProgram, SetsNumber, StoresVoice, TakesVoice, TakesCartridge}
+use Rattle.command_set.specs.Command.{CommandData, StartsNote, EndsNote, Bends, Controls, PicksProgram, SetsNumber, StoresVoice, LoadsVoice, LoadsCartridge}
 use Rattle.command_set.specs.VoiceAfter.{voice_after, IsEdit, TurnsAll}
 use Rattle.instrument.specs.State.{State, apply}
 use Rattle.instrument.specs.Journal.{applied}
@@ -20,8 +20,8 @@ apply_voice s (Controls channel number value) e = absurd e
 apply_voice s (PicksProgram channel number) e = absurd e
 apply_voice s (SetsNumber number value) e = numbered_voice (number == 155) s value _
 apply_voice s (StoresVoice slot) e = absurd e
-apply_voice s (TakesVoice voice) e = refl
-apply_voice s (TakesCartridge voices) e = absurd e
+apply_voice s (LoadsVoice voice) e = refl
+apply_voice s (LoadsCartridge voices) e = absurd e
 
 -- an instrument that began with the voice of an editor and took only its commands has the voice of the editor
 pub applied_voice : (s : State) (cs : List CommandData) (new : List ℕ) → TurnsAll s.voice cs new → (applied s cs).voice ≡ new

@@ -15,7 +15,7 @@ use Rattle.instrument.specs.declared.slot.Key.TheVariants.{Up}
 
 -- what moves the notes in a block, as plain data
 abbrev pub modulation_of : BlockModulation → Modulation
-modulation_of m = record { lfo = m.lfo; delay = unsigned_abs m.delay; bend = m.bend; wheel = m.wheel }
+modulation_of m = record { lfo = m.lfo; lfo_depth = unsigned_abs m.lfo_depth; bend = m.bend; wheel = m.wheel }
 
 -- what is kept of an empty slot: an idle note, with its key up
 pub record IsEmpty (note : Note) (key_state : Key) : Type 0 where

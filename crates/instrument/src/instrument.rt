@@ -3,7 +3,7 @@
 ghost use Rattle.std.specs.Prelude.{◌≡◌, ◌<◌, ◌≤◌, ◌+◌, ◌%◌, ℕ, Option, IfOk, IfSome};
 ghost use Rattle.voice_record.specs.Voice.{greatest_value};
 ghost use Rattle.cartridge.specs.Cartridge.{voice_at};
-ghost use Rattle.command_set.specs.Command.{IsInRange, StartsNote, EndsNote, SetsNumber, StoresVoice, TakesCartridge, content};
+ghost use Rattle.command_set.specs.Command.{IsInRange, StartsNote, EndsNote, SetsNumber, StoresVoice, LoadsCartridge, content};
 ghost use Rattle.instrument.specs.State.{State, apply, controlled, free_slot, modulation, opening, passed, pedal, samples, voiced};
 
 use crate::mix::{empty_mix, output};
@@ -219,7 +219,7 @@ impl Instrument {
     /// Loads another cartridge. The voice stays.
     #[tactic(auto, unfolding(crate::specs::State::apply))]
     fn load_cartridge(&mut self, cartridge: &Cartridge)
-        ensures { (s : State) → IsIn self.old s → IsIn self.new (apply s (TakesCartridge cartridge.now)) }
+        ensures { (s : State) → IsIn self.old s → IsIn self.new (apply s (LoadsCartridge cartridge.now)) }
     {
         self.bank.assign(cartridge);
     }
@@ -251,10 +251,10 @@ impl Instrument {
         ensures value { (s : State) → IsIn self.old s → modulation_of result ≡ modulation s }
         ensures stepped { (s : State) → IsIn self.old s → IsIn self.new (record s { steps = s.steps + 1 }) }
     {
-        let (lfo, delay) = self.lfo.step(&self.tables);
+        let (lfo, lfo_depth) = self.lfo.step(&self.tables);
         BlockModulation {
             lfo,
-            delay,
+            lfo_depth,
             bend: self.bend,
             wheel: self.wheel,
         }

@@ -198,14 +198,14 @@ impl PlainInstrument {
 
     /// The 64 samples of the next block.
     pub fn block(&mut self, tables: &Tables) -> [i16; 64] {
-        let (lfo, delay) = self.lfo.step(tables);
+        let (lfo, lfo_depth) = self.lfo.step(tables);
         let bend = self.bend.min(16_383);
         let wheel = self.wheel.min(127);
         let mut sums = [0i64; 64];
         for place in 0..16usize {
             let mut alone = nothing();
             let note = &mut self.slots[place].note;
-            note.block(tables, lfo, delay, bend, wheel, &mut alone);
+            note.block(tables, lfo, lfo_depth, bend, wheel, &mut alone);
             for j in 0..64usize {
                 sums[j] = sums[j].wrapping_add(alone[j]);
             }

@@ -139,7 +139,7 @@ impl Slot {
         self.note.begin_block(
             tables,
             modulation.lfo,
-            modulation.delay,
+            modulation.lfo_depth,
             modulation.bend,
             modulation.wheel,
         )

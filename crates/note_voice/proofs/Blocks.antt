@@ -18,15 +18,15 @@ use Rattle.note_voice.proofs.Prefix.{agrees_released, agrees_after_block, state_
 use Rattle.note_voice.proofs.Steps.{length_more, modulation_last}
 
 -- what is added to the pitch of the next block
-pub shift_is : (n : NoteData) (m : Modulation) (depth sensitivity : ℕ) (level r : ℤ) → depth ≡ get_or n.voice 139 0 → sensitivity ≡ get_or n.voice 143 0 → r ≡ level +ℤ vibrato (vibrato_depth depth m.delay m.wheel) sensitivity m.lfo +ℤ bend_pitch m.bend → level ≡ pitch_envelope_level (pitch_settings n.voice) (length n.past + 1) n.off → r ≡ pitch_shift_in (after_block n m) (length n.past)
+pub shift_is : (n : NoteData) (m : Modulation) (depth sensitivity : ℕ) (level r : ℤ) → depth ≡ get_or n.voice 139 0 → sensitivity ≡ get_or n.voice 143 0 → r ≡ level +ℤ vibrato (vibrato_depth depth m.lfo_depth m.wheel) sensitivity m.lfo +ℤ bend_pitch m.bend → level ≡ pitch_envelope_level (pitch_settings n.voice) (length n.past + 1) n.off → r ≡ pitch_shift_in (after_block n m) (length n.past)
 unfolding pitch_shift_in
 shift_is n m depth sensitivity level r d v e l =
     e ∙ rw (d, v) refl ∙ ap (pitch_modulation n.voice m) l ∙ ap (λ x. pitch_modulation n.voice x (pitch_envelope_level (pitch_settings n.voice) (length n.past + 1) n.off)) (sym (modulation_last n m))
 
 -- an operator as it is heard in the next block
-pub heard_is : (switch : ℕ) (shift lfo : ℤ) (delay operator : ℕ) (n : NoteData) (m : Modulation) (op r : OpBlock) → IsModulated switch shift lfo delay n m → r ≡ cond (is_on switch operator) op (muted op) → op ≡ operator_in (after_block n m) operator (length n.past) → r ≡ audible_in (after_block n m) operator (length n.past)
+pub heard_is : (switch : ℕ) (shift lfo : ℤ) (lfo_depth operator : ℕ) (n : NoteData) (m : Modulation) (op r : OpBlock) → IsModulated switch shift lfo lfo_depth n m → r ≡ cond (is_on switch operator) op (muted op) → op ≡ operator_in (after_block n m) operator (length n.past) → r ≡ audible_in (after_block n m) operator (length n.past)
 unfolding audible_in
-heard_is switch shift lfo delay operator n m op r h e o = e ∙ rw (o, h.switch_is) refl
+heard_is switch shift lfo lfo_depth operator n m op r h e o = e ∙ rw (o, h.switch_is) refl
 
 -- the operators that a loop has gone through up to a place, and the others as before
 pub record ArePassedUpTo (i : ℕ) (shift shift' : ℤ) (n n' : NoteData) (os : List Operator) : Type 0 where

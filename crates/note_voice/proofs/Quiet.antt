@@ -163,17 +163,17 @@ off_in_opening (suc (suc (suc (suc (suc (suc zero)))))) lo hi = record { levels 
 off_in_opening (suc (suc (suc (suc (suc (suc (suc k))))))) lo hi = absurd (omega arith)
 
 -- with no depth there is no drop
-pub no_tremolo : (sensitivity delay : ℕ) (lfo : ℤ) → tremolo (tremolo_depth 0 sensitivity delay) lfo ≡ pos 0
+pub no_tremolo : (sensitivity lfo_depth : ℕ) (lfo : ℤ) → tremolo (tremolo_depth 0 sensitivity lfo_depth) lfo ≡ pos 0
 unfolding tremolo tremolo_depth
-no_tremolo sensitivity delay lfo =
-    let e : 0 * amplitude_sensitivity sensitivity * delay / 2 ^ 24 ≡ 0 = omega arith in
+no_tremolo sensitivity lfo_depth lfo =
+    let e : 0 * amplitude_sensitivity sensitivity * lfo_depth / 2 ^ 24 ≡ 0 = omega arith in
     rw (e, zero_times) refl
 
 -- with no depth and no wheel there is no vibrato
-pub no_vibrato : (delay sensitivity : ℕ) (lfo : ℤ) → vibrato (vibrato_depth 0 delay 0) sensitivity lfo ≡ pos 0
+pub no_vibrato : (lfo_depth sensitivity : ℕ) (lfo : ℤ) → vibrato (vibrato_depth 0 lfo_depth 0) sensitivity lfo ≡ pos 0
 unfolding vibrato vibrato_depth
-no_vibrato delay sensitivity lfo =
-    let e : max (0 * delay) 0 ≡ 0 = omega arith in
+no_vibrato lfo_depth sensitivity lfo =
+    let e : max (0 * lfo_depth) 0 ≡ 0 = omega arith in
     rw (e, zero_times (pos (pitch_sensitivity sensitivity)), zero_times) refl
 
 pub no_bend : bend_pitch 8192 ≡ pos 0

@@ -70,9 +70,9 @@ unfolding increment_in
 increment_is phase gain e pitch weight increment shift operator n m r s = r.increment_is ∙ rw (r.pitch_is, s) refl
 
 -- how far the level of an operator is attenuated in the next block
-pub attenuation_is : (weight : ℕ) (lfo : ℤ) (delay operator : ℕ) (n : NoteData) (m : Modulation) (r : ℤ) → weight ≡ tremolo_weight n.voice operator → m.lfo ≡ lfo → m.delay ≡ delay → r ≡ tremolo (weight * delay / 2 ^ 24) lfo → r ≡ attenuation_in (after_block n m) operator (length n.past)
+pub attenuation_is : (weight : ℕ) (lfo : ℤ) (lfo_depth operator : ℕ) (n : NoteData) (m : Modulation) (r : ℤ) → weight ≡ tremolo_weight n.voice operator → m.lfo ≡ lfo → m.lfo_depth ≡ lfo_depth → r ≡ tremolo (weight * lfo_depth / 2 ^ 24) lfo → r ≡ attenuation_in (after_block n m) operator (length n.past)
 unfolding attenuation_in tremolo_depth
-attenuation_is weight lfo delay operator n m r w l d e = e ∙ rw (w, ← l, ← d) refl ∙ ap (attenuation_of n.voice operator) (sym (modulation_last n m))
+attenuation_is weight lfo lfo_depth operator n m r w l d e = e ∙ rw (w, ← l, ← d) refl ∙ ap (attenuation_of n.voice operator) (sym (modulation_last n m))
 
 pub running_released : (phase gain : ℤ) (e e' : Envelope) (pitch : ℤ) (weight : ℕ) (increment shift : ℤ) (operator : ℕ) (n : NoteData) → IsRunning phase gain e pitch weight increment shift operator n → IsEnvelope e' (envelope_settings n operator) (length n.past) (released_after (length n.past) n.off) → IsRunning phase gain e' pitch weight increment shift operator (note_released n)
 unfolding envelope_settings

@@ -5,10 +5,10 @@ use Rattle.dx_tables.specs.Constants.{pitch_sensitivity, amplitude_sensitivity}
 use Rattle.dx_tables.specs.Powers.{exponential}
 use Rattle.key_scale.specs.Operator.{operator_field}
 
--- the LFO's value and how far its delay has gone, 2 ^ 24 for the whole, the pitch bend, 8192 for none, and the wheel
+-- the LFO's value and its depth, 2 ^ 24 for the whole, the pitch bend, 8192 for none, and the wheel
 pub record Modulation : Type 0 where
   pub lfo : ℤ
-  pub delay : ℕ
+  pub lfo_depth : ℕ
   pub bend : ℕ
   pub wheel : ℕ
 
@@ -16,9 +16,9 @@ pub record Modulation : Type 0 where
 abbrev pub depth_part : ℕ → ℕ
 depth_part setting = 165 * setting / 2 ^ 6
 
--- how deep the LFO moves the pitch: as the voice has it once the delay is over, or as the wheel has it, whichever is deeper
+-- how deep the LFO moves the pitch: as the voice has it once the LFO's delay is over, or as the wheel has it, whichever is deeper
 unfoldable pub vibrato_depth : ℕ → ℕ → ℕ → ℕ
-vibrato_depth setting delay wheel = max (depth_part setting * delay) (wheel * 2 ^ 25)
+vibrato_depth setting lfo_depth wheel = max (depth_part setting * lfo_depth) (wheel * 2 ^ 25)
 
 -- what the LFO adds to the pitch
 unfoldable pub vibrato : ℕ → ℕ → ℤ → ℤ
@@ -31,11 +31,11 @@ bend_pitch bend = (pos bend -ℤ pos 8192) *ℤ pos 512
 -- what is added to the pitch of all operators of a voice, where the pitch envelope is at this level
 abbrev pub pitch_modulation : List ℕ → Modulation → ℤ → ℤ
 pitch_modulation voice m level =
-    level +ℤ vibrato (vibrato_depth (slice_index voice 139) m.delay m.wheel) (slice_index voice 143) m.lfo +ℤ bend_pitch m.bend
+    level +ℤ vibrato (vibrato_depth (slice_index voice 139) m.lfo_depth m.wheel) (slice_index voice 143) m.lfo +ℤ bend_pitch m.bend
 
 -- how deep the LFO moves the gain, in parts of 2 ^ 16
 unfoldable pub tremolo_depth : ℕ → ℕ → ℕ → ℕ
-tremolo_depth setting sensitivity delay = depth_part setting * amplitude_sensitivity sensitivity * delay / 2 ^ 24
+tremolo_depth setting sensitivity lfo_depth = depth_part setting * amplitude_sensitivity sensitivity * lfo_depth / 2 ^ 24
 
 -- the same of an operator of a voice, once the LFO's delay is over
 abbrev pub tremolo_weight : List ℕ → ℕ → ℕ
@@ -47,7 +47,7 @@ tremolo depth lfo = int_shr (pos depth *ℤ (pos (2 ^ 24) -ℤ lfo)) 13
 
 -- how far the level of an operator of a voice is attenuated
 abbrev pub attenuation_of : List ℕ → ℕ → Modulation → ℤ
-attenuation_of voice operator m = tremolo (tremolo_depth (slice_index voice 140) (operator_field voice operator 14) m.delay) m.lfo
+attenuation_of voice operator m = tremolo (tremolo_depth (slice_index voice 140) (operator_field voice operator 14) m.lfo_depth) m.lfo
 
 -- the gain at a level of the envelope that is lowered by an attenuation; 14 octaves of level are a gain of 1.0
 unfoldable pub gain_of : ℤ → ℤ → ℤ

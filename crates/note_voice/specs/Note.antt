@@ -41,7 +41,7 @@ after_block n m = continued n n.off (n.past ++ m ∷ [])
 
 -- what moved the note in block i
 abbrev pub modulation_in : List Modulation → ℕ → Modulation
-modulation_in past i = slice_index_or past i (record { lfo = pos 0; delay = 0; bend = 0; wheel = 0 })
+modulation_in past i = slice_index_or past i (record { lfo = pos 0; lfo_depth = 0; bend = 0; wheel = 0 })
 
 -- the note that is played, by key and transpose
 abbrev pub played_note : List ℕ → ℕ → ℤ

@@ -75,8 +75,8 @@ abbrev pub IsNoteBegun : Note → NoteData → Type 0
 IsNoteBegun v n = IsBegun v.sounding n
 
 -- what a note is moved by in its next block: its switch, what is added to its pitch, and the LFO
-pub record IsModulated (switch : ℕ) (shift lfo : ℤ) (delay : ℕ) (n : NoteData) (m : Modulation) : Type 0 where
+pub record IsModulated (switch : ℕ) (shift lfo : ℤ) (lfo_depth : ℕ) (n : NoteData) (m : Modulation) : Type 0 where
   pub switch_is : switch ≡ n.switch
   pub shift_is : shift ≡ pitch_shift_in (after_block n m) (length n.past)
   pub lfo_is : m.lfo ≡ lfo
-  pub delay_is : m.delay ≡ delay
+  pub lfo_depth_is : m.lfo_depth ≡ lfo_depth

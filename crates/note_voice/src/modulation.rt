@@ -18,26 +18,26 @@ fn depth_part(setting: u8) -> u32
     (165 * u32::from(setting)) >> 6
 }
 
-/// A part of 256 of a delay.
-fn part_of_delay(part: u32, delay: u32) -> u64
+/// A part of 256 of the LFO's depth.
+fn part_of_depth(part: u32, lfo_depth: u32) -> u64
     requires part { part ≤ 255 }
-    requires delay { delay ≤ 2 ^ 24 }
-    ensures value { result ≡ part * delay }
+    requires lfo_depth { lfo_depth ≤ 2 ^ 24 }
+    ensures value { result ≡ part * lfo_depth }
     ensures high { result ≤ 255 * 2 ^ 24 }
 {
-    u64::from(part) * u64::from(delay)
+    u64::from(part) * u64::from(lfo_depth)
 }
 
 /// How deep the LFO moves the pitch.
 #[tactic(auto, unfolding(crate::specs::Modulation::vibrato_depth))]
-fn vibrato_depth(setting: u8, delay: u32, wheel: u8) -> u64
+fn vibrato_depth(setting: u8, lfo_depth: u32, wheel: u8) -> u64
     requires setting { setting ≤ 99 }
-    requires delay { delay ≤ 2 ^ 24 }
+    requires lfo_depth { lfo_depth ≤ 2 ^ 24 }
     requires wheel { wheel ≤ 127 }
-    ensures value { result ≡ vibrato_depth setting delay wheel }
+    ensures value { result ≡ vibrato_depth setting lfo_depth wheel }
     ensures high { result ≤ 255 * 2 ^ 24 }
 {
-    part_of_delay(depth_part(setting), delay).max(u64::from(wheel) << 25)
+    part_of_depth(depth_part(setting), lfo_depth).max(u64::from(wheel) << 25)
 }
 
 /// A depth with a sensitivity.
@@ -110,7 +110,7 @@ pub(crate) fn pitch_modulation(
     sensitivity: u8,
     level: i32,
     lfo: i32,
-    delay: u32,
+    lfo_depth: u32,
     bend: u16,
     wheel: u8,
 ) -> i32
@@ -120,14 +120,14 @@ pub(crate) fn pitch_modulation(
     requires level_high { level ≤ℤ pos 67108864 }
     requires lfo_low { neg_ℤ (pos 64) ≤ℤ lfo }
     requires lfo_high { lfo ≤ℤ pos (2 ^ 24 + 64) }
-    requires delay { delay ≤ 2 ^ 24 }
+    requires lfo_depth { lfo_depth ≤ 2 ^ 24 }
     requires bend { bend ≤ 16383 }
     requires wheel { wheel ≤ 127 }
-    ensures value { result ≡ level +ℤ vibrato (vibrato_depth depth delay wheel) sensitivity lfo +ℤ bend_pitch bend }
+    ensures value { result ≡ level +ℤ vibrato (vibrato_depth depth lfo_depth wheel) sensitivity lfo +ℤ bend_pitch bend }
     ensures low { neg_ℤ (pos (2 ^ 27)) ≤ℤ result }
     ensures high { result ≤ℤ pos (2 ^ 27) }
 {
-    let depth = vibrato_depth(depth, delay, wheel);
+    let depth = vibrato_depth(depth, lfo_depth, wheel);
     let swing = vibrato(depth, sensitivity, lfo);
     level + swing + bend_pitch(bend)
 }
@@ -154,14 +154,14 @@ fn weighted_part(part: u32, sensitivity: u8) -> u32
     part * u32::from(sensitivity)
 }
 
-/// A weight by how far a delay has gone.
-fn delayed(weight: u32, delay: u32) -> u32
+/// A weight by how deep the LFO is.
+fn weight_at_depth(weight: u32, lfo_depth: u32) -> u32
     requires weight { weight ≤ 65025 }
-    requires delay { delay ≤ 2 ^ 24 }
-    ensures value { result ≡ weight * delay / 2 ^ 24 }
+    requires lfo_depth { lfo_depth ≤ 2 ^ 24 }
+    ensures value { result ≡ weight * lfo_depth / 2 ^ 24 }
     ensures high { result ≤ 65025 }
 {
-    ((u64::from(weight) * u64::from(delay)) >> 24) as u32
+    ((u64::from(weight) * u64::from(lfo_depth)) >> 24) as u32
 }
 
 /// How far the LFO is from its top.
@@ -201,14 +201,14 @@ fn tremolo(depth: u32, lfo: i32) -> i32
 }
 
 /// How far the level of an operator of this weight is attenuated. 2^24 is one octave of gain.
-pub(crate) fn attenuation_of(weight: u32, lfo: i32, delay: u32) -> i32
+pub(crate) fn attenuation_of(weight: u32, lfo: i32, lfo_depth: u32) -> i32
     requires weight { weight ≤ 65025 }
     requires lfo_low { neg_ℤ (pos 64) ≤ℤ lfo }
     requires lfo_high { lfo ≤ℤ pos (2 ^ 24 + 64) }
-    requires delay { delay ≤ 2 ^ 24 }
-    ensures value { result ≡ tremolo (weight * delay / 2 ^ 24) lfo }
+    requires lfo_depth { lfo_depth ≤ 2 ^ 24 }
+    ensures value { result ≡ tremolo (weight * lfo_depth / 2 ^ 24) lfo }
     ensures low { neg_ℤ (pos 509) ≤ℤ result }
     ensures high { result ≤ℤ pos (2 ^ 27) }
 {
-    tremolo(delayed(weight, delay), lfo)
+    tremolo(weight_at_depth(weight, lfo_depth), lfo)
 }

@@ -50,35 +50,35 @@ impl Note {
     }
 
     /// Adds the 64 samples of the next block, 2^24 for full scale of an operator, to a sum of notes whose values are at
-    /// most 2^40 in size. The LFO's value is -64 to 2^24 + 64 and its delay 0 to 2^24, the bend is 0 to 16383 with 8192 for
+    /// most 2^40 in size. The LFO's value is -64 to 2^24 + 64 and its depth 0 to 2^24, the bend is 0 to 16383 with 8192 for
     /// none, and the wheel is 0 to 127.
     pub fn block(
         &mut self,
         tables: &Tables,
         lfo: i32,
-        delay: i32,
+        lfo_depth: i32,
         bend: u16,
         wheel: u8,
         mix: &mut [i64; 64],
     )
         requires lfo_low { neg_ℤ (pos 64) ≤ℤ lfo }
         requires lfo_high { lfo ≤ℤ pos (2 ^ 24 + 64) }
-        requires delay_low { pos 0 ≤ℤ delay }
-        requires delay_high { delay ≤ℤ pos (2 ^ 24) }
+        requires lfo_depth_low { pos 0 ≤ℤ lfo_depth }
+        requires lfo_depth_high { lfo_depth ≤ℤ pos (2 ^ 24) }
         requires bend { bend ≤ 16383 }
         requires wheel { wheel ≤ 127 }
         requires mix { IsSmall (2 ^ 40) mix.old }
         ensures samples { (n : NoteData) → IsNote self.old (Some n) →
-            IsAdded (note_sample (after_block n (record { lfo = lfo; delay = unsigned_abs delay; bend = bend; wheel = wheel }))
+            IsAdded (note_sample (after_block n (record { lfo = lfo; lfo_depth = unsigned_abs lfo_depth; bend = bend; wheel = wheel }))
             (length n.past)) mix.old mix.new }
         ensures passed { (n : NoteData) → IsNote self.old (Some n) →
-            IsNote self.new (Some (after_block n (record { lfo = lfo; delay = unsigned_abs delay; bend = bend; wheel = wheel }))) }
+            IsNote self.new (Some (after_block n (record { lfo = lfo; lfo_depth = unsigned_abs lfo_depth; bend = bend; wheel = wheel }))) }
         ensures idle { IsNote self.old None → mix.new ≡ mix.old }
         ensures stays_idle { IsNote self.old None → IsNote self.new None }
         ensures small { (bound : ℕ) → IsSmall bound mix.old → IsSmall (bound + 2 ^ 31) mix.new }
     {
         if let Some(sounding) = &mut self.sounding {
-            let mut block = sounding.begin_block(tables, lfo, delay as u32, bend, wheel);
+            let mut block = sounding.begin_block(tables, lfo, lfo_depth as u32, bend, wheel);
             sound_alone(tables, &mut block, mix);
             sounding.end_block(block.feedback_state);
         }
@@ -90,26 +90,26 @@ impl Note {
         &mut self,
         tables: &Tables,
         lfo: i32,
-        delay: i32,
+        lfo_depth: i32,
         bend: u16,
         wheel: u8,
     ) -> NoteBlock
         requires lfo_low { neg_ℤ (pos 64) ≤ℤ lfo }
         requires lfo_high { lfo ≤ℤ pos (2 ^ 24 + 64) }
-        requires delay_low { pos 0 ≤ℤ delay }
-        requires delay_high { delay ≤ℤ pos (2 ^ 24) }
+        requires lfo_depth_low { pos 0 ≤ℤ lfo_depth }
+        requires lfo_depth_high { lfo_depth ≤ℤ pos (2 ^ 24) }
         requires bend { bend ≤ 16383 }
         requires wheel { wheel ≤ 127 }
         ensures block { (n : NoteData) → IsNote self.old (Some n) →
-            block_patch result ≡ note_patch (after_block n (record { lfo = lfo; delay = unsigned_abs delay; bend = bend; wheel = wheel }))
+            block_patch result ≡ note_patch (after_block n (record { lfo = lfo; lfo_depth = unsigned_abs lfo_depth; bend = bend; wheel = wheel }))
             (length n.past) }
         ensures begun { (n : NoteData) → IsNote self.old (Some n) →
-            IsNoteBegun self.new (after_block n (record { lfo = lfo; delay = unsigned_abs delay; bend = bend; wheel = wheel })) }
+            IsNoteBegun self.new (after_block n (record { lfo = lfo; lfo_depth = unsigned_abs lfo_depth; bend = bend; wheel = wheel })) }
         ensures silent { IsNote self.old None → (j : ℕ) → note_output (block_patch result) j ≡ pos 0 }
         ensures stays_idle { IsNote self.old None → IsNote self.new None }
     {
         match &mut self.sounding {
-            Some(sounding) => sounding.begin_block(tables, lfo, delay as u32, bend, wheel),
+            Some(sounding) => sounding.begin_block(tables, lfo, lfo_depth as u32, bend, wheel),
             None => NoteBlock::silent(),
         }
     }

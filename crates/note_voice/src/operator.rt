@@ -112,19 +112,19 @@ impl Operator {
     }
 
     /// What the operator does in the next block, whose shift of the pitch it has taken. The block then has passed.
-    pub(crate) fn pass(&mut self, tables: &Tables, lfo: i32, delay: u32) -> OpBlock
+    pub(crate) fn pass(&mut self, tables: &Tables, lfo: i32, lfo_depth: u32) -> OpBlock
         requires lfo_low { neg_ℤ (pos 64) ≤ℤ lfo }
         requires lfo_high { lfo ≤ℤ pos (2 ^ 24 + 64) }
-        requires delay { delay ≤ 2 ^ 24 }
+        requires lfo_depth { lfo_depth ≤ 2 ^ 24 }
         ensures gains { HasGains result }
         ensures block { (n : NoteData) (m : Modulation) (shift : ℤ) (operator : ℕ) → IsOperator self.old shift operator n →
-            shift ≡ pitch_shift_in (after_block n m) (length n.past) → m.lfo ≡ lfo → m.delay ≡ delay →
+            shift ≡ pitch_shift_in (after_block n m) (length n.past) → m.lfo ≡ lfo → m.lfo_depth ≡ lfo_depth →
             result ≡ operator_in (after_block n m) operator (length n.past) }
         ensures passed { (n : NoteData) (m : Modulation) (shift : ℤ) (operator : ℕ) → IsOperator self.old shift operator n →
-            shift ≡ pitch_shift_in (after_block n m) (length n.past) → m.lfo ≡ lfo → m.delay ≡ delay →
+            shift ≡ pitch_shift_in (after_block n m) (length n.past) → m.lfo ≡ lfo → m.lfo_depth ≡ lfo_depth →
             IsOperator self.new shift operator (after_block n m) }
     {
-        let attenuation = attenuation_of(self.weight, lfo, delay);
+        let attenuation = attenuation_of(self.weight, lfo, lfo_depth);
         let level = self.envelope.step();
         self.known = self.known.moved(tables, level, attenuation);
         let op = OpBlock {

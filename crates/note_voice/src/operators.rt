@@ -85,15 +85,15 @@ pub(crate) fn pass_all(
     tables: &Tables,
     switch: u8,
     lfo: i32,
-    delay: u32,
+    lfo_depth: u32,
 ) -> [OpBlock; 6]
     requires lfo_low { neg_ℤ (pos 64) ≤ℤ lfo }
     requires lfo_high { lfo ≤ℤ pos (2 ^ 24 + 64) }
-    requires delay { delay ≤ 2 ^ 24 }
+    requires lfo_depth { lfo_depth ≤ 2 ^ 24 }
     ensures gains { HaveGains result }
-    ensures blocks { (n : NoteData) (m : Modulation) (shift : ℤ) → IsModulated switch shift lfo delay n m → AreOperators operators.old shift n →
+    ensures blocks { (n : NoteData) (m : Modulation) (shift : ℤ) → IsModulated switch shift lfo lfo_depth n m → AreOperators operators.old shift n →
         result ≡ operators_in (after_block n m) (length n.past) }
-    ensures passed { (n : NoteData) (m : Modulation) (shift : ℤ) → IsModulated switch shift lfo delay n m → AreOperators operators.old shift n →
+    ensures passed { (n : NoteData) (m : Modulation) (shift : ℤ) → IsModulated switch shift lfo lfo_depth n m → AreOperators operators.old shift n →
         AreOperators operators.new shift (after_block n m) }
 {
     let mut ops = [OpBlock {
@@ -103,7 +103,7 @@ pub(crate) fn pass_all(
         g2: 0,
     }; 6];
     for k in 0..6usize {
-        let op = operators[k].pass(tables, lfo, delay);
+        let op = operators[k].pass(tables, lfo, lfo_depth);
         ops[k] = if_on(switch, k as u8 + 1, op);
     }
     ops

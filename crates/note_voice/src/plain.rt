@@ -14,24 +14,24 @@ use voice_record::Voice;
 #[derive(Clone, Copy)]
 pub struct PlainModulation {
     pub lfo: i32,
-    pub delay: u32,
+    pub lfo_depth: u32,
     pub bend: u16,
     pub wheel: u8,
 }
 
-/// What moves block `i`: the LFO in jumps over its whole range, the delay in growth, bend and wheel at their ends
+/// What moves block `i`: the LFO in jumps over its whole range, its depth in growth, bend and wheel at their ends
 /// and between.
 pub fn modulation(i: u32) -> PlainModulation
     ensures lfo_low { neg_ℤ (pos 64) ≤ℤ result.lfo }
     ensures lfo_high { result.lfo ≤ℤ pos (2 ^ 24 + 64) }
-    ensures delay { result.delay ≤ 2 ^ 24 }
+    ensures lfo_depth { result.lfo_depth ≤ 2 ^ 24 }
     ensures bend { result.bend ≤ 16383 }
     ensures wheel { result.wheel ≤ 127 }
 {
     let hash = i.wrapping_mul(2_654_435_761) >> 4;
     PlainModulation {
         lfo: (hash % 16_777_345) as i32 - 64,
-        delay: i.min(16) * 1_048_576,
+        lfo_depth: i.min(16) * 1_048_576,
         bend: (hash % 16_384) as u16,
         wheel: if i % 3 == 0 { 0 } else { (hash % 128) as u8 },
     }
@@ -122,8 +122,8 @@ fn pitch_target(voice: &Voice, stage: usize) -> i64 {
 fn shift(note: &PlainNote, i: u32) -> i64 {
     let m = modulation(i);
     let depth = number(&note.voice, 139).wrapping_mul(165) >> 6;
-    let by_delay = depth.wrapping_mul(i64::from(m.delay));
-    let deepest = by_delay.max(i64::from(m.wheel).wrapping_mul(33_554_432));
+    let by_lfo_depth = depth.wrapping_mul(i64::from(m.lfo_depth));
+    let deepest = by_lfo_depth.max(i64::from(m.wheel).wrapping_mul(33_554_432));
     let sensitivity = number(&note.voice, 143).unsigned_abs() as usize % 8;
     let weight = deepest.wrapping_mul(i64::from(PITCH_SENSITIVITY[sensitivity]));
     let distance = i64::from(m.lfo).wrapping_sub(8_388_608);
@@ -140,9 +140,9 @@ fn attenuation(note: &PlainNote, operator: u8, i: u32) -> i64 {
     let place = first_place(operator).wrapping_add(14);
     let sensitivity = number(&note.voice, place).unsigned_abs() as usize % 4;
     let weight = depth.wrapping_mul(i64::from(AMPLITUDE_SENSITIVITY[sensitivity]));
-    let delayed = weight.wrapping_mul(i64::from(m.delay)) >> 24;
+    let weight_at_depth = weight.wrapping_mul(i64::from(m.lfo_depth)) >> 24;
     let distance = 16_777_216i64.wrapping_sub(i64::from(m.lfo));
-    delayed.wrapping_mul(distance) >> 13
+    weight_at_depth.wrapping_mul(distance) >> 13
 }
 
 fn first_place(operator: u8) -> usize {

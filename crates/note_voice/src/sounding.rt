@@ -73,25 +73,34 @@ impl Sounding {
         &mut self,
         tables: &Tables,
         lfo: i32,
-        delay: u32,
+        lfo_depth: u32,
         bend: u16,
         wheel: u8,
     ) -> NoteBlock
         requires lfo_low { neg_ℤ (pos 64) ≤ℤ lfo }
         requires lfo_high { lfo ≤ℤ pos (2 ^ 24 + 64) }
-        requires delay { delay ≤ 2 ^ 24 }
+        requires lfo_depth { lfo_depth ≤ 2 ^ 24 }
         requires bend { bend ≤ 16383 }
         requires wheel { wheel ≤ 127 }
         ensures block { (n : NoteData) → IsSounding self.old n →
-            block_patch result ≡ note_patch (after_block n (record { lfo = lfo; delay = delay; bend = bend; wheel = wheel })) (length n.past) }
+            block_patch result
+            ≡ note_patch (after_block n (record { lfo = lfo; lfo_depth = lfo_depth; bend = bend; wheel = wheel })) (length n.past) }
         ensures begun { (n : NoteData) → IsSounding self.old n →
-            IsUnended self.new (after_block n (record { lfo = lfo; delay = delay; bend = bend; wheel = wheel })) }
+            IsUnended self.new (after_block n (record { lfo = lfo; lfo_depth = lfo_depth; bend = bend; wheel = wheel })) }
     {
         let level = self.pitch.step();
-        let shift = pitch_modulation(self.depth, self.sensitivity, level, lfo, delay, bend, wheel);
+        let shift = pitch_modulation(
+            self.depth,
+            self.sensitivity,
+            level,
+            lfo,
+            lfo_depth,
+            bend,
+            wheel,
+        );
         tune_all(&mut self.operators, tables, self.shift, shift);
         self.shift = shift;
-        let ops = pass_all(&mut self.operators, tables, self.switch, lfo, delay);
+        let ops = pass_all(&mut self.operators, tables, self.switch, lfo, lfo_depth);
         NoteBlock {
             algorithm: self.algorithm,
             feedback: self.feedback,

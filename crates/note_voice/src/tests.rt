@@ -41,7 +41,7 @@ fn compare(rt: &impl Abort, tables: &Tables, plain: &PlainNote) -> u32
         }
         let m = modulation(i);
         let mut mix = nothing();
-        note.block(tables, m.lfo, m.delay as i32, m.bend, m.wheel, &mut mix);
+        note.block(tables, m.lfo, m.lfo_depth as i32, m.bend, m.wheel, &mut mix);
         let samples = block(tables, plain, i, &mut feedback_state);
         for j in 0..64usize {
             assert_eq!(rt; mix[j], i64::from(samples[j]), "block {i} sample {j}");

@@ -10,7 +10,7 @@ use Rattle.voice_record.specs.Voice.{IsVoice}
 use Rattle.voice_record.proofs.Voices.{clamped_is_voice, clamped_same}
 use Rattle.cartridge.specs.Cartridge.{IsCartridge, voices_of}
 use Rattle.cartridge.proofs.Voices.{voices_are}
-use Rattle.command_set.specs.Command.{CommandData, TakesVoice, TakesCartridge}
+use Rattle.command_set.specs.Command.{CommandData, LoadsVoice, LoadsCartridge}
 use Rattle.command_set.specs.Text.{packed}
 use Rattle.command_set.specs.Words.{AreWordsOf, AreWordsOfNone}
 use Rattle.command_set.specs.Message.{clamped_voice}
@@ -37,7 +37,7 @@ kept_lower word (Err x) bytes e = absurd (cc)
 
 -- ---- voices
 
-voice_own : (voice : List ℕ) → IsVoice voice → if_voice voice ≡ Some (TakesVoice voice)
+voice_own : (voice : List ℕ) → IsVoice voice → if_voice voice ≡ Some (LoadsVoice voice)
 voice_own voice v = rw (alike (clamped_voice voice) voice (clamped_same voice (clamped_voice voice) (clamped_clamps voice) v)) refl
 
 pub voice_found : (word : List ℕ) (d : CommandData) → AreWordsOf (codes "voice" ∷ word ∷ []) d → parsed_voice word ≡ Some d
@@ -47,10 +47,10 @@ voice_found word d parsed =
     let decoded : decode_of word ≡ Ok own.0 = subst (λ (w : List ℕ). decode_of w ≡ Ok own.0) own.3 (decode_of-encode_lower own.0 (voice_bytes own.0 own.2)) in
     ap (option_and_then if_voice) (lower_own word own.0 decoded own.3) ∙ voice_own own.0 own.2 ∙ ap Some (sym own.1)
 
-is_voice : (bytes : List ℕ) (d : CommandData) → if_voice bytes ≡ Some d → (d ≡ TakesVoice bytes) × IsVoice bytes
+is_voice : (bytes : List ℕ) (d : CommandData) → if_voice bytes ≡ Some d → (d ≡ LoadsVoice bytes) × IsVoice bytes
 is_voice bytes d e = by_test (bytes_eq (clamped_voice bytes) bytes) refl e
   where
-    by_test : (t : Bool) → bytes_eq (clamped_voice bytes) bytes ≡ t → (Rattle.std.specs.Prelude.cond t (Some (TakesVoice bytes)) None) ≡ Some d → (d ≡ TakesVoice bytes) × IsVoice bytes
+    by_test : (t : Bool) → bytes_eq (clamped_voice bytes) bytes ≡ t → (Rattle.std.specs.Prelude.cond t (Some (LoadsVoice bytes)) None) ≡ Some d → (d ≡ LoadsVoice bytes) × IsVoice bytes
     by_test true same e =
         let is : clamped_voice bytes ≡ bytes = (bytes_eq-Decides (clamped_voice bytes) bytes).0 same in
         (cc, subst IsVoice is (clamped_is_voice bytes (clamped_voice bytes) (clamped_clamps bytes)))
@@ -65,7 +65,7 @@ voice_missed word none = by_bytes (lower_bytes word) refl
     by_voice bytes is (Some d) e =
         let own = is_voice bytes d e in
         let read = voice_read word bytes own.1 is in
-        absurd (none (TakesVoice bytes) read.0 read.1)
+        absurd (none (LoadsVoice bytes) read.0 read.1)
 
     by_bytes : (o : Option (List ℕ)) → lower_bytes word ≡ o → option_and_then if_voice o ≡ None
     by_bytes None e = refl
@@ -73,7 +73,7 @@ voice_missed word none = by_bytes (lower_bytes word) refl
 
 -- ---- cartridges
 
-cartridge_own : (voices : List (List ℕ)) → IsCartridge voices → if_cartridge (flat_map packed voices) ≡ Some (TakesCartridge voices)
+cartridge_own : (voices : List (List ℕ)) → IsCartridge voices → if_cartridge (flat_map packed voices) ≡ Some (LoadsCartridge voices)
 cartridge_own voices h =
     let is : voices_of (flat_map packed voices) ≡ voices = voices_are voices (flat_map packed voices) (packs_all voices h) in
     rw (is, alike (flat_map packed voices) (flat_map packed voices) refl) refl
@@ -89,7 +89,7 @@ cartridge_found word d parsed =
 is_payload : (bytes : List ℕ) (d : CommandData) → if_cartridge bytes ≡ Some d → flat_map packed (voices_of bytes) ≡ bytes
 is_payload bytes d e = by_test (bytes_eq (flat_map packed (voices_of bytes)) bytes) refl e
   where
-    by_test : (t : Bool) → bytes_eq (flat_map packed (voices_of bytes)) bytes ≡ t → (Rattle.std.specs.Prelude.cond t (Some (TakesCartridge (voices_of bytes))) None) ≡ Some d → flat_map packed (voices_of bytes) ≡ bytes
+    by_test : (t : Bool) → bytes_eq (flat_map packed (voices_of bytes)) bytes ≡ t → (Rattle.std.specs.Prelude.cond t (Some (LoadsCartridge (voices_of bytes))) None) ≡ Some d → flat_map packed (voices_of bytes) ≡ bytes
     by_test true same e = (bytes_eq-Decides (flat_map packed (voices_of bytes)) bytes).0 same
     by_test false same e = absurd (cc)
 
@@ -101,7 +101,7 @@ cartridge_missed word none = by_bytes (lower_bytes word) refl
     by_cartridge bytes is None e = e
     by_cartridge bytes is (Some d) e =
         let same : flat_map packed (voices_of bytes) ≡ bytes = is_payload bytes d e in
-        absurd (none (TakesCartridge (voices_of bytes)) (voices_cartridge bytes) (ap (λ (xs : List ℕ). codes "cartridge" ∷ encode_lower xs ∷ []) same ∙ ap (λ (w : List ℕ). codes "cartridge" ∷ w ∷ []) is))
+        absurd (none (LoadsCartridge (voices_of bytes)) (voices_cartridge bytes) (ap (λ (xs : List ℕ). codes "cartridge" ∷ encode_lower xs ∷ []) same ∙ ap (λ (w : List ℕ). codes "cartridge" ∷ w ∷ []) is))
 
     by_bytes : (o : Option (List ℕ)) → lower_bytes word ≡ o → option_and_then if_cartridge o ≡ None
     by_bytes None e = refl

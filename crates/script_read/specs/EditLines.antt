@@ -3,7 +3,7 @@ use Rattle.std.specs.Prelude.{ℕ, ◌^◌, ◌-◌, ◌&&◌, Bool, nat_le, nat
 use Rattle.std.specs.Prelude.{replicate, Option, Some, None, option_map, option_and_then, if◌then◌else◌}
 use Rattle.std.specs.List.{list_all}
 use Rattle.command_set.specs.Command.{CommandData, StartsNote, EndsNote, Bends, Controls, PicksProgram, SetsNumber, StoresVoice}
-use Rattle.command_set.specs.Command.{TakesVoice, TakesCartridge}
+use Rattle.command_set.specs.Command.{LoadsVoice, LoadsCartridge}
 use Rattle.script_read.specs.Words.{number_to, text_after, words_of}
 use Rattle.script_read.specs.Grammar.{parsed_voice}
 use Rattle.script_read.specs.Lines.{is_comment}
@@ -50,8 +50,8 @@ voice_taken (Controls channel number value) = None
 voice_taken (PicksProgram channel number) = None
 voice_taken (SetsNumber number value) = None
 voice_taken (StoresVoice slot) = None
-voice_taken (TakesVoice voice) = Some voice
-voice_taken (TakesCartridge voices) = None
+voice_taken (LoadsVoice voice) = Some voice
+voice_taken (LoadsCartridge voices) = None
 
 -- a kind alone
 abbrev pub request_alone : List ℕ → Option Request

@@ -1,7 +1,7 @@
 -- What comes of the lines of an `edit 1` script: commands and faults, by the editing history before each line.
 use Rattle.std.specs.Prelude.{ℕ, ◌+◌, nat_le, List, [], ◌∷◌, ◌++◌, length, slice_set, Option, Some, None, if◌then◌else◌}
 use Rattle.voice_record.specs.Voice.{greatest_value, opening_voice}
-use Rattle.command_set.specs.Command.{CommandData, SetsNumber, StoresVoice, TakesVoice}
+use Rattle.command_set.specs.Command.{CommandData, SetsNumber, StoresVoice, LoadsVoice}
 use Rattle.script_plan.specs.Plan.{planned_at}
 use Rattle.editor.specs.History.{History, OneNumber, WholeVoice, acted, begun, redone, undone}
 use Rattle.editor.specs.Names.{renamed}
@@ -31,8 +31,8 @@ answered h (Sets number value) =
     else Refuses kind.Value
 answered h Undoes = stepped kind.Undo (undone h)
 answered h Redoes = stepped kind.Redo (redone h)
-answered h (Renames name) = Becomes (acted h WholeVoice (renamed h.voice name)) (TakesVoice (renamed h.voice name))
-answered h (Loads voice) = Becomes (acted h WholeVoice voice) (TakesVoice voice)
+answered h (Renames name) = Becomes (acted h WholeVoice (renamed h.voice name)) (LoadsVoice (renamed h.voice name))
+answered h (Loads voice) = Becomes (acted h WholeVoice voice) (LoadsVoice voice)
 answered h (Puts slot) = Becomes h (StoresVoice slot)
 
 -- a refusal changes nothing

@@ -7,7 +7,7 @@ use Rattle.hex.specs.declared.error.FromHexError.{FromHexError}
 use Rattle.voice_record.specs.Voice.{greatest_value}
 use Rattle.cartridge.specs.Cartridge.{voices_of}
 use Rattle.command_set.specs.Command.{CommandData, StartsNote, EndsNote, Bends, Controls, PicksProgram, SetsNumber, StoresVoice}
-use Rattle.command_set.specs.Command.{TakesVoice, TakesCartridge}
+use Rattle.command_set.specs.Command.{LoadsVoice, LoadsCartridge}
 use Rattle.command_set.specs.Text.{packed}
 use Rattle.command_set.specs.Message.{acts, clamped_voice}
 use Rattle.script_read.specs.Words.{number_to}
@@ -22,14 +22,14 @@ lower_bytes word = if_lower word (decode_of word)
 
 -- a voice: 155 numbers, none above its greatest value
 abbrev pub if_voice : List ℕ → Option CommandData
-if_voice bytes = if bytes_eq (clamped_voice bytes) bytes then Some (TakesVoice bytes) else None
+if_voice bytes = if bytes_eq (clamped_voice bytes) bytes then Some (LoadsVoice bytes) else None
 
 unfoldable pub parsed_voice : List ℕ → Option CommandData
 parsed_voice word = option_and_then if_voice (lower_bytes word)
 
 -- a cartridge: the packed bytes of 32 voices, which are those of no other
 abbrev pub if_cartridge : List ℕ → Option CommandData
-if_cartridge bytes = if bytes_eq (flat_map packed (voices_of bytes)) bytes then Some (TakesCartridge (voices_of bytes)) else None
+if_cartridge bytes = if bytes_eq (flat_map packed (voices_of bytes)) bytes then Some (LoadsCartridge (voices_of bytes)) else None
 
 unfoldable pub parsed_cartridge : List ℕ → Option CommandData
 parsed_cartridge word = option_and_then if_cartridge (lower_bytes word)

@@ -5,7 +5,7 @@ use Rattle.velocity_map.specs.declared.curve.Curve.{Curve}
 use Rattle.velocity_map.specs.declared.curve.Curve.TheVariants.{Linear}
 use Rattle.velocity_map.specs.Curve.{curve_value}
 use Rattle.command_set.specs.Command.{CommandData, StartsNote, EndsNote, Bends, Controls, PicksProgram, SetsNumber, StoresVoice}
-use Rattle.command_set.specs.Command.{TakesVoice, TakesCartridge}
+use Rattle.command_set.specs.Command.{LoadsVoice, LoadsCartridge}
 use Rattle.script_plan.specs.Plan.{planned_at}
 use Rattle.script_outcome.specs.declared.fault.Place.{Place}
 use Rattle.script_outcome.specs.declared.fault.Place.TheVariants as place
@@ -62,8 +62,8 @@ curved curve (Controls channel number value) = Controls channel number value
 curved curve (PicksProgram channel number) = PicksProgram channel number
 curved curve (SetsNumber number value) = SetsNumber number value
 curved curve (StoresVoice slot) = StoresVoice slot
-curved curve (TakesVoice voice) = TakesVoice voice
-curved curve (TakesCartridge voices) = TakesCartridge voices
+curved curve (LoadsVoice voice) = LoadsVoice voice
+curved curve (LoadsCartridge voices) = LoadsCartridge voices
 
 -- what is wrong with a line's block: it is below the block of a line before, or not one of the run's
 abbrev pub time_fault : Option ℕ → ℕ → ℕ → Option ScriptKind

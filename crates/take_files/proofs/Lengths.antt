@@ -8,7 +8,7 @@ use Rattle.hex.specs.Hex.{encode_lower, lower_digits}
 use Rattle.hex.proofs.HexLemmas.{length-encode_with}
 use Rattle.voice_record.proofs.Voices.{greatest_small}
 use Rattle.plain_text.specs.Split.{spaced}
-use Rattle.command_set.specs.Command.{CommandData, StartsNote, EndsNote, Bends, Controls, PicksProgram, SetsNumber, StoresVoice, TakesVoice, TakesCartridge, IsInRange}
+use Rattle.command_set.specs.Command.{CommandData, StartsNote, EndsNote, Bends, Controls, PicksProgram, SetsNumber, StoresVoice, LoadsVoice, LoadsCartridge, IsInRange}
 use Rattle.command_set.specs.Entries.{LoggedData}
 use Rattle.command_set.specs.Text.{text, packed, share}
 use Rattle.command_set.proofs.Words.{known_small}
@@ -58,11 +58,11 @@ text_short (SetsNumber number value) (a, b) =
     let h = two_short (codes "param") number value (omega arith) (omega arith) (omega (arith, greatest_small number (omega arith))) in omega (arith, h)
 text_short (StoresVoice slot) a =
     let h = one_short (codes "store") (decimal slot) 5 10 (omega arith) (number_short slot (omega arith)) in omega (arith, h)
-text_short (TakesVoice voice) v =
+text_short (LoadsVoice voice) v =
     let e = length-encode_with lower_digits voice in
     let h = one_short (codes "voice") (encode_lower voice) 5 310 (omega arith) (omega (arith, e, v.count)) in
     omega (arith, h)
-text_short (TakesCartridge voices) v =
+text_short (LoadsCartridge voices) v =
     let e = length-encode_with lower_digits (flat_map packed voices) in
     let h = one_short (codes "cartridge") (encode_lower (flat_map packed voices)) 9 8192 (omega arith) (omega (arith, e, cartridge_count voices, v.count)) in
     omega (arith, h)

@@ -1,6 +1,6 @@
 use Rattle.std.proofs.Common.{◌≡◌, ◌∙◌}
 use Rattle.cartridge.specs.Cartridge.{voices_of}
-use Rattle.command_set.specs.Command.{TakesCartridge}
+use Rattle.command_set.specs.Command.{LoadsCartridge}
 use Rattle.command_set.proofs.Hexed.{cartridge_read, no_cartridge, other_cartridge, never_both}
 use Rattle.command_set.proofs.read_bytes.read_cartridge.Goals as goal
 
@@ -15,7 +15,7 @@ returns-then-not-is_payload-clause-refused c =
 pub returns-in-Err-clause-memory : goal.returns-in-Err-clause-memory
 returns-in-Err-clause-memory c =
     λ e. (
-      TakesCartridge (voices_of c.decode_lower.new.into),
+      LoadsCartridge (voices_of c.decode_lower.new.into),
       cartridge_read c.args.word.now c.decode_lower.new.into (c.is_payload.ensures.0 c.if-not-is_payload.false) (c.decode_lower.ensures.decoded c.if-not-decode_lower.false),
     )
 
@@ -29,6 +29,6 @@ returns-in-Ok-new-clause-read c =
 pub returns-clause-memory : goal.returns-clause-memory
 returns-clause-memory c =
     λ e. (
-      TakesCartridge (voices_of c.decode_lower.new.into),
+      LoadsCartridge (voices_of c.decode_lower.new.into),
       cartridge_read c.args.word.now c.decode_lower.new.into (c.is_payload.ensures.0 c.if-not-is_payload.false) (c.decode_lower.ensures.decoded c.if-not-decode_lower.false),
     )

@@ -1,6 +1,6 @@
 use Rattle.std.proofs.Common.{◌≡◌, ◌≢◌, ◌∙◌, sym, ap}
 use Rattle.hex.specs.Hex.{encode_lower}
-use Rattle.command_set.specs.Command.{TakesVoice}
+use Rattle.command_set.specs.Command.{LoadsVoice}
 use Rattle.command_set.proofs.Hexed.{voice_read, no_voice, other_voice, ne_apart, ne_same}
 use Rattle.command_set.proofs.read_bytes.read_voice.Goals as goal
 
@@ -18,7 +18,7 @@ pub returns-in-Err-clause-memory : goal.returns-in-Err-clause-memory
 returns-in-Err-clause-memory c =
     λ e.
     let same : c.bytes.result ≡ c.decode_lower.new.into = ne_same c.ne.result c.bytes.result c.decode_lower.new.into c.ne.ensures c.if-ne.false in (
-      TakesVoice c.from_bytes-voice.result,
+      LoadsVoice c.from_bytes-voice.result,
       voice_read c.args.word.now c.from_bytes-voice.result c.from_bytes-voice.ensures.voice
           (ap (λ s. encode_lower s) (sym c.bytes.ensures.value ∙ same) ∙ c.decode_lower.ensures.decoded c.if-not-decode_lower.false),
     )

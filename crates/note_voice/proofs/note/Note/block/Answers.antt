@@ -9,8 +9,8 @@ use Rattle.note_voice.proofs.note.Note.block.Goals as goal
 pub returns-in-Some-clause-samples : goal.returns-in-Some-clause-samples
 returns-in-Some-clause-samples c =
     let fl = c.ranges.lfo in
-    let fd = c.ranges.delay in
-    let m : Modulation = record { lfo = c.args.lfo; delay = unsigned_abs c.args.delay; bend = c.args.bend; wheel = c.args.wheel } in
+    let fd = c.ranges.lfo_depth in
+    let m : Modulation = record { lfo = c.args.lfo; lfo_depth = unsigned_abs c.args.lfo_depth; bend = c.args.bend; wheel = c.args.wheel } in
     let made = simp to_z-of_z at c.begin_block-block.ensures.block in
     λ n r.
     let h = rw c.in-Some.is at r in
@@ -19,8 +19,8 @@ returns-in-Some-clause-samples c =
 pub returns-in-Some-clause-passed : goal.returns-in-Some-clause-passed
 returns-in-Some-clause-passed c =
     let fl = c.ranges.lfo in
-    let fd = c.ranges.delay in
-    let m : Modulation = record { lfo = c.args.lfo; delay = unsigned_abs c.args.delay; bend = c.args.bend; wheel = c.args.wheel } in
+    let fd = c.ranges.lfo_depth in
+    let m : Modulation = record { lfo = c.args.lfo; lfo_depth = unsigned_abs c.args.lfo_depth; bend = c.args.bend; wheel = c.args.wheel } in
     let made = simp to_z-of_z at c.begin_block-block.ensures.block in
     let begun = simp to_z-of_z at c.begin_block-block.ensures.begun in
     λ n r.

@@ -12,13 +12,13 @@ returns-clause-block c =
     let fs : SFits w32 c.pitch_modulation-shift.result = record { sfits = c.pitch_modulation-shift.type_inv } in
     let fb : SFits w32 c.args.self.now.shift = search rules in
     let fo = c.ranges.lfo in
-    let m : Modulation = record { lfo = c.args.lfo; delay = c.args.delay; bend = c.args.bend; wheel = c.args.wheel } in
+    let m : Modulation = record { lfo = c.args.lfo; lfo_depth = c.args.lfo_depth; bend = c.args.bend; wheel = c.args.wheel } in
     let shift = simp to_z-of_z at c.pitch_modulation-shift.ensures.value in
     let tuned = simp to_z-of_z at c.tune_all.ensures in
     let blocks = simp to_z-of_z at c.pass_all-ops.ensures.blocks in
     λ n r.
     let s = shift_is n m _ _ _ _ r.set.depth_is r.set.sensitivity_is shift (c.step-level.ensures.value (pitch_settings n.voice) (length n.past) n.off r.set.pitch_is) in
-    let moved : IsModulated c.args.self.now.switch c.pitch_modulation-shift.result c.args.lfo c.args.delay n m = record { switch_is = r.set.switch_is; shift_is = s; lfo_is = refl; delay_is = refl } in
+    let moved : IsModulated c.args.self.now.switch c.pitch_modulation-shift.result c.args.lfo c.args.lfo_depth n m = record { switch_is = r.set.switch_is; shift_is = s; lfo_is = refl; lfo_depth_is = refl } in
     patch_is n m _ _ _ c.args.self.now.feedback_state r.set.algorithm_is r.set.feedback_is (blocks n m _ moved (tuned n r.set.operators_are)) r.feedback_state_is
 
 pub returns-clause-begun : goal.returns-clause-begun
@@ -27,13 +27,13 @@ returns-clause-begun c =
     let fs : SFits w32 c.pitch_modulation-shift.result = record { sfits = c.pitch_modulation-shift.type_inv } in
     let fb : SFits w32 c.args.self.now.shift = search rules in
     let fo = c.ranges.lfo in
-    let m : Modulation = record { lfo = c.args.lfo; delay = c.args.delay; bend = c.args.bend; wheel = c.args.wheel } in
+    let m : Modulation = record { lfo = c.args.lfo; lfo_depth = c.args.lfo_depth; bend = c.args.bend; wheel = c.args.wheel } in
     let shift = simp to_z-of_z at c.pitch_modulation-shift.ensures.value in
     let tuned = simp to_z-of_z at c.tune_all.ensures in
     let passed = simp to_z-of_z at c.pass_all-ops.ensures.passed in
     λ n r.
     let s = shift_is n m _ _ _ _ r.set.depth_is r.set.sensitivity_is shift (c.step-level.ensures.value (pitch_settings n.voice) (length n.past) n.off r.set.pitch_is) in
-    let moved : IsModulated c.args.self.now.switch c.pitch_modulation-shift.result c.args.lfo c.args.delay n m = record { switch_is = r.set.switch_is; shift_is = s; lfo_is = refl; delay_is = refl } in
+    let moved : IsModulated c.args.self.now.switch c.pitch_modulation-shift.result c.args.lfo c.args.lfo_depth n m = record { switch_is = r.set.switch_is; shift_is = s; lfo_is = refl; lfo_depth_is = refl } in
     record {
       algorithm_is = r.set.algorithm_is;
       feedback_is = r.set.feedback_is;
