@@ -4,7 +4,7 @@ ghost use Rattle.lateness.specs.Late.{AllFrom, FirstBelow};
 ghost use Rattle.script_plan.specs.Plan.{due_blocks};
 ghost use Rattle.players.specs.Players.{PlayerView, IsReady, Stepped, Turned};
 
-use crate::due::{next_due, take_first};
+use crate::due::{next_due, pop_first};
 use command_queue::{Line, SendEnd};
 use outside::Gate;
 use script_plan::{Planned, Script};
@@ -105,7 +105,7 @@ impl Player {
         if !self.is_due(turn) {
             return Step::NotDue;
         }
-        let Some(planned) = take_first(&mut self.refused, &mut self.script) else {
+        let Some(planned) = pop_first(&mut self.refused, &mut self.script) else {
             return Step::NotDue;
         };
         let due = planned.due;

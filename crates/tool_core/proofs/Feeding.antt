@@ -12,9 +12,8 @@ use Rattle.take_files.specs.declared.read.OrderFault.TheVariants as fault
 use Rattle.take_files.specs.Chunks.{HasFed, Standing}
 use Rattle.tool_core.specs.declared.failure.Failure.{Failure}
 use Rattle.tool_core.specs.declared.failure.Failure.TheVariants as failure
-use Rattle.tool_core.specs.Verdicts.{TooLarge}
 use Rattle.tool_core.specs.Inputs.{AnOrder}
-use Rattle.tool_core.specs.Orders.{IsOrderVerdict, order_limit}
+use Rattle.tool_core.specs.Orders.{order_limit}
 use Rattle.tool_core.specs.Failures.{IsFault, IsReason}
 use Rattle.tool_core.specs.Endings.{IsOfBytes, IsReadFailure}
 use Rattle.tool_core.proofs.Meanings.{limit_reason}

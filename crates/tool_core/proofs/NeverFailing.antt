@@ -1,5 +1,5 @@
 -- What is left of a command's statuses where the shelf never fails.
-use Rattle.std.proofs.Common.{◌≡◌, ◌≢◌, ◌⊎◌, inl, inr, ℕ, List, [], ◌∷◌, refl, arith}
+use Rattle.std.proofs.Common.{◌≡◌, ◌≢◌, inl, inr, ℕ, List, [], ◌∷◌, refl, arith}
 use Rattle.std.specs.Prelude.{Option, Some, None, IfSome, ◌↔◌}
 use Rattle.outside.specs.Faults.{Rose}
 use Rattle.outside.specs.Snapshot.{snapshot}

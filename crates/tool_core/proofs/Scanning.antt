@@ -181,13 +181,13 @@ fault_taken old now ended text fault short is a b c d = λ messages e tells same
     (a ∙ ap (λ (p : ℕ). option_or old.bad (fault_at p (Some fault))) (tells.0)) (b ∙ sym (or_none old.long))
     (c ∙ sym (or_none old.voice)) (d ∙ sym (or_none old.cartridge))
 
-pub frame_taken : {T E : Type 0} (r : Result T E) (old now : Scan) (ended : Ended) (text : List ℕ) (held : Content) → ended.is_too_long ≡ false → IsFrame text held
+pub frame_scanned : {T E : Type 0} (r : Result T E) (old now : Scan) (ended : Ended) (text : List ℕ) (held : Content) → ended.is_too_long ≡ false → IsFrame text held
     → now.bad ≡ old.bad → now.long ≡ old.long
     → OnOk r (now.voice ≡ option_or old.voice (option_map clamped_voice (voice_bytes held)))
     → OnOk r (now.cartridge ≡ option_or old.cartridge (option_map voices_of (cartridge_bytes held)))
     → OnOk r (Takes old now ended text)
-frame_taken (Err x) old now ended text held short is a b c d = tt
-frame_taken (Ok x) old now ended text held short is a b c d = λ messages e tells same was.
+frame_scanned (Err x) old now ended text held short is a b c d = tt
+frame_scanned (Ok x) old now ended text held short is a b c d = λ messages e tells same was.
     let e_short : is_too_long e ≡ false = sym (tells.1) ∙ short in
     given_more old now messages e None None (option_map clamped_voice (voice_bytes held)) (option_map voices_of (cartridge_bytes held)) was
     (frame_gives e held e_short (subst (λ (t : List ℕ). IsFrame t held) (same e_short) is))

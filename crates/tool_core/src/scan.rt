@@ -171,7 +171,7 @@ fn scan_message(alloc: Global, scan: &mut Scan, ended: Ended, text: &[u8]) -> Re
         return Ok(());
     }
     match read_frame(text) {
-        Ok(frame) => take_frame(alloc, scan, frame),
+        Ok(frame) => scan_frame(alloc, scan, frame),
         Err(fault) => {
             scan.bad = scan.bad.or(refusal_of(ended.offset, fault));
             Ok(())
@@ -198,7 +198,7 @@ pub fn refusal_of(offset: u32, fault: FrameFault) -> Option<Refusal>
 }
 
 /// Takes a good message.
-fn take_frame(alloc: Global, scan: &mut Scan, frame: Frame<'_>) -> Result<(), AllocError>
+fn scan_frame(alloc: Global, scan: &mut Scan, frame: Frame<'_>) -> Result<(), AllocError>
     requires { HasSizes (content_of frame) }
     ensures bad { scan.new.bad ≡ scan.old.bad }
     ensures long { scan.new.long ≡ scan.old.long }

@@ -1,7 +1,7 @@
 use Rattle.std.proofs.Common.{◌∙◌, refl, ap}
 use Rattle.std.specs.Option.{option_or}
 use Rattle.sysex_frame.specs.Frame.{content_of}
-use Rattle.tool_core.proofs.Scanning.{long_taken, fault_taken, frame_taken}
+use Rattle.tool_core.proofs.Scanning.{long_taken, fault_taken, frame_scanned}
 use Rattle.tool_core.proofs.scan.scan_message.Goals as goal
 
 pub returns-then-ended : goal.returns-then-ended
@@ -9,8 +9,8 @@ returns-then-ended c = long_taken c.args.scan.now _ c.args.ended c.args.text.now
 
 pub returns-in-Ok : goal.returns-in-Ok
 returns-in-Ok c =
-    frame_taken c.take_frame.result c.args.scan.now c.take_frame.new.scan c.args.ended c.args.text.now (content_of c.in-Ok.frame) c.if-ended.false c.in-Ok.ensures.frame
-    c.take_frame.ensures.bad c.take_frame.ensures.long c.take_frame.ensures.voice c.take_frame.ensures.cartridge
+    frame_scanned c.scan_frame.result c.args.scan.now c.scan_frame.new.scan c.args.ended c.args.text.now (content_of c.in-Ok.frame) c.if-ended.false c.in-Ok.ensures.frame
+    c.scan_frame.ensures.bad c.scan_frame.ensures.long c.scan_frame.ensures.voice c.scan_frame.ensures.cartridge
 
 pub returns-in-Err : goal.returns-in-Err
 returns-in-Err c =
