@@ -56,35 +56,43 @@ all_blocks (l ∷ ls) all =
     let own : (l.entry.script == 0) ≡ true = eq-eqb l.entry.script 0 (omega arith) in
     rw own (ap (λ (bs : List ℕ). l.block ∷ bs) (all_blocks ls (All-tail (λ x. x.entry.script < 1) l ls all)))
 
--- a journal is known by its entries and their blocks
+-- equal lists have equal heads and tails
+first_or : {A : Type 0} → A → List A → A
+first_or d [] = d
+first_or d (z ∷ zs) = z
+
+rest_of : {A : Type 0} → List A → List A
+rest_of [] = []
+rest_of (z ∷ zs) = zs
+
 head_same : {A : Type 0} (x y : A) (xs ys : List A) → x ∷ xs ≡ y ∷ ys → x ≡ y
-head_same x y xs ys e = ap (λ (l : List A). first_or x l) e
-  where
-    first_or : A → List A → A
-    first_or d [] = d
-    first_or d (z ∷ zs) = z
+head_same x y xs ys e = ap (first_or x) e
 
 tail_same : {A : Type 0} (x y : A) (xs ys : List A) → x ∷ xs ≡ y ∷ ys → xs ≡ ys
 tail_same x y xs ys e = ap rest_of e
-  where
-    rest_of : List A → List A
-    rest_of [] = []
-    rest_of (z ∷ zs) = zs
 
+abbrev planned_entry : ℕ → PlannedData → EntryData
+planned_entry seq c = record { script = 0; seq = seq; sent_at = c.due; command = c.command }
+
+abbrev logged_at : ℕ → EntryData → LoggedData
+logged_at block e = record { block = block; entry = e }
+
+-- a journal is known by its entries and their blocks
 known : (seq : ℕ) (plan : List PlannedData) (journal : List LoggedData) → entries_of journal ≡ entries 0 seq plan → map (λ (l : LoggedData). l.block) journal ≡ due_blocks plan
     → journal ≡ journal_alone seq plan
 known seq [] [] es bs = refl
 known seq [] (l ∷ ls) es bs = absurd (let e = ap length es in omega (arith, e))
 known seq (c ∷ plan) [] es bs = absurd (let e = ap length es in omega (arith, e))
 known seq (c ∷ plan) (l ∷ ls) es bs =
-    let entry = head_same l.entry (record { script = 0; seq = seq; sent_at = c.due; command = c.command }) (entries_of ls) (entries 0 (seq + 1) plan) es in
-    let block = head_same l.block c.due (map (λ (x : LoggedData). x.block) ls) (due_blocks plan) bs in
-    let rest = known (seq + 1) plan ls
-    (tail_same l.entry (record { script = 0; seq = seq; sent_at = c.due; command = c.command }) (entries_of ls) (entries 0 (seq + 1) plan) es)
+    let entry : l.entry ≡ planned_entry seq c = head_same l.entry (planned_entry seq c) (entries_of ls) (entries 0 (seq + 1) plan) es in
+    let block : l.block ≡ c.due = head_same l.block c.due (map (λ (x : LoggedData). x.block) ls) (due_blocks plan) bs in
+    let rest : ls ≡ journal_alone (seq + 1) plan =
+    known (seq + 1) plan ls
+    (tail_same l.entry (planned_entry seq c) (entries_of ls) (entries 0 (seq + 1) plan) es)
     (tail_same l.block c.due (map (λ (x : LoggedData). x.block) ls) (due_blocks plan) bs) in
-    ap (λ (e : EntryData). record { block = l.block; entry = e } ∷ ls) entry
-    ∙ ap (λ (b : ℕ). record { block = b; entry = record { script = 0; seq = seq; sent_at = c.due; command = c.command } } ∷ ls) block
-    ∙ ap (λ (x : List LoggedData). record { block = c.due; entry = record { script = 0; seq = seq; sent_at = c.due; command = c.command } } ∷ x) rest
+    ap (λ (e : EntryData). logged_at l.block e ∷ ls) entry
+    ∙ ap (λ (b : ℕ). logged_at b (planned_entry seq c) ∷ ls) block
+    ∙ ap (λ (x : List LoggedData). logged_at c.due (planned_entry seq c) ∷ x) rest
 
 pub one_alone : (plans : List (List PlannedData)) (journal : List LoggedData) (places : ℕ) → IsTimed journal plans places → count_all plans ≤ places → length plans ≡ 1
     → journal ≡ journal_alone 0 (plan_of plans 0)
