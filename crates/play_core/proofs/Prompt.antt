@@ -1,5 +1,5 @@
 -- Where the line has a place for each command, each is logged at its due block.
-use Rattle.std.proofs.Common.{◌≡◌, ◌⊎◌, ℕ, zero, suc, ◌+◌, ◌-◌, ◌<◌, ◌≤◌, List, [], ◌∷◌, ◌++◌, length, map, refl, sym, ap, ◌∙◌, subst, ⊎_elim, inl, inr, arith, length-append, eq-eqb}
+use Rattle.std.proofs.Common.{◌≡◌, ◌⊎◌, ℕ, zero, suc, ◌+◌, ◌-◌, ◌<◌, ◌≤◌, List, [], ◌∷◌, ◌++◌, length, map, drop, get_or, refl, sym, ap, ◌∙◌, subst, ⊎_elim, inl, inr, arith, length-append, eq-eqb}
 use Rattle.std.specs.Prelude.{◌==◌, Bool, true, false, cond, filter, All, slice_index}
 use Rattle.std.proofs.lemmas.List.{append-nil, length-map}
 use Rattle.std.proofs.lemmas.List.Elements.{All-head, All-tail}
@@ -57,19 +57,11 @@ all_blocks (l ∷ ls) all =
     rw own (ap (λ (bs : List ℕ). l.block ∷ bs) (all_blocks ls (All-tail (λ x. x.entry.script < 1) l ls all)))
 
 -- equal lists have equal heads and tails
-first_or : {A : Type 0} → A → List A → A
-first_or d [] = d
-first_or d (z ∷ zs) = z
-
-rest_of : {A : Type 0} → List A → List A
-rest_of [] = []
-rest_of (z ∷ zs) = zs
-
 head_same : {A : Type 0} (x y : A) (xs ys : List A) → x ∷ xs ≡ y ∷ ys → x ≡ y
-head_same x y xs ys e = ap (first_or x) e
+head_same {A = A} x y xs ys e = ap (λ (l : List A). get_or l 0 x) e
 
 tail_same : {A : Type 0} (x y : A) (xs ys : List A) → x ∷ xs ≡ y ∷ ys → xs ≡ ys
-tail_same x y xs ys e = ap rest_of e
+tail_same {A = A} x y xs ys e = ap (λ (l : List A). drop 1 l) e
 
 abbrev planned_entry : ℕ → PlannedData → EntryData
 planned_entry seq c = record { script = 0; seq = seq; sent_at = c.due; command = c.command }
@@ -99,7 +91,7 @@ pub one_alone : (plans : List (List PlannedData)) (journal : List LoggedData) (p
 one_alone plans journal places timed room one =
     let below : 0 < length plans = omega (arith, one) in
     let b = timed.played.each 0 below in
-    let all : All (λ l. l.entry.script < 1) journal = subst (λ (n : ℕ). All (λ l. l.entry.script < n) journal) one timed.played.scripts in
+    let all : All (λ l. l.entry.script < 1) journal = subst (λ (n : ℕ). All (λ (l : LoggedData). l.entry.script < n) journal) one timed.played.scripts in
     let blocks : blocks_of 0 journal ≡ due_blocks (plan_of plans 0) = all_prompt plans journal places timed room 0 below in
     let none : length b.left ≡ 0 = omega (
       arith,
