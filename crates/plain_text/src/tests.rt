@@ -28,8 +28,10 @@ fn numbers_and_words(rt: HostRuntime) -> Result<(), Fail> {
     assert!(rt; is_word(line.as_slice(), b"blocks 4294967295 0"));
     let mut short = ArrayVec::<u8, 40>::new();
     push_two(&mut short, b"of ", 7, b" to ", 12);
-    push_one(&mut short, b" by ", 0);
-    assert!(rt; is_word(short.as_slice(), b"of 7 to 12 by 0"));
+    assert!(rt; is_word(short.as_slice(), b"of 7 to 12"));
+    let mut one = ArrayVec::<u8, 40>::new();
+    push_one(&mut one, b" by ", 0);
+    assert!(rt; is_word(one.as_slice(), b" by 0"));
     let parted = split_once(line.as_slice(), b' ');
     assert!(rt; matches!(parted, Some((word, _)) if is_word(word, b"blocks")));
     Ok(())
