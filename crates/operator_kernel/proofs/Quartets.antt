@@ -1,5 +1,5 @@
 -- Lanes of operators that modulate themselves.
-use Rattle.std.proofs.Common.{ℕ, ℤ, zero, suc, pos, Bool, true, false, cond, refl, sym, unsigned_abs, map, get_or, length, ◌+ℤ◌, ◌*ℤ◌, ◌+◌, ◌^◌, ◌<◌, ◌≤◌, ◌≡◌, ◌∙◌, ap, add-one, List, [], ◌∷◌, SFits, w32, to_z, of_z, arith}
+use Rattle.std.proofs.Common.{ℕ, ℤ, zero, suc, pos, Bool, true, false, cond, refl, sym, unsigned_abs, map, get_or, length, ◌+ℤ◌, ◌*ℤ◌, ◌+◌, ◌^◌, ◌<◌, ◌≤◌, ◌≡◌, ◌∙◌, ap, add-one, List, [], ◌∷◌, SFits, w32, w64, to_z, of_z, arith}
 use Rattle.std.specs.Int.{int_shr}
 use lib.Lanes.{Each1}
 use Rattle.std.proofs.lemmas.Int.{to_z-of_z, int_wrap_fits, SFits-int_wrap}
@@ -31,11 +31,11 @@ lane_small xs i e p lt =
     rw (small_read (2 ^ 29) xs (omega arith) p, to_z-of_z w32 _ (small_fits (2 ^ 29) (get_or xs i (pos 0)) (omega arith) h)) h
 
 -- the sine of a phase
-pub sine_lane : (p : ℤ) (i l : ℕ) → i ≡ index_of p → l ≡ rest_of p → to_z w32 (of_z w32 (sine_past i l)) ≡ sine p
+pub sine_lane : (p : ℤ) (i l : ℕ) → i ≡ index_of p → l ≡ rest_of p → to_z w64 (of_z w64 (sine_past i l)) ≡ sine p
 unfolding sine
 sine_lane p i l e f = rw (e, f) (sine_read (residue p))
 
-pub sine_small : (p : ℤ) → unsigned_abs (to_z w32 (of_z w32 (sine p))) ≤ 2 ^ 25
+pub sine_small : (p : ℤ) → unsigned_abs (to_z w64 (of_z w64 (sine p))) ≤ 2 ^ 25
 unfolding sine
 sine_small p = sine_bound (residue p)
 
@@ -87,7 +87,7 @@ same_state m x y p q = rw (p, q)
 -- the sample of a lane, by what was read of its phase and its last two samples
 pub fed_lane : (op : OpBlock) (f : ℕ) (m : FeedbackState) (j : ℕ) (p x y q : ℤ) → IsLive op m → j < 64 → p ≡ phase_of op j → x ≡ (feedback_state_after op f m j).before_last → y ≡ (feedback_state_after op f m j).last
     → q ≡ wrap (p +ℤ feedback_of f (record { before_last = x; last = y }))
-    → to_z w32 (of_z w32 (wrap (int_shr (to_z w32 (of_z w32 (sine q)) *ℤ to_z w32 (of_z w32 (gain_at op j))) 24))) ≡ feedback_sample op f m j
+    → to_z w32 (of_z w32 (wrap (int_shr (to_z w64 (of_z w64 (sine q)) *ℤ to_z w64 (of_z w64 (gain_at op j))) 24))) ≡ feedback_sample op f m j
 unfolding sine
 fed_lane op f m j p x y q v lt ep ex ey e =
     let here : q ≡ phase_at op j (feedback_of f (feedback_state_after op f m j)) =
@@ -110,12 +110,10 @@ bounded v j q live le at =
     let s3 = state_small v.op3 v.feedback v.state3 j live.live3 le in
     record {
       phases = ap length at.phases;
-      four_low = ap length at.low;
-      four_high = ap length at.high;
+      four_gains = ap length at.gains;
       four_before = ap length at.before_last;
       four_last = ap length at.last;
-      low = rw at.low (g0, (g0, (g1, (g1, tt))));
-      high = rw at.high (g2, (g2, (g3, (g3, tt))));
+      gains = rw at.gains (g0, (g1, (g2, (g3, tt))));
       before_last = rw at.before_last (s0.before_last, (s1.before_last, (s2.before_last, (s3.before_last, tt))));
       last = rw at.last (s0.last, (s1.last, (s2.last, (s3.last, tt))));
     }

@@ -1,17 +1,12 @@
--- How the vectors of the kernel hold gains: a product takes the even lanes of a vector.
-use Rattle.std.specs.Prelude.{ℕ, ◌+◌, List, [], ◌∷◌, slice_index_or, ℤ, pos, ◌+ℤ◌, ◌*ℤ◌}
+-- What the vectors of the kernel hold.
+use Rattle.std.specs.Prelude.{ℕ, ◌+◌, List, [], ◌∷◌, ℤ, pos, ◌+ℤ◌, ◌*ℤ◌}
 use Rattle.dx_tables.specs.Numbers.{wrap}
 use Rattle.operator_kernel.specs.declared.OpBlock.{OpBlock}
 use Rattle.operator_kernel.specs.Operator.{gain_at}
 
--- the gains of sample j and of the next one, each twice
+-- the gains of four samples from j on
 abbrev pub gain_lanes : OpBlock → ℕ → List ℤ
-gain_lanes op j = gain_at op j ∷ gain_at op j ∷ gain_at op (j + 1) ∷ gain_at op (j + 1) ∷ []
-
--- the even lanes of two vectors
-abbrev pub multiplied_lanes : List ℤ → List ℤ → List ℤ
-multiplied_lanes low high = slice_index_or low 0 (pos 0) ∷ slice_index_or low 2 (pos 0) ∷ slice_index_or high 0 (pos 0)
-    ∷ slice_index_or high 2 (pos 0) ∷ []
+gain_lanes op j = gain_at op j ∷ gain_at op (j + 1) ∷ gain_at op (j + 2) ∷ gain_at op (j + 3) ∷ []
 
 -- the phase of sample j without input
 abbrev pub phase_of : OpBlock → ℕ → ℤ

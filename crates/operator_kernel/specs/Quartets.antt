@@ -3,8 +3,8 @@ use Rattle.std.specs.Prelude.{ℕ, ◌≡◌, ◌+◌, ◌≤◌, ◌^◌, false
 use Rattle.std.specs.Simd.Lanes.{Each1}
 use Rattle.operator_kernel.specs.declared.OpBlock.{OpBlock}
 use Rattle.operator_kernel.specs.declared.quartet.Quartet.{Quartet}
-use Rattle.operator_kernel.specs.Operator.{FeedbackState, feedback_state_after, feedback_state_of, feedback_sample, silent, gain_at, HasGains}
-use Rattle.operator_kernel.specs.Lanes.{phase_lanes}
+use Rattle.operator_kernel.specs.Operator.{FeedbackState, feedback_state_after, feedback_state_of, feedback_sample, silent, HasGains}
+use Rattle.operator_kernel.specs.Lanes.{phase_lanes, gains_of_four}
 
 -- the operators, their strength of feedback, and their feedback states before the block
 pub record Four : Type 0 where
@@ -66,26 +66,19 @@ fed_samples v j =
     feedback_sample v.op0 v.feedback v.state0 j ∷ feedback_sample v.op1 v.feedback v.state1 j
     ∷ feedback_sample v.op2 v.feedback v.state2 j ∷ feedback_sample v.op3 v.feedback v.state3 j ∷ []
 
--- the gains of two operators, each twice
-abbrev pub paired_gains : OpBlock → OpBlock → ℕ → List ℤ
-paired_gains op1 op2 j = gain_at op1 j ∷ gain_at op1 j ∷ gain_at op2 j ∷ gain_at op2 j ∷ []
-
 -- the vectors at sample j
 pub record AreAt (v : Four) (j : ℕ) (q : Quartet) : Type 0 where
   pub phases : q.phases ≡ phase_lanes v.op0 v.op1 v.op2 v.op3 j
-  pub low : q.low ≡ paired_gains v.op0 v.op1 j
-  pub high : q.high ≡ paired_gains v.op2 v.op3 j
+  pub gains : q.gains ≡ gains_of_four v.op0 v.op1 v.op2 v.op3 j
   pub before_last : q.before_last ≡ befores v j
   pub last : q.last ≡ lasts v j
 
 -- vectors of four lanes, with gains and samples that are not too large to be multiplied and added
 pub record AreBounded (q : Quartet) : Type 0 where
   pub phases : length q.phases ≡ 4
-  pub four_low : length q.low ≡ 4
-  pub four_high : length q.high ≡ 4
+  pub four_gains : length q.gains ≡ 4
   pub four_before : length q.before_last ≡ 4
   pub four_last : length q.last ≡ 4
-  pub low : Each1 (λ g. unsigned_abs g ≤ 2 ^ 28) q.low
-  pub high : Each1 (λ g. unsigned_abs g ≤ 2 ^ 28) q.high
+  pub gains : Each1 (λ g. unsigned_abs g ≤ 2 ^ 28) q.gains
   pub before_last : Each1 (λ x. unsigned_abs x ≤ 2 ^ 29) q.before_last
   pub last : Each1 (λ x. unsigned_abs x ≤ 2 ^ 29) q.last

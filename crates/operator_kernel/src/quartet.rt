@@ -4,7 +4,8 @@ ghost use Rattle.dx_tables.specs.Numbers.{wrap};
 ghost use Rattle.dx_tables.specs.Sine.{sine, sine_pair};
 ghost use Rattle.dx_tables.specs.Table.{IsTable};
 ghost use Rattle.operator_kernel.specs.Operator.{HasGains, feedback_of, phase_at, feedback_state_of};
-ghost use Rattle.operator_kernel.specs.Quartets.{Four, four_of, AreLive, AreAt, AreBounded, fed_samples, paired_gains};
+ghost use Rattle.operator_kernel.specs.Quartets.{Four, four_of, AreLive, AreAt, AreBounded, fed_samples};
+ghost use Rattle.operator_kernel.specs.Lanes.{gains_of_four};
 
 use crate::OpBlock;
 use crate::four::{first_phases, next_phases};
@@ -12,37 +13,38 @@ use crate::lanes::{four_products, four_sines, place, rest};
 use crate::operator::{gain, growth};
 use std::simd::prelude::*;
 
-/// The phases of four operators without feedback, their gains, of the first two and of the last two, each in a lane that is multiplied
-/// and in the lane after it, and their last two samples.
+/// The phases of four operators without feedback, their gains, and their last two samples.
 #[derive(Clone, Copy)]
 pub(crate) struct Quartet {
     phases: i32x4,
-    low: i32x4,
-    high: i32x4,
+    gains: i64x4,
     pub(crate) before_last: i32x4,
     pub(crate) last: i32x4,
 }
 
-/// The gains of two operators at their first sample, each twice.
+/// The gains of four operators at their first sample.
 #[inline(always)]
-fn first_gains(op1: &OpBlock, op2: &OpBlock) -> i32x4
-    requires gains { HasGains op1.now × HasGains op2.now }
-    ensures { result ≡ paired_gains op1.now op2.now 0 }
+fn first_gains(op0: &OpBlock, op1: &OpBlock, op2: &OpBlock, op3: &OpBlock) -> i64x4
+    requires gains { HasGains op0.now × HasGains op1.now × HasGains op2.now × HasGains op3.now }
+    ensures { result ≡ gains_of_four op0.now op1.now op2.now op3.now 0 }
 {
-    let g1 = gain(op1, 0);
-    let g2 = gain(op2, 0);
-    i32x4::from_array([g1, g1, g2, g2])
+    i32x4::from_array([gain(op0, 0), gain(op1, 0), gain(op2, 0), gain(op3, 0)]).cast::<i64>()
 }
 
 /// The same one sample later.
 #[inline(always)]
-fn later_gains(op1: &OpBlock, op2: &OpBlock, gains: i32x4) -> i32x4
-    requires gains { HasGains op1.now × HasGains op2.now }
-    ensures { (j : ℕ) → j < 64 → gains ≡ paired_gains op1.now op2.now j → result ≡ paired_gains op1.now op2.now (j + 1) }
+fn later_gains(
+    op0: &OpBlock,
+    op1: &OpBlock,
+    op2: &OpBlock,
+    op3: &OpBlock,
+    gains: i64x4,
+) -> i64x4
+    requires gains { HasGains op0.now × HasGains op1.now × HasGains op2.now × HasGains op3.now }
+    ensures { (j : ℕ) → j < 64 → gains ≡ gains_of_four op0.now op1.now op2.now op3.now j → result ≡ gains_of_four op0.now op1.now op2.now op3.now (j + 1) }
 {
-    let d1 = growth(op1);
-    let d2 = growth(op2);
-    gains + i32x4::from_array([d1, d1, d2, d2])
+    let steps = i32x4::from_array([growth(op0), growth(op1), growth(op2), growth(op3)]);
+    gains + steps.cast::<i64>()
 }
 
 /// What an operator that modulates itself has as its input, where its feedback isn't 0 and its last samples are small.
@@ -67,7 +69,7 @@ fn fed_phase(phase: i32, feedback: u8, before_last: i32, last: i32) -> i32
 
 /// The sines of four phases.
 #[inline(always)]
-fn sines_of(pairs: &[i32x2], p0: i32, p1: i32, p2: i32, p3: i32) -> i32x4
+fn sines_of(pairs: &[i32x2], p0: i32, p1: i32, p2: i32, p3: i32) -> i64x4
     requires table { IsTable [] sine_pair 1024 pairs.now }
     ensures { result ≡ sine p0 ∷ sine p1 ∷ sine p2 ∷ sine p3 ∷ [] }
 {
@@ -102,7 +104,7 @@ pub(crate) fn samples(pairs: &[i32x2], feedback: u8, at: Quartet) -> i32x4
         fed_phase(p2, feedback, x2, y2),
         fed_phase(p3, feedback, x3, y3),
     );
-    four_products(sines, at.low, at.high)
+    four_products(sines, at.gains)
 }
 
 /// The vectors of four operators at their first sample.
@@ -122,8 +124,7 @@ pub(crate) fn begin(
 {
     Quartet {
         phases: first_phases(op0, op1, op2, op3),
-        low: first_gains(op0, op1),
-        high: first_gains(op2, op3),
+        gains: first_gains(op0, op1, op2, op3),
         before_last: i32x4::from_array([m0[0], m1[0], m2[0], m3[0]]),
         last: i32x4::from_array([m0[1], m1[1], m2[1], m3[1]]),
     }
@@ -145,8 +146,7 @@ pub(crate) fn later(
 {
     Quartet {
         phases: next_phases(op0, op1, op2, op3, at.phases),
-        low: later_gains(op0, op1, at.low),
-        high: later_gains(op2, op3, at.high),
+        gains: later_gains(op0, op1, op2, op3, at.gains),
         before_last: at.last,
         last: y,
     }

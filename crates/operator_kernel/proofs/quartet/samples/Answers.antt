@@ -2,6 +2,7 @@ use Rattle.std.proofs.Common.{ℕ, ℤ, pos, map, get_or, ◌∙◌, ◌≡◌, 
 use Rattle.std.proofs.lemmas.Int.{to_z-of_z}
 use Rattle.operator_kernel.specs.Quartets.{Four, AreLive, AreAt}
 use Rattle.operator_kernel.proofs.Fours.{four_same}
+use Rattle.operator_kernel.proofs.LaneSteps.{wide_small}
 use Rattle.operator_kernel.proofs.Quartets.{lane_small, small_read, sine_small, fed_lane, twice, phase_read, before_read, last_read}
 use Rattle.operator_kernel.proofs.quartet.samples.Goals as goal
 
@@ -28,11 +29,8 @@ fed_phase-requires-4-clause-small c =
 pub four_products-requires-clause-sines : goal.four_products-requires-clause-sines
 four_products-requires-clause-sines c = rw c.sines_of-sines.ensures (sine_small _, (sine_small _, (sine_small _, (sine_small _, tt))))
 
-pub four_products-requires-clause-low : goal.four_products-requires-clause-low
-four_products-requires-clause-low c = rw (small_read (2 ^ 28) c.args.at.low (omega arith) c.requires.bounded.low) c.requires.bounded.low
-
-pub four_products-requires-clause-high : goal.four_products-requires-clause-high
-four_products-requires-clause-high c = rw (small_read (2 ^ 28) c.args.at.high (omega arith) c.requires.bounded.high) c.requires.bounded.high
+pub four_products-requires-clause-gains : goal.four_products-requires-clause-gains
+four_products-requires-clause-gains c = wide_small (2 ^ 28) c.args.at.gains (omega arith) c.requires.bounded.gains
 
 -- a lane of a vector, as the code reads it
 abbrev taken : List ℤ → ℕ → ℤ
@@ -62,4 +60,4 @@ returns c = λ v j lt e live at.
     let x3 : taken q.before_last 3 ≡ _ = rw at.before_last (twice _ (before_read v.op3 v.feedback v.state3 j live.live3 le)) in
     let y3 : taken q.last 3 ≡ _ = rw at.last (twice _ (last_read v.op3 v.feedback v.state3 j live.live3 le)) in
     let l3 = fed_lane v.op3 v.feedback v.state3 j (taken q.phases 3) (taken q.before_last 3) (taken q.last 3) (to_z w32 (of_z w32 c.fed_phase-4.result)) live.live3 lt p3 x3 y3 (rw e (to_z-of_z w32 _ f3 ∙ c.fed_phase-4.ensures)) in
-    rw (c.four_products.ensures, c.sines_of-sines.ensures, at.low, at.high) (four_same l0 l1 l2 l3)
+    rw (c.four_products.ensures, c.sines_of-sines.ensures, at.gains) (four_same l0 l1 l2 l3)
