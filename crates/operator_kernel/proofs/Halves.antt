@@ -1,5 +1,5 @@
 -- The halves of a lane of 64 bits.
-use Rattle.std.proofs.Common.{ℕ, ℤ, zero, pos, negsuc, suc, List, [], ◌∷◌, ◌+ℤ◌, ◌*ℤ◌, ◌-ℤ◌, ◌+◌, ◌-◌, ◌*◌, ◌/◌, ◌%◌, ◌^◌, ◌<◌, ◌≤◌, ◌≡◌, ◌∙◌, ap, sym, refl, subst, inl, inr, SFits, to_z, of_z, w32, w64, arith}
+use Rattle.std.proofs.Common.{ℕ, ℤ, zero, pos, negsuc, suc, [], ◌∷◌, ◌+ℤ◌, ◌*ℤ◌, ◌+◌, ◌-◌, ◌*◌, ◌/◌, ◌%◌, ◌^◌, ◌<◌, ◌≡◌, ◌∙◌, ap, sym, refl, subst, inl, inr, SFits, to_z, of_z, w32, w64, arith}
 use Rattle.std.specs.Int.{int_shr, int_wrap}
 use lib.Lanes.{number_l, digits_l}
 use Rattle.std.proofs.lemmas.Int.{ints, to_z_pos, to_z-of_z, SFits-int_wrap}
@@ -157,6 +157,34 @@ four_of_eight a b c d e f g h pa pb pc pd pe pf pg ph =
     let q2 = high_two e f n3 pe pf in
     ap (digits_l (2 ^ 64) 4) whole
     ∙ four_same (low_two a b n1 pa pb)
-        (ap (λ x. x % 2 ^ 64) q0 ∙ low_two c d n2 pc pd)
-        (ap (λ x. x / 2 ^ 64 % 2 ^ 64) q0 ∙ ap (λ x. x % 2 ^ 64) q1 ∙ low_two e f n3 pe pf)
-        (ap (λ x. x / 2 ^ 64 / 2 ^ 64 % 2 ^ 64) q0 ∙ ap (λ x. x / 2 ^ 64 % 2 ^ 64) q1 ∙ ap (λ x. x % 2 ^ 64) q2 ∙ low_two g h 0 pg ph)
+    (ap (λ x. x % 2 ^ 64) q0 ∙ low_two c d n2 pc pd)
+    (ap (λ x. x / 2 ^ 64 % 2 ^ 64) q0 ∙ ap (λ x. x % 2 ^ 64) q1 ∙ low_two e f n3 pe pf)
+    (ap (λ x. x / 2 ^ 64 / 2 ^ 64 % 2 ^ 64) q0 ∙ ap (λ x. x / 2 ^ 64 % 2 ^ 64) q1 ∙ ap (λ x. x % 2 ^ 64) q2 ∙ low_two g h 0 pg ph)
+
+-- the lanes of four numbers of 32 bits, by way of their bytes
+low_one : (a r : ℕ) → a < 2 ^ 32 → (a + 2 ^ 32 * r) % 2 ^ 32 ≡ a
+low_one a r p = omega (arith, p)
+
+high_one : (a r : ℕ) → a < 2 ^ 32 → (a + 2 ^ 32 * r) / 2 ^ 32 ≡ r
+high_one a r p = omega (arith, p)
+
+pub four_of_four : (a b c d : ℕ) → a < 2 ^ 32 → b < 2 ^ 32 → c < 2 ^ 32 → d < 2 ^ 32 →
+    digits_l (2 ^ 32) 4 (number_l 256 (digits_l 256 16 (number_l (2 ^ 32) (a ∷ b ∷ c ∷ d ∷ [])))) ≡ a ∷ b ∷ c ∷ d ∷ []
+four_of_four a b c d pa pb pc pd =
+    let n3 = d + 2 ^ 32 * 0 in
+    let n2 = c + 2 ^ 32 * n3 in
+    let n1 = b + 2 ^ 32 * n2 in
+    let n0 = a + 2 ^ 32 * n1 in
+    let l3 : n3 < 2 ^ 32 = omega (arith, pd) in
+    let l2 : n2 < 2 ^ 64 = omega (arith, pc, l3) in
+    let l1 : n1 < 2 ^ 96 = omega (arith, pb, l2) in
+    let l0 : n0 < 2 ^ 128 = omega (arith, pa, l1) in
+    let whole : number_l 256 (digits_l 256 16 n0) ≡ n0 = number_digits 256 16 n0 (omega arith) ∙ mod-eq_of_lt l0 in
+    let q0 = high_one a n1 pa in
+    let q1 = high_one b n2 pb in
+    let q2 = high_one c n3 pc in
+    ap (digits_l (2 ^ 32) 4) whole
+    ∙ four_same (low_one a n1 pa)
+    (ap (λ x. x % 2 ^ 32) q0 ∙ low_one b n2 pb)
+    (ap (λ x. x / 2 ^ 32 % 2 ^ 32) q0 ∙ ap (λ x. x % 2 ^ 32) q1 ∙ low_one c n3 pc)
+    (ap (λ x. x / 2 ^ 32 / 2 ^ 32 % 2 ^ 32) q0 ∙ ap (λ x. x / 2 ^ 32 % 2 ^ 32) q1 ∙ ap (λ x. x % 2 ^ 32) q2 ∙ low_one d 0 pd)

@@ -1,12 +1,11 @@
 -- Lanes of operators that modulate themselves.
-use Rattle.std.proofs.Common.{ℕ, ℤ, zero, suc, pos, Bool, true, false, cond, refl, sym, unsigned_abs, map, get_or, length, ◌+ℤ◌, ◌*ℤ◌, ◌+◌, ◌^◌, ◌<◌, ◌≤◌, ◌≡◌, ◌∙◌, ap, add-one, List, [], ◌∷◌, SFits, w32, w64, to_z, of_z, arith}
+use Rattle.std.proofs.Common.{ℕ, ℤ, zero, suc, pos, Bool, true, false, cond, refl, unsigned_abs, map, get_or, length, ◌+ℤ◌, ◌*ℤ◌, ◌+◌, ◌-◌, ◌%◌, ◌^◌, ◌<◌, ◌≤◌, ◌≡◌, ◌∙◌, ap, add-one, List, [], ◌∷◌, SFits, w32, w64, to_z, of_z, arith, rules}
 use Rattle.std.specs.Int.{int_shr}
 use lib.Lanes.{Each1}
-use Rattle.std.proofs.lemmas.Int.{to_z-of_z, int_wrap_fits, SFits-int_wrap}
-use Rattle.std.proofs.lemmas.Simd.{Each1-get_or, Each1-weaker}
+use Rattle.std.proofs.lemmas.Int.{to_z-of_z, int_wrap_fits, SFits-int_wrap, wrapping_add_is}
 use Rattle.dx_tables.specs.Numbers.{wrap, residue, index_of, rest_of}
-use Rattle.dx_tables.specs.Sine.{sine, sine_of_bits}
-use Rattle.dx_tables.proofs.Ranges.{Within, abs_Within, Within_abs, Within-mul, Within-scaled, fits_from_Within}
+use Rattle.dx_tables.specs.Sine.{sine}
+use Rattle.dx_tables.proofs.Ranges.{Within, abs_Within, Within_abs, Within-mul, Within-add, Within-shr, Within-scaled, fits_from_Within}
 use Rattle.operator_kernel.specs.declared.OpBlock.{OpBlock}
 use Rattle.operator_kernel.specs.declared.quartet.Quartet.{Quartet}
 use Rattle.operator_kernel.specs.Operator.{silent, phase_at, gain_at, sample_at, HasGains, FeedbackState, feedback_of, feedback_state_after, feedback_sample}
@@ -14,21 +13,21 @@ use Rattle.operator_kernel.specs.Lanes.{phase_of}
 use Rattle.operator_kernel.specs.Places.{sine_past}
 use Rattle.operator_kernel.specs.Quartets.{Four, IsSmallState, IsLive, AreLive, AreAt, AreBounded}
 use Rattle.operator_kernel.proofs.Gains.{gain_fits}
-use Rattle.operator_kernel.proofs.Fours.{lanes_read}
-use Rattle.operator_kernel.proofs.LaneSteps.{sine_read, sine_bound, sine_Within, gain_read, gain_bound, sample_lane}
+use Rattle.operator_kernel.proofs.Fours.{four_is, lanes_read}
+use Rattle.operator_kernel.proofs.LaneSteps.{sine_read, sine_bound, sine_Within, sample_lane}
 use Rattle.operator_kernel.proofs.Places.{phase_here}
 
 -- numbers that are small are read as they were written
 pub small_fits : (b : ℕ) (z : ℤ) → b < 2 ^ 31 → unsigned_abs z ≤ b → SFits w32 z
 small_fits b z lt p = fits_from_Within w32 b z (abs_Within b z p) (omega (arith, lt))
 
-pub small_read : (b : ℕ) (xs : List ℤ) → b < 2 ^ 31 → Each1 (λ x. unsigned_abs x ≤ b) xs → map (to_z w32) (map (of_z w32) xs) ≡ xs
-small_read b xs lt p = lanes_read xs (Each1-weaker _ _ (λ x h. small_fits b x lt h) xs p)
+pub reads_fit : (xs : List ℤ) → Each1 (SFits w32) xs → Each1 (SFits w32) (map (to_z w32) (map (of_z w32) xs))
+reads_fit xs f = rw (lanes_read xs f) f
 
-pub lane_small : (xs : List ℤ) (i : ℕ) → length xs ≡ 4 → Each1 (λ x. unsigned_abs x ≤ 2 ^ 29) xs → i < 4 → unsigned_abs (to_z w32 (of_z w32 (get_or (map (to_z w32) (map (of_z w32) xs)) i (pos 0)))) ≤ 2 ^ 29
-lane_small xs i e p lt =
-    let h : unsigned_abs (get_or xs i (pos 0)) ≤ 2 ^ 29 = Each1-get_or (λ x. unsigned_abs x ≤ 2 ^ 29) xs i (pos 0) (omega (arith, e, lt)) p in
-    rw (small_read (2 ^ 29) xs (omega arith) p, to_z-of_z w32 _ (small_fits (2 ^ 29) (get_or xs i (pos 0)) (omega arith) h)) h
+-- the bits of four phases
+pub bits_are : (xs : List ℤ) (bits : List ℕ) → length xs ≡ 4 → Each1 (SFits w32) xs → bits ≡ map residue (map (to_z w32) (map (of_z w32) xs)) →
+    bits ≡ residue (get_or xs 0 (pos 0)) ∷ residue (get_or xs 1 (pos 0)) ∷ residue (get_or xs 2 (pos 0)) ∷ residue (get_or xs 3 (pos 0)) ∷ []
+bits_are xs bits n f e = e ∙ ap (map residue) (lanes_read xs f) ∙ ap (map residue) (four_is (pos 0) xs n)
 
 -- the sine of a phase
 pub sine_lane : (p : ℤ) (i l : ℕ) → i ≡ index_of p → l ≡ rest_of p → to_z w64 (of_z w64 (sine_past i l)) ≡ sine p
@@ -94,6 +93,22 @@ fed_lane op f m j p x y q v lt ep ex ey e =
     phase_here op p q _ j ep e ∙ ap (λ s. phase_at op j (feedback_of f s)) (same_state (feedback_state_after op f m j) x y ex ey) in
     rw here (sample_lane op j (feedback_of f (feedback_state_after op f m j)) v.gains lt v.sounds)
 
+feedback_heard : (f : ℕ) (x y : ℤ) → 1 ≤ f → feedback_of f (record { before_last = x; last = y }) ≡ int_shr (x +ℤ y) (9 - f)
+feedback_heard f x y le = search (rules, arith)
+
+-- a phase with the feedback, as the lanes compute it
+pub fed_phase_lane : (f : ℕ) (p x y k : ℤ) → (1 ≤ f) × (f ≤ 7) → unsigned_abs x ≤ 2 ^ 29 → unsigned_abs y ≤ 2 ^ 29 → SFits w32 p → k ≡ pos (9 - f) →
+    to_z w32 ((of_z w32 p + of_z w32 (int_shr (to_z w32 ((of_z w32 x + of_z w32 y) % 2 ^ 32)) (of_z w32 k))) % 2 ^ 32) ≡ wrap (p +ℤ feedback_of f (record { before_last = x; last = y }))
+fed_phase_lane f p x y k hears ex ey fp e =
+    let wx : Within (2 ^ 29) x = abs_Within _ _ ex in
+    let wy : Within (2 ^ 29) y = abs_Within _ _ ey in
+    let ws : Within (2 ^ 30) (x +ℤ y) = Within-add (2 ^ 29) (2 ^ 29) _ _ wx wy in
+    let fs : SFits w32 (x +ℤ y) = fits_from_Within w32 _ _ ws (omega arith) in
+    let fh : SFits w32 (int_shr (x +ℤ y) (9 - f)) = fits_from_Within w32 _ _ (Within-shr (2 ^ 30) (9 - f) _ ws) (omega arith) in
+    let sum : to_z w32 ((of_z w32 x + of_z w32 y) % 2 ^ 32) ≡ x +ℤ y = wrapping_add_is w32 x y (small_fits (2 ^ 29) x (omega arith) ex) (small_fits (2 ^ 29) y (omega arith) ey) ∙ int_wrap_fits w32 _ fs in
+    let heard : feedback_of f (record { before_last = x; last = y }) ≡ int_shr (x +ℤ y) (9 - f) = feedback_heard f x y hears.0 in
+    rw (sum, e, heard) (wrapping_add_is w32 p _ fp fh)
+
 pub gain_small : (op : OpBlock) (m : FeedbackState) (j : ℕ) → IsLive op m → j ≤ 64 → unsigned_abs (gain_at op j) ≤ 2 ^ 28
 gain_small op m j v le = (gain_fits op j v.gains (omega (arith, le))).small
 
@@ -109,10 +124,11 @@ bounded v j q live le at =
     let g3 = gain_small v.op3 v.state3 j live.live3 le in
     let s3 = state_small v.op3 v.feedback v.state3 j live.live3 le in
     record {
-      phases = ap length at.phases;
+      four_phases = ap length at.phases;
       four_gains = ap length at.gains;
       four_before = ap length at.before_last;
       four_last = ap length at.last;
+      phases = rw at.phases (SFits-int_wrap w32 _, (SFits-int_wrap w32 _, (SFits-int_wrap w32 _, (SFits-int_wrap w32 _, tt))));
       gains = rw at.gains (g0, (g1, (g2, (g3, tt))));
       before_last = rw at.before_last (s0.before_last, (s1.before_last, (s2.before_last, (s3.before_last, tt))));
       last = rw at.last (s0.last, (s1.last, (s2.last, (s3.last, tt))));

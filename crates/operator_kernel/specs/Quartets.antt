@@ -1,9 +1,11 @@
 -- Four operators that modulate themselves, side by side: each is a lane of the vectors.
-use Rattle.std.specs.Prelude.{ℕ, ◌≡◌, ◌+◌, ◌≤◌, ◌^◌, false, List, [], ◌∷◌, length, ℤ, pos, unsigned_abs}
+use Rattle.std.specs.Prelude.{ℕ, ◌≡◌, ◌≤◌, ◌^◌, false, List, [], ◌∷◌, length, slice_index_or, ℤ, pos, ◌+ℤ◌, unsigned_abs, FitsSigned}
+use Rattle.std.specs.Int.{w32}
 use Rattle.std.specs.Simd.Lanes.{Each1}
+use Rattle.dx_tables.specs.Numbers.{wrap}
 use Rattle.operator_kernel.specs.declared.OpBlock.{OpBlock}
 use Rattle.operator_kernel.specs.declared.quartet.Quartet.{Quartet}
-use Rattle.operator_kernel.specs.Operator.{FeedbackState, feedback_state_after, feedback_state_of, feedback_sample, silent, HasGains}
+use Rattle.operator_kernel.specs.Operator.{FeedbackState, feedback_of, feedback_state_after, feedback_state_of, feedback_sample, silent, HasGains}
 use Rattle.operator_kernel.specs.Lanes.{phase_lanes, gains_of_four}
 
 -- the operators, their strength of feedback, and their feedback states before the block
@@ -66,6 +68,15 @@ fed_samples v j =
     feedback_sample v.op0 v.feedback v.state0 j ∷ feedback_sample v.op1 v.feedback v.state1 j
     ∷ feedback_sample v.op2 v.feedback v.state2 j ∷ feedback_sample v.op3 v.feedback v.state3 j ∷ []
 
+-- the phase in lane k with its operator's feedback
+abbrev pub fed_phase : ℕ → Quartet → ℕ → ℤ
+fed_phase f q k =
+    wrap (slice_index_or q.phases k (pos 0)
+    +ℤ feedback_of f (record { before_last = slice_index_or q.before_last k (pos 0); last = slice_index_or q.last k (pos 0) }))
+
+abbrev pub phases_with_feedback : ℕ → Quartet → List ℤ
+phases_with_feedback f q = fed_phase f q 0 ∷ fed_phase f q 1 ∷ fed_phase f q 2 ∷ fed_phase f q 3 ∷ []
+
 -- the vectors at sample j
 pub record AreAt (v : Four) (j : ℕ) (q : Quartet) : Type 0 where
   pub phases : q.phases ≡ phase_lanes v.op0 v.op1 v.op2 v.op3 j
@@ -75,10 +86,11 @@ pub record AreAt (v : Four) (j : ℕ) (q : Quartet) : Type 0 where
 
 -- vectors of four lanes, with gains and samples that are not too large to be multiplied and added
 pub record AreBounded (q : Quartet) : Type 0 where
-  pub phases : length q.phases ≡ 4
+  pub four_phases : length q.phases ≡ 4
   pub four_gains : length q.gains ≡ 4
   pub four_before : length q.before_last ≡ 4
   pub four_last : length q.last ≡ 4
+  pub phases : Each1 (FitsSigned w32) q.phases
   pub gains : Each1 (λ g. unsigned_abs g ≤ 2 ^ 28) q.gains
   pub before_last : Each1 (λ x. unsigned_abs x ≤ 2 ^ 29) q.before_last
   pub last : Each1 (λ x. unsigned_abs x ≤ 2 ^ 29) q.last

@@ -1,15 +1,17 @@
 //! Four operators that sound and hear themselves, side by side: each is a lane of the vectors.
-ghost use Rattle.std.specs.Prelude.{ℕ, [], ◌∷◌, ◌≡◌, ◌+◌, ◌*◌, ◌^◌, ◌<◌, ◌≤◌, pos, ◌*ℤ◌, ◌+ℤ◌, unsigned_abs};
-ghost use Rattle.dx_tables.specs.Numbers.{wrap};
+ghost use Rattle.std.specs.Prelude.{ℕ, [], ◌≡◌, ◌+◌, ◌<◌, ◌≤◌, length, map, FitsSigned};
+ghost use Rattle.std.specs.Int.{w32};
+ghost use Rattle.std.specs.Simd.Lanes.{Each1};
+ghost use Rattle.dx_tables.specs.Numbers.{residue};
 ghost use Rattle.dx_tables.specs.Sine.{sine, sine_pair};
 ghost use Rattle.dx_tables.specs.Table.{IsTable};
-ghost use Rattle.operator_kernel.specs.Operator.{HasGains, feedback_of, phase_at, feedback_state_of};
-ghost use Rattle.operator_kernel.specs.Quartets.{Four, four_of, AreLive, AreAt, AreBounded, fed_samples};
+ghost use Rattle.operator_kernel.specs.Operator.{HasGains};
+ghost use Rattle.operator_kernel.specs.Quartets.{Four, four_of, AreLive, AreAt, AreBounded, phases_with_feedback, fed_samples};
 ghost use Rattle.operator_kernel.specs.Lanes.{gains_of_four};
 
 use crate::OpBlock;
 use crate::four::{first_phases, next_phases};
-use crate::lanes::{four_products, four_sines, place, rest};
+use crate::lanes::{four_products, four_sines};
 use crate::operator::{gain, growth};
 use std::simd::prelude::*;
 
@@ -33,57 +35,46 @@ fn first_gains(op0: &OpBlock, op1: &OpBlock, op2: &OpBlock, op3: &OpBlock) -> i6
 
 /// The same one sample later.
 #[inline(always)]
-fn later_gains(
-    op0: &OpBlock,
-    op1: &OpBlock,
-    op2: &OpBlock,
-    op3: &OpBlock,
-    gains: i64x4,
-) -> i64x4
+fn later_gains(op0: &OpBlock, op1: &OpBlock, op2: &OpBlock, op3: &OpBlock, gains: i64x4) -> i64x4
     requires gains { HasGains op0.now × HasGains op1.now × HasGains op2.now × HasGains op3.now }
-    ensures { (j : ℕ) → j < 64 → gains ≡ gains_of_four op0.now op1.now op2.now op3.now j → result ≡ gains_of_four op0.now op1.now op2.now op3.now (j + 1) }
+    ensures { (j : ℕ) → j < 64 → gains ≡ gains_of_four op0.now op1.now op2.now op3.now j
+        → result ≡ gains_of_four op0.now op1.now op2.now op3.now (j + 1) }
 {
     let steps = i32x4::from_array([growth(op0), growth(op1), growth(op2), growth(op3)]);
     gains + steps.cast::<i64>()
 }
 
-/// What an operator that modulates itself has as its input, where its feedback isn't 0 and its last samples are small.
+/// The phases of four operators with their feedback, where it isn't 0 and their last samples are small.
 #[inline(always)]
-fn fed_back(feedback: u8, before_last: i32, last: i32) -> i32
+fn fed_phases(feedback: u8, at: Quartet) -> i32x4
     requires feedback { (1 ≤ feedback) × (feedback ≤ 7) }
-    requires small { (unsigned_abs before_last ≤ 2 ^ 29) × (unsigned_abs last ≤ 2 ^ 29) }
-    ensures { result ≡ feedback_of feedback (record { before_last = before_last; last = last }) }
+    requires bounded { AreBounded at }
+    ensures { result ≡ phases_with_feedback feedback at }
 {
-    (before_last + last) >> (9 - feedback)
+    at.phases + ((at.before_last + at.last) >> i32x4::splat(i32::from(9 - feedback)))
 }
 
-/// A phase with the feedback.
+/// The bits of four numbers.
 #[inline(always)]
-fn fed_phase(phase: i32, feedback: u8, before_last: i32, last: i32) -> i32
-    requires feedback { (1 ≤ feedback) × (feedback ≤ 7) }
-    requires small { (unsigned_abs before_last ≤ 2 ^ 29) × (unsigned_abs last ≤ 2 ^ 29) }
-    ensures { result ≡ wrap (phase +ℤ feedback_of feedback (record { before_last = before_last; last = last })) }
+fn bits(lanes: i32x4) -> u32x4
+    requires four { length lanes ≡ 4 }
+    requires fits { Each1 (FitsSigned w32) lanes }
+    ensures { result ≡ map residue lanes }
 {
-    phase.wrapping_add(fed_back(feedback, before_last, last))
+    u32x4::from_le_bytes(lanes.to_le_bytes())
 }
 
 /// The sines of four phases.
 #[inline(always)]
-fn sines_of(pairs: &[i32x2], p0: i32, p1: i32, p2: i32, p3: i32) -> i64x4
+fn sines_of(pairs: &[i32x2], phases: i32x4) -> i64x4
     requires table { IsTable [] sine_pair 1024 pairs.now }
-    ensures { result ≡ sine p0 ∷ sine p1 ∷ sine p2 ∷ sine p3 ∷ [] }
+    requires four { length phases ≡ 4 }
+    requires fits { Each1 (FitsSigned w32) phases }
+    ensures { result ≡ map sine phases }
 {
-    four_sines(
-        pairs,
-        place(p0),
-        place(p1),
-        place(p2),
-        place(p3),
-        rest(p0),
-        rest(p1),
-        rest(p2),
-        rest(p3),
-    )
+    let bits = bits(phases);
+    let [p0, p1, p2, p3] = ((bits >> 14) % u32x4::splat(1024)).to_array();
+    four_sines(pairs, p0, p1, p2, p3, bits % u32x4::splat(16384))
 }
 
 /// The next sample of each of four operators.
@@ -94,16 +85,7 @@ pub(crate) fn samples(pairs: &[i32x2], feedback: u8, at: Quartet) -> i32x4
     requires bounded { AreBounded at }
     ensures { (v : Four) (j : ℕ) → j < 64 → v.feedback ≡ feedback → AreLive v → AreAt v j at → result ≡ fed_samples v j }
 {
-    let [p0, p1, p2, p3] = at.phases.to_array();
-    let [x0, x1, x2, x3] = at.before_last.to_array();
-    let [y0, y1, y2, y3] = at.last.to_array();
-    let sines = sines_of(
-        pairs,
-        fed_phase(p0, feedback, x0, y0),
-        fed_phase(p1, feedback, x1, y1),
-        fed_phase(p2, feedback, x2, y2),
-        fed_phase(p3, feedback, x3, y3),
-    );
+    let sines = sines_of(pairs, fed_phases(feedback, at));
     four_products(sines, at.gains)
 }
 

@@ -1,4 +1,4 @@
-use Rattle.std.proofs.Common.{ℕ, ℤ, pos, map, get_or, to_z, of_z, ◌≡◌, ◌≤◌, ◌<◌, ◌+◌, ◌∙◌, refl, ap, w32, arith}
+use Rattle.std.proofs.Common.{pos, map, get_or, to_z, of_z, ◌≡◌, ◌≤◌, ◌∙◌, refl, ap, w32, arith}
 use Rattle.operator_kernel.specs.Operator.{feedback_state_of, feedback_state_after}
 use Rattle.operator_kernel.specs.Quartets.{four_of, fed_samples, AreLive}
 use Rattle.operator_kernel.proofs.Buses.{IsMixedUpTo-none, IsMixedUpTo-next, IsMixedUpTo-all}

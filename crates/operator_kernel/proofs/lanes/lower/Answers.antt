@@ -1,5 +1,4 @@
-use Rattle.std.proofs.Common.{ℕ, ℤ, pos, List, length, get_or, SFits, w64, ◌<◌, ◌≡◌, arith}
-use lib.Lanes.{Each1}
+use Rattle.std.proofs.Common.{ℕ, pos, length, get_or, SFits, w64, ◌<◌, ◌≡◌, arith}
 use Rattle.std.proofs.lemmas.Simd.{Each1-get_or}
 use Rattle.operator_kernel.proofs.Fours.{four_is, four_same}
 use Rattle.operator_kernel.proofs.Halves.{lower_read}

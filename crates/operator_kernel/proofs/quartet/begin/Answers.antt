@@ -1,4 +1,4 @@
-use Rattle.std.proofs.Common.{ℕ, ℤ, pos, get_or, ◌∙◌, ap, sym, SFits, w32, arith, rules}
+use Rattle.std.proofs.Common.{pos, get_or, ◌∙◌, ap, sym, SFits, w32, arith, rules}
 use Rattle.std.proofs.lemmas.Int.{to_z-of_z}
 use Rattle.operator_kernel.specs.Operator.{feedback_state_of}
 use Rattle.operator_kernel.proofs.Fours.{four_same}

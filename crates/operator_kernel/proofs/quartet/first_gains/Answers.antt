@@ -1,4 +1,4 @@
-use Rattle.std.proofs.Common.{◌∙◌, arith}
+use Rattle.std.proofs.Common.{arith}
 use Rattle.operator_kernel.proofs.Fours.{four_same}
 use Rattle.operator_kernel.proofs.Gains.{gain_wide, gain_read_32}
 use Rattle.operator_kernel.proofs.quartet.first_gains.Goals as goal

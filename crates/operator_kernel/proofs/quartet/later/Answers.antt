@@ -1,4 +1,4 @@
-use Rattle.std.proofs.Common.{ℕ, ℤ, map, to_z, of_z, ◌≡◌, ◌≤◌, ◌<◌, ◌+◌, ◌∙◌, ap, sym, w32, w64, arith}
+use Rattle.std.proofs.Common.{map, to_z, of_z, ◌≡◌, ◌≤◌, ◌+◌, ◌∙◌, ap, sym, w32, w64, arith}
 use Rattle.operator_kernel.specs.Lanes.{phase_lanes, gains_of_four}
 use Rattle.operator_kernel.proofs.Fours.{four_same}
 use Rattle.operator_kernel.proofs.LaneSteps.{wide_gain_read}

@@ -1,4 +1,3 @@
-use Rattle.std.proofs.Common.{map, to_z, of_z, w32, w64, arith}
 use Rattle.operator_kernel.proofs.Fours.{four_same}
 use Rattle.operator_kernel.proofs.Gains.{gain_wide_next, step_read}
 use Rattle.operator_kernel.proofs.quartet.later_gains.Goals as goal

@@ -1,16 +1,31 @@
-use Rattle.std.proofs.lemmas.Int.{to_z-of_z}
-use Rattle.operator_kernel.proofs.Fours.{four_same}
-use Rattle.operator_kernel.proofs.Quartets.{sine_lane}
+use Rattle.std.proofs.Common.{refl, pos, arith}
+use Rattle.operator_kernel.proofs.Fours.{four_is, four_same, lanes_read}
+use Rattle.operator_kernel.proofs.Quartets.{bits_are, sine_lane}
 use Rattle.operator_kernel.proofs.quartet.sines_of.Goals as goal
+
+pub bits-bits-requires-clause-fits : goal.bits-bits-requires-clause-fits
+bits-bits-requires-clause-fits c = rw (lanes_read c.args.phases c.requires.fits) c.requires.fits
+
+pub nonzero_rem-p0 : goal.nonzero_rem-p0
+nonzero_rem-p0 c =
+    rw (bits_are _ _ c.requires.four c.requires.fits c.bits-bits.ensures) (omega arith, (omega arith, (omega arith, (omega arith, tt))))
+
+pub nonzero_rem-bits : goal.nonzero_rem-bits
+nonzero_rem-bits c =
+    rw (bits_are _ _ c.requires.four c.requires.fits c.bits-bits.ensures) (omega arith, (omega arith, (omega arith, (omega arith, tt))))
+
+pub four_sines-requires-clause-places : goal.four_sines-requires-clause-places
+four_sines-requires-clause-places c =
+    rw (bits_are _ _ c.requires.four c.requires.fits c.bits-bits.ensures) (omega arith, omega arith, omega arith, omega arith)
+
+pub four_sines-requires-clause-four : goal.four_sines-requires-clause-four
+four_sines-requires-clause-four c = rw (bits_are _ _ c.requires.four c.requires.fits c.bits-bits.ensures)
+
+pub four_sines-requires-clause-rests : goal.four_sines-requires-clause-rests
+four_sines-requires-clause-rests c =
+    rw (bits_are _ _ c.requires.four c.requires.fits c.bits-bits.ensures) (omega arith, (omega arith, (omega arith, (omega arith, tt))))
 
 pub returns : goal.returns
 returns c =
-    let r0 = c.ranges.p0 in
-    let r1 = c.ranges.p1 in
-    let r2 = c.ranges.p2 in
-    let r3 = c.ranges.p3 in
-    rw c.four_sines.ensures (four_same
-    (sine_lane c.args.p0 _ _ (simp to_z-of_z at c.place.ensures) (simp to_z-of_z at c.rest.ensures))
-    (sine_lane c.args.p1 _ _ (simp to_z-of_z at c.place-2.ensures) (simp to_z-of_z at c.rest-2.ensures))
-    (sine_lane c.args.p2 _ _ (simp to_z-of_z at c.place-3.ensures) (simp to_z-of_z at c.rest-3.ensures))
-    (sine_lane c.args.p3 _ _ (simp to_z-of_z at c.place-4.ensures) (simp to_z-of_z at c.rest-4.ensures)))
+    rw (c.four_sines.ensures, bits_are _ _ c.requires.four c.requires.fits c.bits-bits.ensures, four_is (pos 0) c.args.phases c.requires.four)
+    (four_same (sine_lane _ _ _ refl refl) (sine_lane _ _ _ refl refl) (sine_lane _ _ _ refl refl) (sine_lane _ _ _ refl refl))
