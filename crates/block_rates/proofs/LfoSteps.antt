@@ -34,22 +34,22 @@ pub phase_more : (o : LfoState) (m : ℕ) → (phase_after o m + phase_increment
 unfolding phase_after
 phase_more o m = omega arith
 
--- a cycle ends in a step exactly where the phase is then below the step
-more_cycles : (x step : ℕ) (f : ℕ → ℕ) (r : ℕ) → step < 2 ^ 32 → times ((x + step) / 2 ^ 32) f r ≡ cond (ltb ((x + step) % 2 ^ 32) step) (f (times (x / 2 ^ 32) f r)) (times (x / 2 ^ 32) f r)
+-- a cycle ends in a step exactly where the phase is then below the phase increment
+more_cycles : (x increment : ℕ) (f : ℕ → ℕ) (r : ℕ) → increment < 2 ^ 32 → times ((x + increment) / 2 ^ 32) f r ≡ cond (ltb ((x + increment) % 2 ^ 32) increment) (f (times (x / 2 ^ 32) f r)) (times (x / 2 ^ 32) f r)
 unfolding times
-more_cycles x step f r small =
-    elim (lt_or_le ((x + step) % 2 ^ 32) step) [
+more_cycles x increment f r small =
+    elim (lt_or_le ((x + increment) % 2 ^ 32) increment) [
       | inl lt ↦
-          let e : (x + step) / 2 ^ 32 ≡ suc (x / 2 ^ 32) = omega arith in
-          rw (lt-ltb ((x + step) % 2 ^ 32) step lt, e) refl
+          let e : (x + increment) / 2 ^ 32 ≡ suc (x / 2 ^ 32) = omega arith in
+          rw (lt-ltb ((x + increment) % 2 ^ 32) increment lt, e) refl
       | inr le ↦
-          let e : (x + step) / 2 ^ 32 ≡ x / 2 ^ 32 = omega arith in
-          rw (le-ltb ((x + step) % 2 ^ 32) step le, e) refl
+          let e : (x + increment) / 2 ^ 32 ≡ x / 2 ^ 32 = omega arith in
+          rw (le-ltb ((x + increment) % 2 ^ 32) increment le, e) refl
     ]
 
-held_more : (b : Bool) (x step : ℕ) (f : ℕ → ℕ) (r : ℕ) → step < 2 ^ 32 → cond b (times ((x + step) / 2 ^ 32) f r) r ≡ cond b (cond (ltb ((x + step) % 2 ^ 32) step) (f (cond b (times (x / 2 ^ 32) f r) r)) (cond b (times (x / 2 ^ 32) f r) r)) (cond b (times (x / 2 ^ 32) f r) r)
-held_more true x step f r small = more_cycles x step f r small
-held_more false x step f r small = refl
+held_more : (b : Bool) (x increment : ℕ) (f : ℕ → ℕ) (r : ℕ) → increment < 2 ^ 32 → cond b (times ((x + increment) / 2 ^ 32) f r) r ≡ cond b (cond (ltb ((x + increment) % 2 ^ 32) increment) (f (cond b (times (x / 2 ^ 32) f r) r)) (cond b (times (x / 2 ^ 32) f r) r)) (cond b (times (x / 2 ^ 32) f r) r)
+held_more true x increment f r small = more_cycles x increment f r small
+held_more false x increment f r small = refl
 
 pub random_more : (o : LfoState) (m : ℕ) → phase_increment o.settings.speed < 2 ^ 32 → random_after o (m + 1) ≡ cond (is_held (wave_of o.settings.wave)) (cond (ltb (phase_after o (m + 1)) (phase_increment o.settings.speed)) (next_random (random_after o m)) (random_after o m)) (random_after o m)
 unfolding random_after phase_after

@@ -77,9 +77,9 @@ impl Lfo {
         ensures depth_low { pos 0 ≤ℤ result.1 }
         ensures depth_high { result.1 ≤ℤ pos 16777216 }
     {
-        let step = phase_increment(self.speed);
-        self.phase = self.phase.wrapping_add(step);
-        self.random = held_random(self.wave, self.phase < step, self.random);
+        let increment = phase_increment(self.speed);
+        self.phase = self.phase.wrapping_add(increment);
+        self.random = held_random(self.wave, self.phase < increment, self.random);
         let depth = depth_of(self.delay, self.delay_state);
         self.delay_state = next_delay_state(self.delay, self.delay_state);
         (

@@ -24,9 +24,9 @@ shift_is n m depth sensitivity level r d v e l =
     e ∙ rw (d, v) refl ∙ ap (pitch_modulation n.voice m) l ∙ ap (λ x. pitch_modulation n.voice x (pitch_envelope_level (pitch_settings n.voice) (length n.past + 1) n.off)) (sym (modulation_last n m))
 
 -- an operator as it is heard in the next block
-pub heard_is : (switch : ℕ) (shift lfo : ℤ) (lfo_depth operator : ℕ) (n : NoteData) (m : Modulation) (op r : OpBlock) → IsModulated switch shift lfo lfo_depth n m → r ≡ cond (is_on switch operator) op (muted op) → op ≡ operator_in (after_block n m) operator (length n.past) → r ≡ audible_in (after_block n m) operator (length n.past)
+pub audible_is : (switch : ℕ) (shift lfo : ℤ) (lfo_depth operator : ℕ) (n : NoteData) (m : Modulation) (op r : OpBlock) → IsModulated switch shift lfo lfo_depth n m → r ≡ cond (is_on switch operator) op (muted op) → op ≡ operator_in (after_block n m) operator (length n.past) → r ≡ audible_in (after_block n m) operator (length n.past)
 unfolding audible_in
-heard_is switch shift lfo lfo_depth operator n m op r h e o = e ∙ rw (o, h.switch_is) refl
+audible_is switch shift lfo lfo_depth operator n m op r h e o = e ∙ rw (o, h.switch_is) refl
 
 -- the operators that a loop has gone through up to a place, and the others as before
 pub record ArePassedUpTo (i : ℕ) (shift shift' : ℤ) (n n' : NoteData) (os : List Operator) : Type 0 where
@@ -46,14 +46,14 @@ pub passed_all : (i : ℕ) (shift shift' : ℤ) (n n' : NoteData) (os : List Ope
 passed_all i shift shift' n n' os le m = λ k d lt. m.done k d (omega arith)
 
 -- the first i operators as they are heard
-pub record MeetsEquationUpTo (i : ℕ) (n : NoteData) (block : ℕ) (ops : List OpBlock) : Type 0 where
+pub record AreAudibleUpTo (i : ℕ) (n : NoteData) (block : ℕ) (ops : List OpBlock) : Type 0 where
   pub each : (k : ℕ) (d : OpBlock) → k < i → get_or ops k d ≡ audible_in n (k + 1) block
 
-pub heard_none : (n : NoteData) (block : ℕ) (ops : List OpBlock) → MeetsEquationUpTo 0 n block ops
-heard_none n block ops = record { each = λ k d lt. absurd (omega (arith, lt)) }
+pub audible_none : (n : NoteData) (block : ℕ) (ops : List OpBlock) → AreAudibleUpTo 0 n block ops
+audible_none n block ops = record { each = λ k d lt. absurd (omega (arith, lt)) }
 
-pub heard_next : (i : ℕ) (n : NoteData) (block : ℕ) (ops : List OpBlock) (op : OpBlock) → length ops ≡ 6 → i < 6 → MeetsEquationUpTo i n block ops → op ≡ audible_in n (i + 1) block → MeetsEquationUpTo (i + 1) n block (set ops i op)
-heard_next i n block ops op e lt m h = record {
+pub audible_next : (i : ℕ) (n : NoteData) (block : ℕ) (ops : List OpBlock) (op : OpBlock) → length ops ≡ 6 → i < 6 → AreAudibleUpTo i n block ops → op ≡ audible_in n (i + 1) block → AreAudibleUpTo (i + 1) n block (set ops i op)
+audible_next i n block ops op e lt m h = record {
   each = λ k d below. let l : i < length ops = rw e lt in set_more (λ k o. o ≡ audible_in n (k + 1) block) ops i op d l (λ k b. m.each k d b) h k below;
 }
 
@@ -66,8 +66,8 @@ six_of n block (suc (suc (suc (suc zero)))) d lt = refl
 six_of n block (suc (suc (suc (suc (suc zero))))) d lt = refl
 six_of n block (suc (suc (suc (suc (suc (suc k)))))) d lt = absurd (omega arith)
 
-pub heard_all : (i : ℕ) (n : NoteData) (block : ℕ) (ops : List OpBlock) → length ops ≡ 6 → 6 ≤ i → MeetsEquationUpTo i n block ops → ops ≡ operators_in n block
-heard_all i n block ops e le m =
+pub audible_all : (i : ℕ) (n : NoteData) (block : ℕ) (ops : List OpBlock) → length ops ≡ 6 → 6 ≤ i → AreAudibleUpTo i n block ops → ops ≡ operators_in n block
+audible_all i n block ops e le m =
     same_lists ops (operators_in n block) e
     (λ k d lt. let l : k < 6 = rw (← e) lt in m.each k d (omega arith) ∙ six_of n block k d l)
 

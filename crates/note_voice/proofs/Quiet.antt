@@ -184,14 +184,14 @@ middle : pitch_of 50 ≡ pos 0
 unfolding pitch_of pitch_level
 middle = refl
 
-glided_still : (g : PitchSegment) (m : ℕ) → g.target ≡ pos 0 → pitch_moved g (pos 0) m ≡ pos 0
+moved_still : (g : PitchSegment) (m : ℕ) → g.target ≡ pos 0 → pitch_moved g (pos 0) m ≡ pos 0
 unfolding pitch_moved
-glided_still g m e =
+moved_still g m e =
     let f : int_max (pos 0) (pos 0 -ℤ pos (m * g.step)) ≡ pos 0 = omega (arith, ints, clamps) in
     rw e f
 
 middle_still : (g : PitchSegment) → g.target ≡ pos 0 → IsStill pitch_motion (pos 0) g
-middle_still g e = record { target = e; stays = λ m. glided_still g m e }
+middle_still g e = record { target = e; stays = λ m. moved_still g m e }
 
 still_by : (s : PitchEnvelopeSettings) (j : ℕ) (off : Option ℕ) → ((k : ℕ) → after pitch_motion (pitch_segment_at s 0 ∷ pitch_segment_at s 1 ∷ pitch_segment_at s 2 ∷ []) (pitch_of (get_or s.levels 3 0)) k ≡ pos 0) → IsStill pitch_motion (pos 0) (pitch_segment_at s 3) → pitch_envelope_level s j off ≡ pos 0
 unfolding pitch_envelope_level four_stages

@@ -85,7 +85,7 @@ running_released phase gain e e' pitch weight increment shift operator n r h = r
   envelope_is = h;
 }
 
--- 64 more steps of the phase
+-- 64 more phase increments
 phase_moved : (s f : ℤ) → int_wrap w32 (int_wrap w32 (pos 64 *ℤ s) +ℤ int_wrap w32 (f *ℤ pos 64)) ≡ wrap (pos 64 *ℤ (s +ℤ f))
 phase_moved s f =
     let e : pos 64 *ℤ s +ℤ f *ℤ pos 64 ≡ pos 64 *ℤ (s +ℤ f) = omega (arith, ints) in
@@ -107,9 +107,9 @@ pub gain_is : (n : NoteData) (m : Modulation) (operator : ℕ) (level attenuatio
 unfolding gain_after envelope_settings
 gain_is n m operator level attenuation r e l d = e ∙ ap (λ z. gain_of z attenuation) l ∙ ap (gain_of _) d
 
-pub running_after_block : (phase phase' step gain gain' : ℤ) (e e' : Envelope) (pitch : ℤ) (weight : ℕ) (shift : ℤ) (operator : ℕ) (n : NoteData) (m : Modulation) → IsRunning phase gain e pitch weight step shift operator n → step ≡ increment_in (after_block n m) operator (length n.past) → phase' ≡ int_wrap w32 (phase +ℤ int_wrap w32 (step *ℤ pos 64)) → gain' ≡ gain_after (after_block n m) operator (length n.past) → IsEnvelope e' (envelope_settings n operator) (length n.past + 1) n.off → IsRunning phase' gain' e' pitch weight step shift operator (after_block n m)
+pub running_after_block : (phase phase' increment gain gain' : ℤ) (e e' : Envelope) (pitch : ℤ) (weight : ℕ) (shift : ℤ) (operator : ℕ) (n : NoteData) (m : Modulation) → IsRunning phase gain e pitch weight increment shift operator n → increment ≡ increment_in (after_block n m) operator (length n.past) → phase' ≡ int_wrap w32 (phase +ℤ int_wrap w32 (increment *ℤ pos 64)) → gain' ≡ gain_after (after_block n m) operator (length n.past) → IsEnvelope e' (envelope_settings n operator) (length n.past + 1) n.off → IsRunning phase' gain' e' pitch weight increment shift operator (after_block n m)
 unfolding envelope_settings
-running_after_block phase phase' step gain gain' e e' pitch weight shift operator n m r s p g h =
+running_after_block phase phase' increment gain gain' e e' pitch weight shift operator n m r s p g h =
     let k = length n.past in
     let P : ℕ → Type 0 = λ i. IsEnvelope e' (envelope_settings n operator) i n.off in
     let before : increments_before n operator k ≡ increments_before (after_block n m) operator k = sym (increments_same k n _ _ operator k (agrees_after_block n m) (omega arith)) in
@@ -123,9 +123,9 @@ running_after_block phase phase' step gain gain' e e' pitch weight shift operato
     }
 
 -- the operator of the next block, from what is kept
-pub operator_is : (phase step gain gain' : ℤ) (e : Envelope) (pitch : ℤ) (weight : ℕ) (shift : ℤ) (operator : ℕ) (n : NoteData) (m : Modulation) → IsRunning phase gain e pitch weight step shift operator n → step ≡ increment_in (after_block n m) operator (length n.past) → gain' ≡ gain_after (after_block n m) operator (length n.past) →
-    ◌≡◌ {A = OpBlock} (record { phase = phase; freq = step; g1 = gain; g2 = gain' }) (operator_in (after_block n m) operator (length n.past))
-operator_is phase step gain gain' e pitch weight shift operator n m r s g =
+pub operator_is : (phase increment gain gain' : ℤ) (e : Envelope) (pitch : ℤ) (weight : ℕ) (shift : ℤ) (operator : ℕ) (n : NoteData) (m : Modulation) → IsRunning phase gain e pitch weight increment shift operator n → increment ≡ increment_in (after_block n m) operator (length n.past) → gain' ≡ gain_after (after_block n m) operator (length n.past) →
+    ◌≡◌ {A = OpBlock} (record { phase = phase; freq = increment; g1 = gain; g2 = gain' }) (operator_in (after_block n m) operator (length n.past))
+operator_is phase increment gain gain' e pitch weight shift operator n m r s g =
     let k = length n.past in
     let ep : phase ≡ wrap (pos 64 *ℤ increments_before (after_block n m) operator k) = r.phase_is ∙ ap (λ z. wrap (pos 64 *ℤ z)) (sym (increments_same k n _ _ operator k (agrees_after_block n m) (omega arith))) in
     let eg : gain ≡ gain_before (after_block n m) operator k = r.gain_is ∙ sym (gain_before_same k n _ _ operator k (agrees_after_block n m) (omega arith)) in

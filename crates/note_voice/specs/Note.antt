@@ -71,11 +71,11 @@ pitch_settings voice = record { rates = four_from voice 126; levels = four_from 
 unfoldable pub pitch_shift_in : NoteData → ℕ → ℤ
 pitch_shift_in n i = pitch_modulation n.voice (modulation_in n.past i) (pitch_envelope_level (pitch_settings n.voice) (i + 1) n.off)
 
--- the phase step of an operator in block i
+-- the phase increment of an operator in block i
 unfoldable pub increment_in : NoteData → ℕ → ℕ → ℤ
 increment_in n operator i = frequency (pitch_of_operator n.voice operator (played_note n.voice n.key) +ℤ pitch_shift_in n i)
 
--- the sum of the phase steps of the first i blocks
+-- the sum of the phase increments of the first i blocks
 unfoldable pub increments_before : NoteData → ℕ → ℕ → ℤ
 increments_before n operator zero = pos 0
 increments_before n operator (suc i) = increments_before n operator i +ℤ increment_in n operator i

@@ -1,4 +1,5 @@
 //! A note's definition as a plain program: each block is computed anew from the list of what moved the note.
+//! Its levels, pitches, tables and edges are the product's own.
 
 ghost use Rattle.std.specs.Prelude.{◌≤◌, ◌*◌, ◌+◌, ◌^◌, pos, neg_ℤ, ◌≤ℤ◌};
 
@@ -51,7 +52,7 @@ pub struct PlainNote {
 #[derive(Clone, Copy)]
 struct PlainOperator {
     phase: i32,
-    step: i32,
+    increment: i32,
     before: i64,
     after: i64,
 }
@@ -77,9 +78,9 @@ fn level(voice: &Voice, place: usize, out: i64, scale: i64, k: u32, off: u32) ->
         let speed = rate.wrapping_add(scale).clamp(0, 63) as u32;
         let moves = i64::from(4 + speed % 4).wrapping_mul(i64::from(256u32 << (speed / 4)));
         if target > level {
-            let lifted = level.max(112_459_776);
-            let rest = 285_212_672i64.wrapping_sub(lifted) >> 24;
-            level = lifted.wrapping_add(rest.wrapping_mul(moves)).min(target);
+            let raised = level.max(112_459_776);
+            let rest = 285_212_672i64.wrapping_sub(raised) >> 24;
+            level = raised.wrapping_add(rest.wrapping_mul(moves)).min(target);
         } else {
             level = level.wrapping_sub(moves).max(target);
         }
@@ -180,7 +181,7 @@ fn gain(tables: &Tables, note: &PlainNote, operator: u8, k: u32) -> i64 {
     i64::from(tables.exp(fallen.clamp(0, 300_000_000) as i32 - 0xE00_0000))
 }
 
-fn step(tables: &Tables, note: &PlainNote, operator: u8, i: u32) -> i32 {
+fn increment(tables: &Tables, note: &PlainNote, operator: u8, i: u32) -> i32 {
     let pitch = operator_pitch(tables, &note.voice, operator.clamp(1, 6), played(note));
     let sum = i64::from(pitch).wrapping_add(shift(note, i));
     tables.freq(sum.clamp(-2_000_000_000, 2_000_000_000) as i32)
@@ -189,12 +190,12 @@ fn step(tables: &Tables, note: &PlainNote, operator: u8, i: u32) -> i32 {
 fn operator(tables: &Tables, note: &PlainNote, operator: u8, i: u32) -> PlainOperator {
     let mut phase = 0i32;
     for b in 0..i {
-        phase = phase.wrapping_add(step(tables, note, operator, b).wrapping_mul(64));
+        phase = phase.wrapping_add(increment(tables, note, operator, b).wrapping_mul(64));
     }
     let is_on = (note.switch >> (6 - operator.clamp(1, 6))) % 2 == 1;
     PlainOperator {
         phase,
-        step: step(tables, note, operator, i),
+        increment: increment(tables, note, operator, i),
         before: if is_on {
             gain(tables, note, operator, i)
         } else {
@@ -214,7 +215,7 @@ fn sample(tables: &Tables, op: &PlainOperator, j: i32, input: i32) -> i32 {
     }
     let phase = op
         .phase
-        .wrapping_add(op.step.wrapping_mul(j))
+        .wrapping_add(op.increment.wrapping_mul(j))
         .wrapping_add(input);
     let growth = op.after.wrapping_sub(op.before).wrapping_add(32) >> 6;
     let now = op
@@ -233,7 +234,7 @@ pub fn block(
 ) -> [i32; 64] {
     let mut ops = [PlainOperator {
         phase: 0,
-        step: 0,
+        increment: 0,
         before: 0,
         after: 0,
     }; 7];

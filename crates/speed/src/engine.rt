@@ -20,7 +20,7 @@ const INSTRUMENT_BLOCKS: u32 = 10_000;
 const COMMANDS: u32 = 1_000_000;
 
 /// One note of six operators, three of them carriers, and feedback. Where its key is released at once it soon has died away.
-pub fn render_note(alloc: Global, is_let_go: bool) -> Result<i64, AllocError> {
+pub fn render_note(alloc: Global, is_released: bool) -> Result<i64, AllocError> {
     let tables = Tables::new(alloc)?;
     let mut voice = Voice::init();
     for operator in 0..6u8 {
@@ -31,7 +31,7 @@ pub fn render_note(alloc: Global, is_let_go: bool) -> Result<i64, AllocError> {
     let _ = voice.set(135, 7);
     let mut note = Note::idle();
     note.start(&tables, &voice, 63, 60, 100);
-    if is_let_go {
+    if is_released {
         note.release();
     }
     let mut sum = 0i64;

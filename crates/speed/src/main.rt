@@ -64,18 +64,18 @@ fn main(rt: HostRuntime) -> Result<(), anyhow::Error> {
 /// 200,000 blocks of one note with six sounding operators, three of them carriers, and feedback.
 fn render_notes(alloc: Global) -> Result<i32, AllocError> {
     let tables = Tables::new(alloc)?;
-    let mut memory = [0i32; 2];
+    let mut feedback_state = [0i32; 2];
     let mut out = [0i32; 64];
     let mut sum = 0i32;
     for block in 0..200_000u32 {
         let ops = operators(block as i32);
-        run_note(&tables, 4, 7, &ops, &mut memory, &mut out);
+        run_note(&tables, 4, 7, &ops, &mut feedback_state, &mut out);
         sum = sum.wrapping_mul(31).wrapping_add(out[block as usize % 64]);
     }
     Ok(sum)
 }
 
-/// Six operators with steps of their own, each as far on as after so many blocks.
+/// Six operators with phase increments of their own, each as far on as after so many blocks.
 fn operators(block: i32) -> [OpBlock; 6]
     ensures { HaveGains result }
 {

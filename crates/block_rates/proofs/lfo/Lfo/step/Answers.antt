@@ -7,16 +7,16 @@ use Rattle.block_rates.proofs.lfo.Lfo.step.Goals as goal
 
 pub returns-clause-stands : goal.returns-clause-stands
 returns-clause-stands c = λ o m h.
-    let step = c.phase_increment-step.ensures.value ∙ ap phase_increment h.speed in
-    let small : phase_increment o.settings.speed < 2 ^ 32 = omega (arith, step, c.phase_increment-step.ensures.bound) in
-    let phase : (c.args.self.now.phase + c.phase_increment-step.result) % 2 ^ 32 ≡ phase_after o (m + 1) = rw (h.phase, step) (phase_more o m) in
+    let increment = c.phase_increment-increment.ensures.value ∙ ap phase_increment h.speed in
+    let small : phase_increment o.settings.speed < 2 ^ 32 = omega (arith, increment, c.phase_increment-increment.ensures.bound) in
+    let phase : (c.args.self.now.phase + c.phase_increment-increment.result) % 2 ^ 32 ≡ phase_after o (m + 1) = rw (h.phase, increment) (phase_more o m) in
     record {
       speed = h.speed;
       delay = h.delay;
       sync = h.sync;
       wave = h.wave;
       phase = phase;
-      random = c.held_random-self.ensures ∙ rw (h.wave, h.random, phase, step) (sym (random_more o m small));
+      random = c.held_random-self.ensures ∙ rw (h.wave, h.random, phase, increment) (sym (random_more o m small));
       delay_state = c.next_delay_state-self.ensures ∙ rw (h.delay, h.delay_state) (sym (delay_more o m));
     }
 
