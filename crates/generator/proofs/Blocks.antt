@@ -14,7 +14,7 @@ use Rattle.generator.specs.Scripts.{IsGenerated, AreBefore}
 use Rattle.generator.specs.Playing.{CanSend, HasSentTo, IsInBlock, generated_of}
 use Rattle.generator.specs.declared.script.GeneratedScript.{GeneratedScript}
 use Rattle.generator.proofs.Ranges.{flat_more}
-use Rattle.generator.proofs.Dues.{due_of, due_run, none_before}
+use Rattle.generator.proofs.DueBlocks.{due_of, due_run, none_before}
 
 -- how many commands were generated
 

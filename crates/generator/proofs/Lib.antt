@@ -1,6 +1,6 @@
 pub mod Ranges
 pub mod Generating
-pub mod Dues
+pub mod DueBlocks
 pub mod Lines
 pub mod Sends
 pub mod Blocks

@@ -43,16 +43,16 @@ kept seed number b i (suc k) never =
     ∙ kept seed number b i k (λ j up below. never j up (omega (arith, below)))
 
 -- commands that are due at the block
-taken : (seed number b i k : ℕ) → ((j : ℕ) → i ≤ j → j < i + k → due seed j ≡ b)
+chosen : (seed number b i k : ℕ) → ((j : ℕ) → i ≤ j → j < i + k → due seed j ≡ b)
     → due_of seed number b (i + k) ≡ due_of seed number b i ++ map (entry seed number) (range_with_len i k)
-taken seed number b i zero always = ap (due_of seed number b) (let e : i + 0 ≡ i = omega arith in e) ∙ sym (append-nil (due_of seed number b i))
-taken seed number b i (suc k) always =
+chosen seed number b i zero always = ap (due_of seed number b) (let e : i + 0 ≡ i = omega arith in e) ∙ sym (append-nil (due_of seed number b i))
+chosen seed number b i (suc k) always =
     let here : (due seed (i + k) == b) ≡ true = eq-eqb (due seed (i + k)) b (always (i + k) (omega arith) (omega arith)) in
     let prefix : List EntryData = due_of seed number b i in
     ap (due_of seed number b) (let e : i + suc k ≡ i + k + 1 = omega arith in e)
     ∙ one_more seed number b (i + k)
     ∙ ap (λ (back : List EntryData). due_of seed number b (i + k) ++ back) (cond-true (due seed (i + k) == b) (entry seed number (i + k) ∷ []) [] here)
-    ∙ ap (λ (all : List EntryData). all ++ entry seed number (i + k) ∷ []) (taken seed number b i k (λ j up below. always j up (omega (arith, below))))
+    ∙ ap (λ (all : List EntryData). all ++ entry seed number (i + k) ∷ []) (chosen seed number b i k (λ j up below. always j up (omega (arith, below))))
     ∙ append_assoc prefix (map (entry seed number) (range_with_len i k)) (entry seed number (i + k) ∷ [])
     ∙ ap (λ (back : List EntryData). prefix ++ back) (sym (map-range_with_len_more (entry seed number) i k (i + k) refl))
     ∙ ap (λ (n : ℕ). prefix ++ map (entry seed number) (range_with_len i n)) (let e : k + 1 ≡ suc k = omega arith in e)
@@ -68,7 +68,7 @@ due_run seed number b n from to up first last =
     ap (due_of seed number b) (let e : from ≡ 0 + from = omega arith in e)
     ∙ kept seed number b 0 from (λ j behind below at. absurd (omega (arith, first.past j (omega (arith, below)), at))) in
     let some : due_of seed number b (from + (to - from)) ≡ due_of seed number b from ++ map (entry seed number) (range_with_len from (to - from)) =
-    taken seed number b from (to - from)
+    chosen seed number b from (to - from)
     (λ j behind below. let least : b ≤ due seed from = first.rest (omega (arith, behind, below, high)) in
     let most : due seed j < b + 1 = last.past j (omega (arith, below, up)) in
     omega (arith, least, most, due_grows seed from j behind)) in
