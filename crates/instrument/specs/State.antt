@@ -128,7 +128,7 @@ controlled s number value =
 abbrev pub voiced : State → List ℕ → State
 voiced s voice = record s { voice = voice; switch = 63 }
 
--- a number of the voice, or the operator switch, which is number 155
+-- a parameter of the voice, or the operator switch, which is number 155
 abbrev pub numbered : State → ℕ → ℕ → State
 numbered s number value = if number == 155 then record s { switch = value } else record s { voice = slice_set s.voice number value }
 

@@ -194,7 +194,7 @@ impl Instrument {
         self.load_voice(&voice);
     }
 
-    /// Sets a number of the voice, 0 to 154, or the operator switch, 155.
+    /// Sets a parameter of the voice, 0 to 154, or the operator switch, 155.
     fn set_number(&mut self, number: u8, value: u8)
         requires number { number ≤ 155 }
         requires value { value ≤ greatest_value number }

@@ -205,7 +205,7 @@ fn pick(random: u32, place: u32, bound: u32) -> u8
     ((mixed >> 8) % bound.max(1)) as u8
 }
 
-/// A voice whose numbers look random, each modulo its greatest value and one, with audible levels.
+/// A voice whose parameters look random, each modulo its greatest value and one, with audible levels.
 fn voice_of(seed: u32) -> Voice {
     let mut numbers = [0u8; 155];
     let mut random = seed;

@@ -1,4 +1,4 @@
--- The settings of an operator, 1 to 6, by their places in a voice: operator 6 stands first, with 21 numbers each.
+-- The settings of an operator, 1 to 6, by their places in a voice: operator 6 stands first, with 21 parameters each.
 use Rattle.std.specs.Prelude.{ℕ, ◌+◌, ◌-◌, ◌*◌, List, slice_index}
 
 abbrev pub operator_field : List ℕ → ℕ → ℕ → ℕ

@@ -1,4 +1,4 @@
--- How large the numbers of a voice are that a note reads.
+-- How large the parameters of a voice are that a note reads.
 use Rattle.std.proofs.Common.{ℕ, ◌≡◌, ◌+◌, ◌-◌, ◌*◌, ◌<◌, ◌≤◌, ◌∷◌, [], refl, List, get_or, arith}
 use Rattle.std.specs.List.{All}
 use Rattle.std.proofs.lemmas.List.Elements.{All-cons, All-nil}

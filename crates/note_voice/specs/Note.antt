@@ -14,7 +14,7 @@ use Rattle.algorithm_bus.specs.Signals.{Patch, feedback_state_left, note_output}
 use Rattle.algorithm_bus.specs.Buses.{op_of}
 use Rattle.note_voice.specs.Modulation.{Modulation, pitch_modulation, attenuation_of, gain_of}
 
--- a note as plain data: the 155 numbers of its voice, which operators are switched on, its key and velocity, after how many of its blocks
+-- a note as plain data: the 155 parameters of its voice, which operators are switched on, its key and velocity, after how many of its blocks
 -- the key was released, and what moved it in each block so far
 pub record NoteData : Type 0 where
   pub voice : List ℕ
@@ -47,7 +47,7 @@ modulation_in past i = slice_index_or past i (record { lfo = pos 0; lfo_depth = 
 abbrev pub played_note : List ℕ → ℕ → ℤ
 played_note voice key = pos key +ℤ pos (slice_index voice 144) -ℤ pos 24
 
--- four numbers of a voice, from this place on
+-- four parameters of a voice, from this place on
 abbrev pub four_from : List ℕ → ℕ → List ℕ
 four_from voice place = slice_index voice place ∷ slice_index voice (place + 1) ∷ slice_index voice (place + 2) ∷ slice_index voice (place + 3) ∷ []
 

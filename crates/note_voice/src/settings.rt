@@ -7,7 +7,7 @@ ghost use Rattle.note_voice.specs.Note.{four_from, played_note};
 
 use voice_record::Voice;
 
-/// Four numbers of a voice, from a place on.
+/// Four parameters of a voice, from a place on.
 fn four(voice: &Voice, place: u8) -> [u8; 4]
     requires { place ≤ 151 }
     ensures value { result ≡ four_from voice.now place }

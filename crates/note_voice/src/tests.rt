@@ -53,7 +53,7 @@ fn compare(rt: &impl Abort, tables: &Tables, plain: &PlainNote) -> u32
     sounding
 }
 
-/// A voice whose numbers look random, each modulo its greatest value and one, with levels that are heard.
+/// A voice whose parameters look random, each modulo its greatest value and one, with levels that are heard.
 fn voice_of(seed: u32) -> Voice {
     let mut numbers = [0u8; 155];
     let mut random = seed.wrapping_mul(2_654_435_761);

@@ -1,16 +1,16 @@
--- The packed form of a voice: 128 bytes whose bits hold the 155 fields.
+-- The packed form of a voice: 128 bytes whose bits hold the 155 parameters.
 use Rattle.std.specs.Prelude.{ℕ, ◌≡◌, ◌+◌, ◌-◌, ◌*◌, ◌/◌, ◌%◌, ◌^◌, ◌<◌, ◌≤◌, min, List, [], ◌∷◌, length, nat_lt, slice_index}
 use Rattle.std.specs.Prelude.{slice_index_or, if◌then◌else◌}
 use Rattle.std.specs.Int.{bit_at}
 use Rattle.voice_record.specs.Voice.{greatest_value}
 
--- where a field lies: a byte, its lowest bit there, and the number of its bits
+-- where a parameter lies: a byte, its lowest bit there, and the number of its bits
 pub record Row : Type 0 where
   pub byte : ℕ
   pub shift : ℕ
   pub width : ℕ
 
--- byte, lowest bit and number of bits of an operator's 21 fields, in their order, by the bytes of the operator
+-- byte, lowest bit and number of bits of an operator's 21 parameters, in their order, by the bytes of the operator
 abbrev pub operator_rows : List (ℕ × ℕ × ℕ)
 operator_rows =
     (0, 0, 7) ∷ (1, 0, 7) ∷ (2, 0, 7) ∷ (3, 0, 7)  -- rates
@@ -28,7 +28,7 @@ operator_rows =
     ∷ (12, 3, 4)  -- detune
     ∷ []
 
--- the same of the fields from 126 on, by the bytes of the voice
+-- the same of the parameters from 126 on, by the bytes of the voice
 abbrev pub common_rows : List (ℕ × ℕ × ℕ)
 common_rows =
     (102, 0, 7) ∷ (103, 0, 7) ∷ (104, 0, 7) ∷ (105, 0, 7)  -- pitch rates
@@ -49,27 +49,27 @@ common_rows =
 abbrev pub placed : ℕ → ℕ × ℕ × ℕ → Row
 placed start bits = record { byte = start + bits.0; shift = bits.1; width = bits.2 }
 
--- the row of a field, 0 to 154; each operator has 17 bytes
+-- the row of a parameter, 0 to 154; each operator has 17 bytes
 unfoldable pub row_of : ℕ → Row
 row_of field =
     if nat_lt field 126 then placed (17 * (field / 21)) (slice_index_or operator_rows (field % 21) (0, 0, 0))
     else placed 0 (slice_index_or common_rows (field - 126) (0, 0, 0))
 
--- the bits of a field
+-- the bits of a parameter
 abbrev pub bits_of : List ℕ → ℕ → ℕ
 bits_of bytes field = slice_index bytes (row_of field).byte / 2 ^ (row_of field).shift % 2 ^ (row_of field).width
 
--- each field is the lesser of its greatest value and its bits
+-- each parameter is the lesser of its greatest value and its bits
 pub record Unpacks (bytes fields : List ℕ) : Type 0 where
   pub count : length fields ≡ 155
   pub rows : (field : ℕ) → field < 155 → slice_index fields field ≡ min (greatest_value field) (bits_of bytes field)
 
--- a bit of a byte that belongs to a field
+-- a bit of a byte that belongs to a parameter
 abbrev pub IsUsed : ℕ → ℕ → Type 0
 IsUsed byte bit =
     (field : ℕ) × (field < 155) × ((row_of field).byte ≡ byte) × ((row_of field).shift ≤ bit) × (bit < (row_of field).shift + (row_of field).width)
 
--- the one packed form of a voice: its unused bits are 0, and no field is above its greatest value
+-- the one packed form of a voice: its unused bits are 0, and no parameter is above its greatest value
 pub record Packs (fields bytes : List ℕ) : Type 0 where
   pub count : length bytes ≡ 128
   pub unpacks : Unpacks bytes fields

@@ -1,7 +1,7 @@
--- A voice: a list of 155 numbers, each at most the greatest value of its place.
+-- A voice: a list of 155 parameters, each at most the greatest value of its place.
 use Rattle.std.specs.Prelude.{ℕ, ◌≡◌, ◌-◌, ◌%◌, ◌<◌, ◌≤◌, min, codes, List, [], ◌∷◌, ◌++◌, length, nat_lt, slice_index, if◌then◌else◌}
 
--- the greatest values of the 21 fields of an operator
+-- the greatest values of the 21 parameters of an operator
 abbrev pub operator_greatest : List ℕ
 operator_greatest =
     99 ∷ 99 ∷ 99 ∷ 99  -- rates 1 to 4
@@ -19,7 +19,7 @@ operator_greatest =
     ∷ 14  -- detune
     ∷ []
 
--- the greatest values of the numbers from 126 on; the last, number 155, is the operator switch
+-- the greatest values of the parameters from 126 on; the last, number 155, is the operator switch
 abbrev pub common_greatest : List ℕ
 common_greatest =
     99 ∷ 99 ∷ 99 ∷ 99  -- pitch rates 1 to 4
@@ -36,18 +36,18 @@ common_greatest =
     ∷ 63  -- operator switch
     ∷ []
 
--- the greatest value of a number from 0 to 155; the six operators come first, operator 6 before operator 1
+-- the greatest value of a parameter from 0 to 155; the six operators come first, operator 6 before operator 1
 unfoldable pub greatest_value : ℕ → ℕ
 greatest_value number =
     if nat_lt number 126 then slice_index operator_greatest (number % 21)
     else slice_index common_greatest (number - 126)
 
--- 155 numbers, each at most the greatest value of its place
+-- 155 parameters, each at most the greatest value of its place
 pub record IsVoice (fields : List ℕ) : Type 0 where
   pub count : length fields ≡ 155
   pub within : (number : ℕ) → number < 155 → slice_index fields number ≤ greatest_value number
 
--- each number is the lesser of the byte modulo 128 and the greatest value of its place
+-- each parameter is the lesser of the byte modulo 128 and the greatest value of its place
 pub record IsClamped (bytes fields : List ℕ) : Type 0 where
   pub count : length fields ≡ 155
   pub clamped :

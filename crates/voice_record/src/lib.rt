@@ -1,4 +1,4 @@
-//! Voices of the DX7: the 155 numbers of a voice, the greatest value of each, and the packed form of
+//! Voices of the DX7: the 155 parameters of a voice, the greatest value of each, and the packed form of
 //! 128 bytes that a bank of 32 voices has.
 #![tactic(auto)]
 

@@ -1,12 +1,12 @@
-//! How large each number of a voice may be.
+//! How large each parameter of a voice may be.
 
 ghost use Rattle.std.specs.Prelude.{◌≡◌, ◌≤◌};
 ghost use Rattle.voice_record.specs.Voice.{greatest_value};
 
-/// How many numbers an operator has.
+/// How many parameters an operator has.
 pub(crate) const OPERATOR_FIELDS: u8 = 21;
 
-/// The first number after the six operators.
+/// The first parameter after the six operators.
 pub(crate) const COMMON: u8 = 126;
 
 const OPERATOR_GREATEST: [u8; 21] = [
@@ -18,7 +18,7 @@ const COMMON_GREATEST: [u8; 30] = [
     127, 127, 127, 127, 127, 63,
 ];
 
-/// The greatest value of a number of a voice, 0 to 154, or of the operator switch, 155.
+/// The greatest value of a parameter of a voice, 0 to 154, or of the operator switch, 155.
 pub const fn greatest(number: u8) -> u8
     requires { number ≤ 155 }
     ensures value { result ≡ greatest_value number }

@@ -9,7 +9,7 @@ use crate::limits::{COMMON, OPERATOR_FIELDS, greatest};
 /// How many packed bytes an operator has.
 const OPERATOR_BYTES: u8 = 17;
 
-/// Byte, lowest bit and number of bits of each field of an operator, by the bytes of the operator.
+/// Byte, lowest bit and number of bits of each parameter of an operator, by the bytes of the operator.
 const OPERATOR_ROWS: [(u8, u8, u8); 21] = [
     (0, 0, 7),
     (1, 0, 7),
@@ -34,7 +34,7 @@ const OPERATOR_ROWS: [(u8, u8, u8); 21] = [
     (12, 3, 4), // detune
 ];
 
-/// The same of the fields from 126 on, by the bytes of the voice.
+/// The same of the parameters from 126 on, by the bytes of the voice.
 const COMMON_ROWS: [(u8, u8, u8); 29] = [
     (102, 0, 7),
     (103, 0, 7),
@@ -67,7 +67,7 @@ const COMMON_ROWS: [(u8, u8, u8); 29] = [
     (127, 0, 7),
 ];
 
-/// Where a field lies: its byte, its lowest bit there, and the number of its bits.
+/// Where a parameter lies: its byte, its lowest bit there, and the number of its bits.
 #[derive(Clone, Copy)]
 struct Place {
     byte: u8,
@@ -75,7 +75,7 @@ struct Place {
     width: u8,
 }
 
-/// The place of a field, 0 to 154.
+/// The place of a parameter, 0 to 154.
 fn place_of(field: u8) -> Place
     requires { field ≤ 154 }
     ensures byte { result.byte ≡ (row_of field).byte }
@@ -97,7 +97,7 @@ fn place_of(field: u8) -> Place
     }
 }
 
-/// The bits of a field.
+/// The bits of a parameter.
 fn bits(bytes: &[u8; 128], field: u8) -> u8
     requires { field ≤ 154 }
     ensures { result ≡ bits_of bytes.now field }
@@ -116,7 +116,7 @@ fn with_bits(byte: u8, value: u8, shift: u8) -> u8
     byte | value << shift
 }
 
-/// The 155 fields of 128 packed bytes.
+/// The 155 parameters of 128 packed bytes.
 pub fn unpack(bytes: &[u8; 128]) -> [u8; 155]
     ensures { Unpacks bytes.now result }
 {
@@ -127,7 +127,7 @@ pub fn unpack(bytes: &[u8; 128]) -> [u8; 155]
     fields
 }
 
-/// The 128 packed bytes of 155 fields.
+/// The 128 packed bytes of 155 parameters.
 pub fn pack(fields: &[u8; 155]) -> [u8; 128]
     requires { IsVoice fields.now }
     ensures { Packs fields.now result }

@@ -1,4 +1,4 @@
-//! A voice as its 155 numbers.
+//! A voice as its 155 parameters.
 
 ghost use Rattle.std.specs.Prelude.{List, ℕ, ◌≡◌, ◌<◌, ◌≤◌, ◌↔◌, IsOk, IfOk, IfErr, OnOk, OnErr, slice_index, slice_set};
 ghost use Rattle.voice_record.specs.Voice.{IsClamped, IsVoice, greatest_value, opening_voice};
@@ -8,7 +8,7 @@ use crate::limits::greatest;
 use crate::packing;
 use std::marker::Model;
 
-/// The opening voice: operators 6 to 1 with 21 numbers each, then the numbers of the whole voice.
+/// The opening voice: operators 6 to 1 with 21 parameters each, then the parameters of the whole voice.
 const OPENING: [u8; 155] = [
     99, 99, 99, 99, 99, 99, 99, 0, 39, 0, 0, 0, 0, 0, 0, 0, 0, 0, 1, 0, 7, //
     99, 99, 99, 99, 99, 99, 99, 0, 39, 0, 0, 0, 0, 0, 0, 0, 0, 0, 1, 0, 7, //
@@ -20,7 +20,7 @@ const OPENING: [u8; 155] = [
     73, 78, 73, 84, 32, 86, 79, 73, 67, 69,
 ];
 
-/// A voice of the DX7, seen as the list of its 155 numbers: 21 of each operator, operator 6 first, then
+/// A voice of the DX7, seen as the list of its 155 parameters: 21 of each operator, operator 6 first, then
 /// those of the whole voice. Each is at most its greatest value.
 #[derive(Clone, Copy, Debug, PartialEq, Eq)]
 pub struct Voice {
@@ -40,7 +40,7 @@ impl Model for Voice {
     ghost inverse = { λ numbers. record { fields = numbers } };
 }
 
-/// A number that a voice can't take: its place, the value, and the greatest value there.
+/// A value that a voice can't have: its place, the value, and the greatest value there.
 #[derive(Clone, Copy, Debug, PartialEq, Eq)]
 pub struct ValueHigh {
     pub number: u8,
@@ -57,7 +57,7 @@ impl Voice {
         Voice { fields: OPENING }
     }
 
-    /// The number at a place from 0 to 154.
+    /// The parameter at a place from 0 to 154.
     pub fn get(&self, number: u8) -> u8
         requires { number ≤ 154 }
         ensures value { result ≡ slice_index self.now number }
@@ -91,7 +91,7 @@ impl Voice {
         Ok(old)
     }
 
-    /// The voice of 155 bytes: each is taken modulo 128, and at most as its greatest value.
+    /// The voice of 155 bytes: each modulo 128, and at most its greatest value.
     pub fn from_bytes(bytes: &[u8; 155]) -> Voice
         ensures clamped { IsClamped bytes.now result }
         ensures same { IsVoice bytes.now → result ≡ bytes.now }
@@ -104,7 +104,7 @@ impl Voice {
         Voice { fields }
     }
 
-    /// The 155 numbers.
+    /// The 155 parameters.
     pub fn bytes(&self) -> [u8; 155]
         ensures value { result ≡ self.now }
         ensures voice { IsVoice self.now }
@@ -121,8 +121,8 @@ impl Voice {
         packing::pack(&self.fields)
     }
 
-    /// The voice of 128 packed bytes: unused bits are ignored, and a field above its greatest value is
-    /// taken as that.
+    /// The voice of 128 packed bytes: unused bits are ignored, and a parameter above its greatest value is
+    /// lowered to that.
     pub fn unpack(bytes: &[u8; 128]) -> Voice
         ensures unpacked { Unpacks bytes.now result }
         ensures back { (fields : List ℕ) → Packs fields bytes.now → result ≡ fields }
