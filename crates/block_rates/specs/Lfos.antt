@@ -1,4 +1,4 @@
--- The LFO of all notes: its value and its delay, as functions of the steps since it took settings or a key went down.
+-- The LFO of all notes: its value and its delay, as functions of the steps since it adopted settings or a key went down.
 use Rattle.std.specs.Prelude.{ℕ, zero, suc, ◌+◌, ◌-◌, ◌*◌, ◌/◌, ◌%◌, ◌^◌, max, nat_lt, ◌==◌, if◌then◌else◌, List, slice_index, ℤ}
 use Rattle.voice_record.specs.Voice.{opening_voice}
 use Rattle.block_rates.specs.Waves.{is_held, wave_of, wave_value}
@@ -19,7 +19,7 @@ lfo_settings voice = record {
   wave = slice_index voice 142;
 }
 
--- an LFO when it took settings or a key went down: its phase, of which 2 ^ 32 is one cycle, the random number that it
+-- an LFO when it adopted settings or a key went down: its phase, of which 2 ^ 32 is one cycle, the random number that it
 -- holds, and how far its delay has gone
 pub record LfoState : Type 0 where
   pub settings : LfoSettings
@@ -92,11 +92,11 @@ lfo_value o m = wave_value (wave_of o.settings.wave) (phase_after o m) (random_a
 unfoldable pub lfo_depth : LfoState → ℕ → ℕ
 lfo_depth o m = depth_of o.settings.delay (delay_state_after o (m - 1))
 
--- before any settings are taken
+-- before any settings are adopted
 abbrev pub opening_lfo : LfoState
 opening_lfo = record { settings = lfo_settings opening_voice; phase = 0; random = 0; delay_state = 0 }
 
--- other settings are taken after m steps: nothing else changes
+-- other settings are adopted after m steps: nothing else changes
 abbrev pub assigned : LfoSettings → LfoState → ℕ → LfoState
 assigned settings o m = record { settings = settings; phase = phase_after o m; random = random_after o m; delay_state = delay_state_after o m }
 

@@ -29,7 +29,7 @@ fn speed_rate(speed: u8) -> u32
     }
 }
 
-/// What a rate is taken by.
+/// What a rate is multiplied by.
 fn rate_factor(rate: u32) -> u32
     requires { rate ≤ 255 }
     ensures value { result ≡ rate_factor rate }

@@ -44,7 +44,7 @@ impl Lfo {
         }
     }
 
-    /// Takes the settings of a voice: speed, delay, sync and wave.
+    /// Adopts the settings of a voice: speed, delay, sync and wave.
     pub fn assign(&mut self, voice: &Voice)
         ensures { (o : LfoState) (m : ℕ) →
             IsLfo self.old o m → IsLfo self.new (assigned (lfo_settings voice.now) o m) 0 }

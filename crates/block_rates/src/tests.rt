@@ -16,7 +16,7 @@ const LEVELS: [(u8, i32); 5] = [
     (60, 171_966_464),
 ];
 
-/// The most steps that a stage takes between these levels, for ten rates each from 0 on.
+/// The most steps that a stage needs between these levels, for ten rates each from 0 on.
 const MOST_STEPS: [u32; 10] = [244_736, 81_579, 30_592, 8_741, 3_060, 956, 319, 120, 35, 12];
 
 /// Pitches of the same levels.
@@ -28,7 +28,7 @@ const PITCHES: [(u8, i32); 5] = [
     (60, 5_242_880),
 ];
 
-/// The most steps that a stage of a pitch envelope takes between them.
+/// The most steps that a stage of a pitch envelope needs between them.
 const MOST_PITCH_STEPS: [u32; 10] = [
     116_968, 16_710, 9_748, 6_499, 4_333, 2_853, 2_017, 1_481, 1_018, 685,
 ];

@@ -25,7 +25,7 @@ command_at seed place =
     else if nat_lt (kind seed place) 7 then EndsNote 0 (36 + number_at seed (place + 3) 60)
     else SetsNumber 134 (number_at seed (place + 3) 32)
 
--- how many numbers it takes
+-- how many numbers it needs
 unfoldable pub numbers_at : ℕ → ℕ → ℕ
 numbers_at seed place = if nat_lt (kind seed place) 4 then 4 else 3
 

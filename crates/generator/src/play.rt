@@ -19,7 +19,7 @@ pub struct Played {
 }
 
 /// Plays four generated scripts for up to 100,000 blocks on one thread, through a world of 100,000 places. Each script has a
-/// quarter as many commands as there are blocks, and each block takes those that are due at it, in order of scripts.
+/// quarter as many commands as there are blocks, and at each block those that are due at it are sent, in order of scripts.
 ///
 /// The one error is want of memory.
 pub fn play_generated(alloc: Global, seed: u64, blocks: u32) -> Result<Played, AllocError>

@@ -1,4 +1,4 @@
--- Slots that a loop has gone through up to a place, and a slot that a note takes.
+-- Slots that a loop has gone through up to a place, and a slot that a note occupies.
 use Rattle.std.proofs.Common.{ℕ, Bool, true, false, Option, Some, List, length, get_or, set, eqb, cond, eqb-true, ◌+◌, ◌<◌, ◌≤◌, ◌≢◌, ◌≡◌, refl, arith, below_more, get_or-set_other, get_or-set_same, subst}
 use Rattle.std.proofs.lemmas.Bool.{eqb-false}
 use Rattle.dx_tables.proofs.Loops.{set_more, set_rest}
@@ -23,16 +23,16 @@ AreSlotsUpTo-next i f ws vs v e lt m h = record {
 pub AreSlotsUpTo-all : (i : ℕ) (f : Option SlotData → Option SlotData) (ws : ℕ → Option SlotData) (vs : List Slot) → 16 ≤ i → AreSlotsUpTo i f ws vs → AreSlots vs (λ k. f (ws k))
 AreSlotsUpTo-all i f ws vs le m = λ k d lt. m.done k d (omega arith)
 
--- slot i after a note took slot f
-taken_by : (vs : List Slot) (ws : ℕ → Option SlotData) (f i : ℕ) (v d : Slot) (w : SlotData) (t : Bool) → eqb i f ≡ t → length vs ≡ 16 → i < 16 → AreSlots vs ws → IsSlot v (Some w) → IsSlot (get_or (set vs f v) i d) (cond t (Some w) (ws i))
-taken_by vs ws f i v d w true q e lt h m =
+-- slot i after a note occupied slot f
+occupied_by : (vs : List Slot) (ws : ℕ → Option SlotData) (f i : ℕ) (v d : Slot) (w : SlotData) (t : Bool) → eqb i f ≡ t → length vs ≡ 16 → i < 16 → AreSlots vs ws → IsSlot v (Some w) → IsSlot (get_or (set vs f v) i d) (cond t (Some w) (ws i))
+occupied_by vs ws f i v d w true q e lt h m =
     let same : i ≡ f = eqb-true i f q in
     let l : i < length vs = rw e lt in
     let P : ℕ → Type 0 = λ k. IsSlot (get_or (set vs k v) i d) (Some w) in
     subst P same (rw get_or-set_same m)
-taken_by vs ws f i v d w false q e lt h m =
+occupied_by vs ws f i v d w false q e lt h m =
     let ne : i ≢ f = eqb-false i f q in
     rw get_or-set_other (h i d lt)
 
-pub taken_slots : (vs : List Slot) (ws : ℕ → Option SlotData) (f : ℕ) (v : Slot) (w : SlotData) → length vs ≡ 16 → AreSlots vs ws → IsSlot v (Some w) → AreSlots (set vs f v) (λ i. cond (eqb i f) (Some w) (ws i))
-taken_slots vs ws f v w e h m = λ i d lt. taken_by vs ws f i v d w (eqb i f) refl e lt h m
+pub occupied_slots : (vs : List Slot) (ws : ℕ → Option SlotData) (f : ℕ) (v : Slot) (w : SlotData) → length vs ≡ 16 → AreSlots vs ws → IsSlot v (Some w) → AreSlots (set vs f v) (λ i. cond (eqb i f) (Some w) (ws i))
+occupied_slots vs ws f v w e h m = λ i d lt. occupied_by vs ws f i v d w (eqb i f) refl e lt h m

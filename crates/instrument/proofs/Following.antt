@@ -1,4 +1,4 @@
--- An instrument that takes only commands that edit has the voice that they make.
+-- An instrument that carries out only commands that edit has the voice that they make.
 use Rattle.std.proofs.Common.{ℕ, ◌≡◌, List, [], ◌∷◌, true, false, refl, ◌∙◌, cond}
 use Rattle.std.specs.Prelude.{◌==◌, Bool}
 use Rattle.command_set.specs.Command.{CommandData, StartsNote, EndsNote, Bends, Controls, PicksProgram, SetsNumber, StoresVoice, LoadsVoice, LoadsCartridge}
@@ -23,7 +23,7 @@ apply_voice s (StoresVoice slot) e = absurd e
 apply_voice s (LoadsVoice voice) e = refl
 apply_voice s (LoadsCartridge voices) e = absurd e
 
--- an instrument that began with the voice of an editor and took only its commands has the voice of the editor
+-- an instrument that began with the voice of an editor and carried out only its commands has the voice of the editor
 pub applied_voice : (s : State) (cs : List CommandData) (new : List ℕ) → TurnsAll s.voice cs new → (applied s cs).voice ≡ new
 applied_voice s [] new h = h
 applied_voice s (c ∷ cs) new h =

@@ -9,10 +9,10 @@ use Rattle.block_rates.specs.LfoStates.{IsLfo}
 use Rattle.note_voice.specs.Note.{begun}
 use Rattle.instrument.specs.declared.slot.Slot.{Slot}
 use Rattle.instrument.specs.Running.{AreSlots}
-use Rattle.instrument.specs.State.{State, free_slot, fresh, taken, apply}
+use Rattle.instrument.specs.State.{State, free_slot, fresh, occupied, apply}
 use Rattle.instrument.specs.declared.slot.Key.TheVariants.{Down}
 
-pub apply_free : (s : State) (channel key velocity f : ℕ) → free_slot s ≡ Some f → apply s (StartsNote channel key velocity) ≡ taken s (fresh s channel key velocity) f
+pub apply_free : (s : State) (channel key velocity f : ℕ) → free_slot s ≡ Some f → apply s (StartsNote channel key velocity) ≡ occupied s (fresh s channel key velocity) f
 unfolding apply
 apply_free s channel key velocity f e = rw e
 
@@ -27,7 +27,7 @@ fresh_slots vs s voice switch channel key velocity f vo sw h =
     let Q : ℕ → Type 0 = λ t. AreSlots vs (λ i. cond (eqb i f) (Some (record { channel = channel; note = begun voice t key velocity; key_state = Down })) (s.slots i)) in
     subst P vo (subst Q sw h)
 
--- the LFO takes the settings of the voice, and a key goes down
+-- the LFO adopts the settings of the voice, and a key goes down
 pub pressed_is : (l : Lfo) (s : State) (voice : List ℕ) → voice ≡ s.voice → IsLfo l (key_pressed (assigned (lfo_settings voice) s.lfo s.steps) 0) 0 → IsLfo l (key_pressed (assigned (lfo_settings s.voice) s.lfo s.steps) 0) 0
 pressed_is l s voice vo h = rw (← vo) h
 

@@ -23,7 +23,7 @@ pub record IsEmpty (note : Note) (key_state : Key) : Type 0 where
   pub key_state_is : key_state ≡ Up
 
 -- what is kept of a slot that has a note stands for it
-pub record IsTaken (channel key : ℕ) (note : Note) (key_state : Key) (w : SlotData) : Type 0 where
+pub record IsOccupied (channel key : ℕ) (note : Note) (key_state : Key) (w : SlotData) : Type 0 where
   pub channel_is : channel ≡ w.channel
   pub key_is : key ≡ w.note.key
   pub note_is : IsNote note (Some w.note)
@@ -32,10 +32,10 @@ pub record IsTaken (channel key : ℕ) (note : Note) (key_state : Key) (w : Slot
 -- a slot stands for the plain data
 abbrev pub IsSlot : Slot → Option SlotData → Type 0
 IsSlot v None = IsEmpty v.note v.key_state
-IsSlot v (Some w) = IsTaken v.channel v.key v.note v.key_state w
+IsSlot v (Some w) = IsOccupied v.channel v.key v.note v.key_state w
 
 -- what is kept of a slot whose note's block has begun, and what is to be run
-pub record IsTakenBegun (channel key : ℕ) (note : Note) (key_state : Key) (b : NoteBlock) (m : Modulation) (w : SlotData) : Type 0 where
+pub record IsOccupiedBegun (channel key : ℕ) (note : Note) (key_state : Key) (b : NoteBlock) (m : Modulation) (w : SlotData) : Type 0 where
   pub channel_is : channel ≡ w.channel
   pub key_is : key ≡ w.note.key
   pub note_is : IsNoteBegun note (after_block w.note m)
@@ -49,7 +49,7 @@ pub record IsEmptyBegun (note : Note) (key_state : Key) (b : NoteBlock) : Type 0
 
 abbrev pub IsSlotBegun : Slot → NoteBlock → Modulation → Option SlotData → Type 0
 IsSlotBegun v b m None = IsEmptyBegun v.note v.key_state b
-IsSlotBegun v b m (Some w) = IsTakenBegun v.channel v.key v.note v.key_state b m w
+IsSlotBegun v b m (Some w) = IsOccupiedBegun v.channel v.key v.note v.key_state b m w
 
 abbrev pub AreSlotsBegun : List Slot → List NoteBlock → Modulation → (ℕ → Option SlotData) → Type 0
 AreSlotsBegun vs bs m ws = (i : ℕ) (d : Slot) (e : NoteBlock) → i < 16 → IsSlotBegun (slice_index_or vs i d) (slice_index_or bs i e) m (ws i)

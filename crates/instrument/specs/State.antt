@@ -31,7 +31,7 @@ is_held Held = true
 is_held Up = false
 
 -- The cartridge's 32 voices, the voice and its operator switch, bend, wheel and pedal of all channels, the slot from which the next note looks for
--- a free one, the LFO with its steps since it took settings or a key went down, and what is in each slot from 0 to 15.
+-- a free one, the LFO with its steps since it adopted settings or a key went down, and what is in each slot from 0 to 15.
 pub record State : Type 0 where
   pub bank : List (List ℕ)
   pub voice : List ℕ
@@ -80,9 +80,9 @@ free_slot s = option_map (round_from s.next) (first_that (λ k. is_up (s.slots (
 abbrev pub fresh : State → ℕ → ℕ → ℕ → SlotData
 fresh s channel key velocity = record { channel = channel; note = begun s.voice s.switch key velocity; key_state = Down }
 
--- The note takes the slot, and the round goes on after it. The LFO takes the settings of the voice, and a key goes down.
-abbrev pub taken : State → SlotData → ℕ → State
-taken s w f = record s {
+-- The note occupies the slot, and the round goes on after it. The LFO adopts the settings of the voice, and a key goes down.
+abbrev pub occupied : State → SlotData → ℕ → State
+occupied s w f = record s {
   next = (f + 1) % 16;
   lfo = key_pressed (assigned (lfo_settings s.voice) s.lfo s.steps) 0;
   steps = 0;
@@ -134,7 +134,7 @@ numbered s number value = if number == 155 then record s { switch = value } else
 
 -- what a command does
 unfoldable pub apply : State → CommandData → State
-apply s (StartsNote channel key velocity) = option_map_or (taken s (fresh s channel key velocity)) (free_slot s) s
+apply s (StartsNote channel key velocity) = option_map_or (occupied s (fresh s channel key velocity)) (free_slot s) s
 apply s (EndsNote channel key) = record s { slots = λ i. key_up s.is_pedal_down channel key (s.slots i) }
 apply s (Bends channel value) = record s { bend = value }
 apply s (Controls channel number value) = controlled s number value

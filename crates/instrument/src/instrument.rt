@@ -61,7 +61,7 @@ impl Instrument {
         })
     }
 
-    /// Carries out a command. It takes no memory and refuses nothing.
+    /// Carries out a command. It asks for no memory and refuses nothing.
     #[tactic(auto, unfolding(crate::specs::State::apply))]
     pub fn apply(&mut self, command: &Command)
         requires { IsInRange (content command.now) }
@@ -88,7 +88,7 @@ impl Instrument {
         }
     }
 
-    /// Renders the next block of 64 samples. It takes no memory and refuses nothing.
+    /// Renders the next block of 64 samples. It asks for no memory and refuses nothing.
     pub fn block(&mut self, out: &mut [i16; 64])
         ensures samples { (s : State) → IsIn self.old s → out.new ≡ samples s }
         ensures passed { (s : State) → IsIn self.old s → IsIn self.new (passed s) }

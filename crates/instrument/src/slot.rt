@@ -41,7 +41,7 @@ impl Key {
     }
 }
 
-/// A place for a note. A note keeps its slot after its key was released, until another note takes it.
+/// A place for a note. A note keeps its slot after its key was released, until another note occupies it.
 #[derive(Clone, Copy)]
 pub(crate) struct Slot {
     channel: u8,

@@ -168,7 +168,7 @@ impl LiveRenderer {
         })
     }
 
-    /// Takes one entry, if there is room for it and one waits. It is logged at the present block and applied. It takes no memory.
+    /// Takes one entry, if there is room for it and one waits. It is logged at the present block and applied. It asks for no memory.
     pub fn take_one<R: Wait>(&mut self, rt: &R, line: &Line) -> TakeOne
         requires { self.old.taker.line ≡ line.now }
         ensures took { TookOne result self.old self.new }

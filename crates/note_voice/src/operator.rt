@@ -102,7 +102,7 @@ impl Operator {
         self.envelope.release();
     }
 
-    /// Takes another shift of its pitch.
+    /// Adopts another shift of its pitch.
     pub(crate) fn tune(&mut self, tables: &Tables, shift: i32)
         requires shift_low { neg_ℤ (pos (2 ^ 27)) ≤ℤ shift }
         requires shift_high { shift ≤ℤ pos (2 ^ 27) }
@@ -111,7 +111,7 @@ impl Operator {
         self.increment = increment_at(tables, self.pitch, shift);
     }
 
-    /// What the operator does in the next block, whose shift of the pitch it has taken. The block then has passed.
+    /// What the operator does in the next block, whose shift of the pitch it has adopted. The block then has passed.
     pub(crate) fn pass(&mut self, tables: &Tables, lfo: i32, lfo_depth: u32) -> OpBlock
         requires lfo_low { neg_ℤ (pos 64) ≤ℤ lfo }
         requires lfo_high { lfo ≤ℤ pos (2 ^ 24 + 64) }

@@ -65,7 +65,7 @@ pub(crate) fn release_all(operators: &mut [Operator; 6])
     }
 }
 
-/// All operators take another shift of their pitch. Where it is the one that they have there is nothing to compute.
+/// All operators adopt another shift of their pitch. Where it is the one that they have there is nothing to compute.
 pub(crate) fn tune_all(operators: &mut [Operator; 6], tables: &Tables, before: i32, shift: i32)
     requires shift_low { neg_ℤ (pos (2 ^ 27)) ≤ℤ shift }
     requires shift_high { shift ≤ℤ pos (2 ^ 27) }
@@ -79,7 +79,7 @@ pub(crate) fn tune_all(operators: &mut [Operator; 6], tables: &Tables, before: i
     }
 }
 
-/// What all operators do in the next block, operator 1 first, whose shift of the pitch they have taken. The block then has passed.
+/// What all operators do in the next block, operator 1 first, whose shift of the pitch they have adopted. The block then has passed.
 pub(crate) fn pass_all(
     operators: &mut [Operator; 6],
     tables: &Tables,

@@ -13,7 +13,7 @@ use block_rates::PitchEnvelope;
 use dx_tables::Tables;
 use voice_record::Voice;
 
-/// A note that sounds. What it takes from its voice it takes at its start: no block reads the voice again.
+/// A note that sounds. What it has of its voice it reads at its start: no block reads the voice again.
 #[derive(Clone, Copy)]
 pub(crate) struct Sounding {
     algorithm: u8,
@@ -109,7 +109,7 @@ impl Sounding {
         }
     }
 
-    /// Takes the two samples that come back, once the block was run.
+    /// Keeps the two samples that come back, once the block was run.
     pub(crate) fn end_block(&mut self, feedback_state: [i32; 2])
         ensures { (n : NoteData) → IsUnended self.old n → feedback_state_of feedback_state ≡ feedback_state_before n (length n.past) →
             IsSounding self.new n }

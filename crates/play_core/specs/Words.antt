@@ -1,4 +1,4 @@
--- The words that the program takes.
+-- The words of the program's command line.
 use Rattle.std.specs.Prelude.{◌≢◌, ℕ, ◌≤◌, List, [], ◌∷◌, Option, Some, None, IfSome, option_map, option_and_then, Bool, not, ◌&&◌, nat_lt, nat_le, length, map, string_bytes, bytes_eq, codes, if◌then◌else◌}
 use Rattle.std.specs.List.{list_all}
 use Rattle.play_core.specs.declared.words.Request.{Request}

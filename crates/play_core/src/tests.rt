@@ -149,7 +149,7 @@ fn samples_are_known<R: Threads + Wait + Sync + Abort>(
     let samples = [0u8, 0, 8, 0, 24, 0, 47, 0, 79, 0, 118, 0, 164, 0, 217, 0];
     assert_eq!(rt; &sound[44..60], samples.as_slice());
     assert!(rt; sound[44 + 128 * 55..].iter().all(|byte| *byte == 0));
-    // A shelf that takes one byte an append has the same files.
+    // A shelf that accepts one byte an append has the same files.
     let mut inner = MemShelf::new(alloc, &[])?;
     inner.put_file(alloc, "a.txt", NOTE)?;
     let mut slow = OneByteShelf { inner };
@@ -423,7 +423,7 @@ fn failing_calls_are_told<R: Threads + Wait + Sync + Abort>(
     Ok(())
 }
 
-/// A shelf that holds back has written out both files when a run ends. Where OUT is on a device that takes nothing, ORDER has what came
+/// A shelf that holds back has written out both files when a run ends. Where OUT is on a device that accepts nothing, ORDER has what came
 /// before the failing write.
 fn held_back_is_written_out<R: Threads + Wait + Sync + Files + Abort>(
     rt: &R,

@@ -5,7 +5,7 @@ ghost use Rattle.players.specs.Players.{left_of, IsNext};
 
 use script_plan::{Planned, Script};
 
-/// Takes out the first command.
+/// Removes the first command, and answers it.
 pub(crate) fn pop_first(refused: &mut Option<Planned>, script: &mut Script) -> Option<Planned>
     ensures some { IfSome result (λ c. left_of refused.old script.old ≡ planned_data c ∷ script.new) }
     ensures none { IfNone result (left_of refused.old script.old ≡ []) }

@@ -1,8 +1,8 @@
-//! Why a send did not take place.
+//! Why a send was refused.
 
 use command_set::Command;
 
-/// Why a send didn't take place. The command comes back.
+/// Why a send was refused. The command comes back.
 #[derive(Drop)]
 pub enum WorldRefusal {
     /// As many entries wait as there are places.

@@ -151,7 +151,7 @@ impl World {
         Ok(count)
     }
 
-    /// Renders the next block of 64 samples. It takes no memory and refuses nothing.
+    /// Renders the next block of 64 samples. It asks for no memory and refuses nothing.
     pub fn render(&mut self, out: &mut [i16; 64])
         requires { self.old.blocks < 4294967295 }
         ensures sound { out.new ≡ sound self.old.journal self.old.blocks }

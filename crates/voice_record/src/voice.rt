@@ -71,7 +71,7 @@ impl Voice {
     /// place is refused, and the voice stays.
     pub fn set(&mut self, number: u8, value: u8) -> Result<u8, ValueHigh>
         requires { number ≤ 154 }
-        ensures taken { IsOk result ↔ (value ≤ greatest_value number) }
+        ensures accepted { IsOk result ↔ (value ≤ greatest_value number) }
         ensures old { IfOk result (λ old. old ≡ slice_index self.old number) }
         ensures changed { OnOk result (self.new ≡ slice_set self.old number value) }
         ensures refused { IfErr result (λ e. e ≡ record { number = number; value = value; greatest = greatest_value number }) }

@@ -12,6 +12,6 @@ returns-then-number-eq155 c = λ s h. rw (switch_set s c.args.number c.args.valu
 pub returns-else-number-eq155 : goal.returns-else-number-eq155
 returns-else-number-eq155 c = λ s h.
     let ne : c.args.number ≢ 155 = c.if-number-eq155.false in
-    let taken = on_ok _ (c.set.ensures.taken.1 c.requires.value) c.set.ensures.changed in
+    let accepted = on_ok _ (c.set.ensures.accepted.1 c.requires.value) c.set.ensures.changed in
     rw (number_set s c.args.number c.args.value ne)
-    (record { bank = h.bank; voice = taken ∙ ap (λ v. set v c.args.number c.args.value) h.voice; switch = h.switch; bend = h.bend; wheel = h.wheel; pedal = h.pedal; next = h.next; lfo = h.lfo; slots = h.slots })
+    (record { bank = h.bank; voice = accepted ∙ ap (λ v. set v c.args.number c.args.value) h.voice; switch = h.switch; bend = h.bend; wheel = h.wheel; pedal = h.pedal; next = h.next; lfo = h.lfo; slots = h.slots })
