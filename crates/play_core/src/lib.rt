@@ -1,6 +1,7 @@
 //! What the program `play` does.
 #![tactic(auto)]
 
+mod files;
 mod lines;
 mod never_failing;
 mod play;
@@ -10,7 +11,6 @@ mod stage;
 mod top;
 mod totals;
 mod words;
-mod writing;
 
 pub use never_failing::play_never_failing;
 pub use refusal::Refusal;

@@ -16,12 +16,12 @@ ghost use Rattle.take_files.specs.Files.{wav_header as wav_bytes, order_header a
 ghost use Rattle.play_core.specs.Lines.{report};
 ghost use Rattle.play_core.specs.Files.{IsStopped, with_two};
 
+use crate::files::write_files;
 use crate::lines::{refuse, report_of};
 use crate::refusal::Refusal;
 use crate::scan::read_scripts;
 use crate::stage::{Stage, choose_blocks, set_stage};
 use crate::words::Request;
-use crate::writing::write_files;
 use fault_lines::say_cannot_write;
 use instrument::Engine;
 use outside::{Gate, Out, Shelf, put_all, write_out};

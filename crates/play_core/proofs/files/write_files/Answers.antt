@@ -1,7 +1,7 @@
 use Rattle.std.proofs.Common.{inl, ◌∙◌, refl}
 use Rattle.outside.proofs.Shelves.{handed_on}
 use Rattle.play_core.proofs.Writes.{both_made, sound_grows, text_grows, has_first, has_second, sound_stopped, text_stopped}
-use Rattle.play_core.proofs.writing.write_files.Goals as goal
+use Rattle.play_core.proofs.files.write_files.Goals as goal
 
 pub returns-in-Err-create-clause-stopped : goal.returns-in-Err-create-clause-stopped
 returns-in-Err-create-clause-stopped g c = inl (c.in-Err-create.ensures.failed ∙ c.in-Ok.ensures.made)
