@@ -9,10 +9,11 @@ use Rattle.block_rates.specs.Stages.{released_after}
 use Rattle.operator_kernel.specs.declared.OpBlock.{OpBlock}
 use Rattle.operator_kernel.specs.Operator.{HasGains, FeedbackState, feedback_state_of}
 use Rattle.algorithm_bus.specs.Signals.{Patch, feedback_state_left, note_output}
+use Rattle.algorithm_bus.specs.Audible.{muted}
 use Rattle.algorithm_bus.specs.Buses.{HaveGains, IsBus, op_of, no_operator, patch_of}
 use Rattle.note_voice.specs.declared.operator.Operator.{Operator}
 use Rattle.note_voice.specs.Modulation.{Modulation, bend_pitch, pitch_modulation, vibrato, vibrato_depth}
-use Rattle.note_voice.specs.Note.{NoteData, begun, note_released, after_block, played_note, four_from, pitch_settings, pitch_shift_in, increment_in, attenuation_in, operator_in, is_on, muted, audible_in, operators_in, feedback_state_before, note_patch, note_sample}
+use Rattle.note_voice.specs.Note.{NoteData, begun, note_released, after_block, played_note, four_from, pitch_settings, pitch_shift_in, increment_in, attenuation_in, operator_in, is_on, audible_in, operators_in, feedback_state_before, note_patch, note_sample}
 use Rattle.note_voice.specs.Running.{IsOperator, AreOperators, IsModulated}
 use Rattle.note_voice.proofs.Prefix.{agrees_released, agrees_after_block, state_same}
 use Rattle.note_voice.proofs.Steps.{length_more, modulation_last}

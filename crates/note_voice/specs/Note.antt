@@ -10,6 +10,7 @@ use Rattle.key_scale.specs.Levels.{output_level, rate_scale_of}
 use Rattle.key_scale.specs.Pitch.{pitch_of_operator}
 use Rattle.operator_kernel.specs.declared.OpBlock.{OpBlock}
 use Rattle.operator_kernel.specs.Operator.{FeedbackState}
+use Rattle.algorithm_bus.specs.Audible.{muted}
 use Rattle.algorithm_bus.specs.Signals.{Patch, feedback_state_left, note_output}
 use Rattle.algorithm_bus.specs.Buses.{op_of}
 use Rattle.note_voice.specs.Modulation.{Modulation, pitch_modulation, attenuation_of, gain_of}
@@ -105,10 +106,6 @@ operator_in n operator i = record {
 -- whether an operator is switched on: bit 5 is operator 1, and bit 0 is operator 6
 abbrev pub is_on : ℕ → ℕ → Bool
 is_on switch operator = switch / 2 ^ (6 - operator) % 2 == 1
-
--- an operator that is not heard: its gain is 0
-abbrev pub muted : OpBlock → OpBlock
-muted op = record { phase = op.phase; freq = op.freq; g1 = pos 0; g2 = pos 0 }
 
 -- an operator in block i as it is heard
 unfoldable pub audible_in : NoteData → ℕ → ℕ → OpBlock

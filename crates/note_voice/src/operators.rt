@@ -2,9 +2,10 @@
 
 ghost use Rattle.std.specs.Prelude.{◌≡◌, ◌≤◌, ◌*◌, ◌^◌, ◌+◌, ◌-◌, ◌/◌, ◌%◌, ◌==◌, ℕ, ℤ, length, pos, neg_ℤ, ◌≤ℤ◌, if◌then◌else◌};
 ghost use Rattle.operator_kernel.specs.Operator.{HasGains};
+ghost use Rattle.algorithm_bus.specs.Audible.{muted};
 ghost use Rattle.algorithm_bus.specs.Buses.{HaveGains};
 ghost use Rattle.note_voice.specs.Modulation.{Modulation};
-ghost use Rattle.note_voice.specs.Note.{NoteData, begun, note_released, after_block, played_note, is_on, muted, operators_in};
+ghost use Rattle.note_voice.specs.Note.{NoteData, begun, note_released, after_block, played_note, is_on, operators_in};
 ghost use Rattle.note_voice.specs.Running.{AreOperators, IsModulated};
 
 use crate::operator::Operator;

@@ -17,14 +17,14 @@ use Rattle.script_read.specs.Plan.{plan}
 use Rattle.take_files.specs.Files.{wav}
 use Rattle.take_files.specs.Orders.{OrderData, IsOrder, IsOrdered}
 use Rattle.take_files.proofs.Laws.{orders_unique}
-use Rattle.turns.specs.Turns.{blocks_of, others_than, plan_of}
+use Rattle.turns.specs.Turns.{blocks_of, others_than, plan_of, many_commands}
 use Rattle.turns.specs.Timed.{ArePlayed, IsTimed}
 use Rattle.play_core.specs.declared.totals.Totals.{Totals}
 use Rattle.play_core.specs.declared.refusal.Refusal.{Refusal}
 use Rattle.play_core.specs.declared.refusal.Refusal.TheVariants as why
 use Rattle.play_core.specs.Words.{RequestData, requested_by}
 use Rattle.play_core.specs.Limits.{command_limit}
-use Rattle.play_core.specs.Verdict.{Verdict, Lacking, LongFile, LongScripts, Faulty, ManyCommands, ManyBlocks, Plays, IsPlayed, verdict, plans_in, blocks_of_run, places_of_run, count_all, nothing, with_script, with_plan, of_plan, of_file, of_blocks, of_scripts}
+use Rattle.play_core.specs.Verdict.{Verdict, Lacking, LongFile, LongScripts, Faulty, ManyCommands, ManyBlocks, Plays, IsPlayed, verdict, plans_in, blocks_of_run, places_of_run, nothing, with_script, with_plan, of_plan, of_file, of_blocks, of_scripts}
 use Rattle.play_core.specs.Refused.{HasCause, IsUnread, Tells}
 use Rattle.play_core.specs.Lines.{refusal_line, refusal_status, report, fault_line}
 use Rattle.play_core.specs.Files.{AreBegun, with_two}
@@ -146,8 +146,8 @@ other_status : (status n : ℕ) → status ≡ n → n ≢ 0 → n ≢ 5 → ¬ 
 other_status status n is a b (inl e) = a (sym is ∙ e)
 other_status status n is a b (inr e) = b (sym is ∙ e)
 
-few_places : (a : RequestData) (plans : List (List PlannedData)) (journal : List LoggedData) → IsTimed journal plans (places_of_run a.places plans) → 0 < count_all plans - length journal
-    → places_of_run a.places plans < count_all plans
+few_places : (a : RequestData) (plans : List (List PlannedData)) (journal : List LoggedData) → IsTimed journal plans (places_of_run a.places plans) → 0 < many_commands plans - length journal
+    → places_of_run a.places plans < many_commands plans
 few_places a plans journal timed left =
     let lacks = some_left plans journal timed.played left in
     let k = lacks.0 in
@@ -156,7 +156,7 @@ few_places a plans journal timed left =
     omega (arith, bound, length_blocks k journal, lacks.2, length_part plans k lacks.1)
 
 -- with one place for each command the line has room for all
-named_places : (asked : Option ℕ) (plans : List (List PlannedData)) → places_of_run asked plans < count_all plans → IsSomeAnd asked (λ p. p < count_all plans)
+named_places : (asked : Option ℕ) (plans : List (List PlannedData)) → places_of_run asked plans < many_commands plans → IsSomeAnd asked (λ p. p < many_commands plans)
 named_places None plans few = absurd (omega (arith, few))
 named_places (Some p) plans few = few
 
@@ -334,7 +334,7 @@ module _ (a : RequestData) (before now : Snapshot) (status : ℕ) where
 
   complete_of : (told : Files) (plans : List (List PlannedData)) → before.files ≡ Some told → verdict a told ≡ Plays plans → IsRun a before now status
       → ¬ (Rose before.reading now.reading) → ¬ (Rose before.writing now.writing) → ¬ (Rose before.faults now.faults)
-      → IsOneOf status (0 ∷ 5 ∷ 8 ∷ []) × (count_all plans ≤ places_of_run a.places plans → IsOneOf status (0 ∷ 8 ∷ []))
+      → IsOneOf status (0 ∷ 5 ∷ 8 ∷ []) × (many_commands plans ≤ places_of_run a.places plans → IsOneOf status (0 ∷ 8 ∷ []))
   complete_of told plans is right (inl r) reading writing faults =
       let e = refused_complete told plans is right reading r.why r.status_is r.cause (if_told (λ x. Tells r.why (verdict a x)) before.files told is r.tells) in
       (inr (inr (inl e)), λ room. inr (inl e))
@@ -347,8 +347,8 @@ module _ (a : RequestData) (before now : Snapshot) (status : ℕ) where
       (λ (e : status ≡ 5). (
         inr (inl e),
         λ room.
-            let few : places_of_run a.places d.plans < count_all d.plans = few_places a d.plans d.journal d.timed (some_is_left (left_of d.plans d.journal) status d.status_is e) in
-            let room_too : count_all d.plans ≤ places_of_run a.places d.plans = subst (λ (l : List (List PlannedData)). count_all l ≤ places_of_run a.places l) are room in
+            let few : places_of_run a.places d.plans < many_commands d.plans = few_places a d.plans d.journal d.timed (some_is_left (left_of d.plans d.journal) status d.status_is e) in
+            let room_too : many_commands d.plans ≤ places_of_run a.places d.plans = subst (λ (l : List (List PlannedData)). many_commands l ≤ places_of_run a.places l) are room in
             absurd (omega (arith, few, room_too)),
       ))
       (left_status (left_of d.plans d.journal) status d.status_is)
@@ -413,13 +413,13 @@ module _ (words : List (List ℕ)) (a : RequestData) (before now : Snapshot) (st
   pub clause_timed : PlayedAs words status before.files now.files (λ b plans o. IsTimed o.journal plans (places_of_run b.places plans))
   clause_timed = of_order (λ b plans o. IsTimed o.journal plans (places_of_run b.places plans)) (λ d told is. d.timed)
 
-  pub clause_prompt : PlayedAs words status before.files now.files (λ b plans o. count_all plans ≤ places_of_run b.places plans → ArePrompt o.journal plans)
-  clause_prompt = of_order (λ b plans o. count_all plans ≤ places_of_run b.places plans → ArePrompt o.journal plans)
+  pub clause_prompt : PlayedAs words status before.files now.files (λ b plans o. many_commands plans ≤ places_of_run b.places plans → ArePrompt o.journal plans)
+  clause_prompt = of_order (λ b plans o. many_commands plans ≤ places_of_run b.places plans → ArePrompt o.journal plans)
       (λ d told is room. all_prompt d.plans d.journal (places_of_run a.places d.plans) d.timed room)
 
   pub clause_alone : PlayedAs words status before.files now.files
-      (λ b plans o. count_all plans ≤ places_of_run b.places plans → length plans ≡ 1 → o.journal ≡ journal_alone 0 (plan_of plans 0))
-  clause_alone = of_order (λ b plans o. count_all plans ≤ places_of_run b.places plans → length plans ≡ 1 → o.journal ≡ journal_alone 0 (plan_of plans 0))
+      (λ b plans o. many_commands plans ≤ places_of_run b.places plans → length plans ≡ 1 → o.journal ≡ journal_alone 0 (plan_of plans 0))
+  clause_alone = of_order (λ b plans o. many_commands plans ≤ places_of_run b.places plans → length plans ≡ 1 → o.journal ≡ journal_alone 0 (plan_of plans 0))
       (λ d told is room one. one_alone d.plans d.journal (places_of_run a.places d.plans) d.timed room one)
 
   pub clause_others : Played words status before.files (λ b plans. (other : List ℕ) → other ≢ b.out → other ≢ b.order → file_of now.files other ≡ file_of before.files other)
@@ -477,10 +477,10 @@ module _ (words : List (List ℕ)) (a : RequestData) (before now : Snapshot) (st
   pub clause_judged : Told words before.files (λ b told. ¬ (Rose before.reading now.reading) → Answers (verdict b told) status)
   clause_judged = told_of words before.files a (λ b told. ¬ (Rose before.reading now.reading) → Answers (verdict b told) status) asks (λ told is none. judged_of a before now status told is none run)
 
-  pub clause_places : status ≡ 5 → Asks words (λ b. (plans : List (List PlannedData)) × HavePlans b before.files plans × IsSomeAnd b.places (λ p. p < count_all plans))
+  pub clause_places : status ≡ 5 → Asks words (λ b. (plans : List (List PlannedData)) × HavePlans b before.files plans × IsSomeAnd b.places (λ p. p < many_commands plans))
   clause_places five =
       let d = done_of a before now status run (inr five) in
-      asked_for words a (λ b. (plans : List (List PlannedData)) × HavePlans b before.files plans × IsSomeAnd b.places (λ p. p < count_all plans)) asks
+      asked_for words a (λ b. (plans : List (List PlannedData)) × HavePlans b before.files plans × IsSomeAnd b.places (λ p. p < many_commands plans)) asks
       (d.plans, d.planned, named_places a.places d.plans (few_places a d.plans d.journal d.timed (some_is_left (left_of d.plans d.journal) status d.status_is five)))
 
   pub clause_reads : status ≢ 2 → now.reading ≡ before.reading

@@ -10,9 +10,8 @@ use Rattle.command_queue.specs.Entries.{quota_at}
 use Rattle.command_queue.proofs.Counts.{below, below_more, below_none, below_all, total_bound, others_bound, sent_by_other}
 use Rattle.script_plan.specs.Plan.{PlannedData}
 use Rattle.players.specs.Players.{entries}
-use Rattle.turns.specs.Turns.{plan_of, blocks_of}
+use Rattle.turns.specs.Turns.{plan_of, blocks_of, many_commands}
 use Rattle.turns.specs.Timed.{IsScriptBegun, ArePlayed}
-use Rattle.play_core.specs.Verdict.{count_all}
 use Rattle.play_core.specs.Headline.{HasAll, LacksSome}
 
 below_or : (a b : ℕ) → (a < b) ⊎ (b ≤ a)
@@ -61,7 +60,7 @@ no_quota (one ∷ plans) zero over = absurd (omega arith)
 no_quota (one ∷ plans) (suc k) over = no_quota plans k (omega arith)
 
 -- no more of a script than there are
-pub length_part : (plans : List (List PlannedData)) (k : ℕ) → k < length plans → length (plan_of plans k) ≤ count_all plans
+pub length_part : (plans : List (List PlannedData)) (k : ℕ) → k < length plans → length (plan_of plans k) ≤ many_commands plans
 length_part plans k below = rw (sum-map length plans) (get_or-le-sum_by length plans k [] below)
 
 module _ (plans : List (List PlannedData)) (journal : List LoggedData) (played : ArePlayed journal plans) where
@@ -93,12 +92,12 @@ module _ (plans : List (List PlannedData)) (journal : List LoggedData) (played :
   same_length = length-map journal (λ l. l.entry)
 
   -- where no command is left, each script was played to its end
-  pub all_played : count_all plans - length journal ≡ 0 → HasAll journal plans
+  pub all_played : many_commands plans - length journal ≡ 0 → HasAll journal plans
   all_played none k below =
       let b = played.each k below in
       let o = others_bound quotas all made bounded k (omega (arith, many, below)) in
       let q : quota_at quotas k ≡ length (plan_of plans k) = quota_is plans k below in
-      let p : length (plan_of plans k) ≤ count_all plans = length_part plans k below in
+      let p : length (plan_of plans k) ≤ many_commands plans = length_part plans k below in
       let whole : length b.left ≡ 0 = omega (arith, o, q, p, none, same_length, ap length b.entries_are, length_entries k 0 b.sent, ap length b.split, length-append b.sent b.left) in
       b.entries_are ∙ ap (entries k 0) (sym (b.split ∙ ap (λ (l : List PlannedData). b.sent ++ l) (empty b.left whole) ∙ append-nil b.sent))
 
@@ -115,11 +114,11 @@ module _ (plans : List (List PlannedData)) (journal : List LoggedData) (played :
       (λ (has : length (plan_of plans n) ≤ length (sent_by n all)). search_lack n (omega arith) (omega (arith, fewer_there, m, q, has, below_more n all)))
       (below_or (length (sent_by n all)) (length (plan_of plans n)))
 
-  pub some_left : 0 < count_all plans - length journal → LacksSome journal plans
+  pub some_left : 0 < many_commands plans - length journal → LacksSome journal plans
   some_left left =
       search_lack (length plans) (omega arith)
       (omega (arith, left, same_length, below_all (length plans) all (all_entries (length plans) journal played.scripts), ap sum (take_whole quotas (length plans) many)))
 
   -- a journal has no more commands than there are
-  pub not_more : length journal ≤ count_all plans
+  pub not_more : length journal ≤ many_commands plans
   not_more = let bound = total_bound quotas all made bounded in omega (arith, bound, same_length)

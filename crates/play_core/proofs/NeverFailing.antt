@@ -8,7 +8,8 @@ use Rattle.script_plan.specs.Plan.{PlannedData}
 use Rattle.take_files.specs.Orders.{IsOrdered}
 use Rattle.turns.specs.Timed.{ArePlayed}
 use Rattle.play_core.specs.Words.{RequestData, requested_by}
-use Rattle.play_core.specs.Verdict.{blocks_of_run, count_all}
+use Rattle.turns.specs.Turns.{many_commands}
+use Rattle.play_core.specs.Verdict.{blocks_of_run}
 use Rattle.play_core.specs.Lines.{report}
 use Rattle.play_core.specs.Files.{AreBegun}
 use Rattle.outside.specs.Snapshot.{Snapshot}
@@ -34,9 +35,9 @@ stopped_never_failing words before now none = asks_more words _ _
     (λ a s. ⊎_elim (λ w. absurd (none w.0)) (λ p. (left_of s.0 s.1, blocks_of_run a.blocks s.0, length s.1, own_blocks a.blocks s.0, p.3)) s.6)
 
 -- a number below another is one
-pub some_places : (words : List (List ℕ)) (files : Option Files) → Asks words (λ a. (plans : List (List PlannedData)) × HavePlans a files plans × IsSomeAnd a.places (λ p. p < count_all plans))
+pub some_places : (words : List (List ℕ)) (files : Option Files) → Asks words (λ a. (plans : List (List PlannedData)) × HavePlans a files plans × IsSomeAnd a.places (λ p. p < many_commands plans))
     → Asks words (λ a. a.places ≢ None)
-some_places words files = asks_more words _ _ (λ a few. by_places (count_all few.0) a.places few.2)
+some_places words files = asks_more words _ _ (λ a few. by_places (many_commands few.0) a.places few.2)
   where
     by_places : (n : ℕ) (o : Option ℕ) → IsSomeAnd o (λ p. p < n) → o ≢ None
     by_places n None few is = few

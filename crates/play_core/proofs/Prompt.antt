@@ -7,9 +7,8 @@ use Rattle.command_set.specs.Entries.{EntryData, LoggedData, entries_of, sent_by
 use Rattle.lateness.specs.Late.{AreDue, IsOff}
 use Rattle.script_plan.specs.Plan.{PlannedData, due_blocks}
 use Rattle.players.specs.Players.{entries}
-use Rattle.turns.specs.Turns.{blocks_of, others_than, plan_of}
+use Rattle.turns.specs.Turns.{blocks_of, others_than, plan_of, many_commands}
 use Rattle.turns.specs.Timed.{ArePlayed, IsTimed}
-use Rattle.play_core.specs.Verdict.{count_all}
 use Rattle.play_core.specs.Headline.{ArePrompt, journal_alone}
 use Rattle.play_core.proofs.Counts.{empty, length_blocks, length_entries, length_part}
 
@@ -33,7 +32,7 @@ on_due (d ∷ ds) (b ∷ blocks) due none =
     later i (inl le) = inl (omega arith)
     later i (inr lt) = inr lt
 
-pub all_prompt : (plans : List (List PlannedData)) (journal : List LoggedData) (places : ℕ) → IsTimed journal plans places → count_all plans ≤ places → ArePrompt journal plans
+pub all_prompt : (plans : List (List PlannedData)) (journal : List LoggedData) (places : ℕ) → IsTimed journal plans places → many_commands plans ≤ places → ArePrompt journal plans
 all_prompt plans journal places timed room k below =
     on_due (due_blocks (plan_of plans k)) (blocks_of k journal) (timed.played.each k below).due
     (λ i lt off.
@@ -86,7 +85,7 @@ known seq (c ∷ plan) (l ∷ ls) es bs =
     ∙ ap (λ (b : ℕ). logged_at b (planned_entry seq c) ∷ ls) block
     ∙ ap (λ (x : List LoggedData). logged_at c.due (planned_entry seq c) ∷ x) rest
 
-pub one_alone : (plans : List (List PlannedData)) (journal : List LoggedData) (places : ℕ) → IsTimed journal plans places → count_all plans ≤ places → length plans ≡ 1
+pub one_alone : (plans : List (List PlannedData)) (journal : List LoggedData) (places : ℕ) → IsTimed journal plans places → many_commands plans ≤ places → length plans ≡ 1
     → journal ≡ journal_alone 0 (plan_of plans 0)
 one_alone plans journal places timed room one =
     let below : 0 < length plans = omega (arith, one) in

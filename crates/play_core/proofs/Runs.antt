@@ -12,11 +12,11 @@ use Rattle.script_plan.specs.Plan.{PlannedData}
 use Rattle.take_files.specs.Files.{order, order_header, wav, wav_blocks, wav_header}
 use Rattle.take_files.specs.Orders.{Follows, IsOrdered, entry_limit}
 use Rattle.turns.specs.declared.target.Target.{Target}
-use Rattle.turns.specs.Turns.{plan_of}
+use Rattle.turns.specs.Turns.{plan_of, many_commands}
 use Rattle.turns.specs.Timed.{ArePlayed, IsScriptBegun, IsTimed}
 use Rattle.turns.specs.Written.{order_lines, both_appended, BothBegun}
 use Rattle.play_core.specs.Words.{RequestData}
-use Rattle.play_core.specs.Verdict.{blocks_of_run, places_of_run, count_all}
+use Rattle.play_core.specs.Verdict.{blocks_of_run, places_of_run}
 use Rattle.play_core.specs.Files.{AreBegun, IsStopped, with_two}
 use Rattle.outside.specs.Snapshot.{Snapshot}
 use Rattle.play_core.specs.Run.{HavePlans, HasReported, IsStoppedRun, IsDone, IsPlayedRun, SaysOfStop, left_of, order_of, played, report_of, sound_of}
@@ -131,7 +131,7 @@ module _ (a : RequestData) (before now : Snapshot) (status : ℕ) (plans : List 
 
     -- all turns were played, and the report was put, or it failed
     pub played_whole : now.files ≡ option_map (both_appended a.out (wav_blocks journal blocks) a.order (order_lines journal)) middle
-        → IsOrdered journal blocks scripts → IsTimed journal plans (places_of_run a.places plans) → length journal ≤ count_all plans
+        → IsOrdered journal blocks scripts → IsTimed journal plans (places_of_run a.places plans) → length journal ≤ many_commands plans
         → now.reading ≡ before.reading → now.writing ≡ before.writing
         → HasReported (report_of a plans journal) (if left_of plans journal == 0 then 0 else 5) before.written now.written before.faults now.faults status
         → IsPlayedRun a before now status

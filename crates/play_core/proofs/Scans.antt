@@ -16,7 +16,8 @@ use Rattle.play_core.specs.declared.totals.Totals.{Totals}
 use Rattle.play_core.specs.declared.refusal.Refusal.{Refusal}
 use Rattle.play_core.specs.declared.refusal.Refusal.TheVariants as why
 use Rattle.play_core.specs.Limits.{block_limit, command_limit, script_limit, scripts_limit}
-use Rattle.play_core.specs.Verdict.{Verdict, Lacking, LongFile, LongScripts, Faulty, ManyCommands, ManyBlocks, Plays, IsPlayed, nothing, verdict, blocks_of_run, of_blocks, count_all, with_script, with_plan, of_plan, of_text, of_file, of_scripts}
+use Rattle.turns.specs.Turns.{many_commands}
+use Rattle.play_core.specs.Verdict.{Verdict, Lacking, LongFile, LongScripts, Faulty, ManyCommands, ManyBlocks, Plays, IsPlayed, nothing, verdict, blocks_of_run, of_blocks, with_script, with_plan, of_plan, of_text, of_file, of_scripts}
 use Rattle.play_core.specs.Words.{RequestData}
 use Rattle.play_core.specs.Refused.{Tells, HasCause}
 use Rattle.play_core.specs.Scan.{AreBelow, IsTextOf, IsNext, NextTells, NextCause, with_all, AreRead}
@@ -159,7 +160,7 @@ refused_cause why.ManyCommands files blocks names i number name q plans t before
 refused_cause why.ManyBlocks files blocks names i number name q plans t before now below is text counted so_far cause = cause
 refused_cause why.Memory files blocks names i number name q plans t before now below is text counted so_far cause = cause
 
-pub count_pushed : (plans : List (List PlannedData)) (one : List PlannedData) → count_all (plans ++ one ∷ []) ≡ count_all plans + length one
+pub count_pushed : (plans : List (List PlannedData)) (one : List PlannedData) → many_commands (plans ++ one ∷ []) ≡ many_commands plans + length one
 count_pushed plans one = sum-map length (plans ++ one ∷ []) ∙ sum_by_push length plans one ∙ ap (λ (n : ℕ). n + length one) (sym (sum-map length plans))
 
 pub below_pushed : (blocks : Option ℕ) (plans : List (List PlannedData)) (one : List PlannedData)

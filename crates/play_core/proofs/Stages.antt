@@ -10,8 +10,8 @@ use Rattle.std.proofs.lemmas.List.Sums.{sum-map, get_or-le-sum_by}
 use Rattle.lateness.specs.Late.{AllBelow}
 use Rattle.script_plan.specs.Plan.{PlannedData, due_blocks, last_due, last_due_or, IsPlan, IsPlanFrom}
 use Rattle.players.specs.Players.{PlayerView}
-use Rattle.turns.specs.Turns.{plans_of}
-use Rattle.play_core.specs.Verdict.{greatest_due, count_all}
+use Rattle.turns.specs.Turns.{plans_of, many_commands}
+use Rattle.play_core.specs.Verdict.{greatest_due}
 use Rattle.play_core.specs.Stage.{AreInTime}
 
 max_zero : (n : ℕ) → max n 0 ≡ n
@@ -40,7 +40,7 @@ lengths_more scripts i script quotas all n below is so_far one whole =
     whole ∙ ap (λ (l : List ℕ). l ++ n ∷ []) so_far ∙ ap (λ (m : ℕ). map length (take i scripts) ++ m ∷ []) one
     ∙ sym (map-append length (take i scripts) (script ∷ [])) ∙ ap (λ (l : List (List PlannedData)). map length l) (sym (one_more_script scripts i script below is))
 
-pub one_fits : (scripts : List (List PlannedData)) (i : ℕ) (script : List PlannedData) → i < length scripts → script ≡ get_or scripts i script → length script ≤ count_all scripts
+pub one_fits : (scripts : List (List PlannedData)) (i : ℕ) (script : List PlannedData) → i < length scripts → script ≡ get_or scripts i script → length script ≤ many_commands scripts
 one_fits scripts i script below is =
     rw (sum-map length scripts) (subst (λ (s : List PlannedData). length s ≤ sum_by length scripts) (sym is) (get_or-le-sum_by length scripts i script below))
 

@@ -7,9 +7,9 @@ use Rattle.command_set.specs.Entries.{LoggedData, entries_of, sent_by}
 use Rattle.script_plan.specs.Plan.{PlannedData, due_blocks}
 use Rattle.take_files.specs.Orders.{OrderData, IsOrder}
 use Rattle.players.specs.Players.{entries}
-use Rattle.turns.specs.Turns.{blocks_of, plan_of}
+use Rattle.turns.specs.Turns.{blocks_of, plan_of, many_commands}
 use Rattle.play_core.specs.Words.{RequestData, requested_by}
-use Rattle.play_core.specs.Verdict.{Verdict, Lacking, LongFile, LongScripts, Faulty, ManyCommands, ManyBlocks, Plays, verdict, plans_in, places_of_run, count_all}
+use Rattle.play_core.specs.Verdict.{Verdict, Lacking, LongFile, LongScripts, Faulty, ManyCommands, ManyBlocks, Plays, verdict, plans_in, places_of_run}
 use Rattle.play_core.specs.Lines.{limit_scripts, limit_blocks}
 
 -- the words ask for this
@@ -89,4 +89,4 @@ Answers ManyBlocks status = IsOneOf status (6 ∷ 8 ∷ [])
 abbrev pub IsComplete : RequestData → Verdict → ℕ → Type 0
 IsComplete a said status =
     (plans : List (List PlannedData)) → said ≡ Plays plans
-    → IsOneOf status (0 ∷ 5 ∷ 8 ∷ []) × (count_all plans ≤ places_of_run a.places plans → IsOneOf status (0 ∷ 8 ∷ []))
+    → IsOneOf status (0 ∷ 5 ∷ 8 ∷ []) × (many_commands plans ≤ places_of_run a.places plans → IsOneOf status (0 ∷ 8 ∷ []))

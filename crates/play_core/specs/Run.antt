@@ -11,7 +11,8 @@ use Rattle.take_files.specs.Orders.{IsOrdered}
 use Rattle.turns.specs.Timed.{ArePlayed, IsTimed}
 use Rattle.play_core.specs.declared.refusal.Refusal.{Refusal}
 use Rattle.play_core.specs.Words.{RequestData}
-use Rattle.play_core.specs.Verdict.{Plays, verdict, blocks_of_run, places_of_run, count_all}
+use Rattle.turns.specs.Turns.{many_commands}
+use Rattle.play_core.specs.Verdict.{Plays, verdict, blocks_of_run, places_of_run}
 use Rattle.play_core.specs.Refused.{HasCause, Tells}
 use Rattle.play_core.specs.Lines.{refusal_line, refusal_status, report}
 use Rattle.play_core.specs.Files.{AreBegun, with_two}
@@ -43,7 +44,7 @@ played a plans journal files = with_two a.out (sound_of a plans journal) a.order
 
 -- how many commands were left
 abbrev pub left_of : List (List PlannedData) → List LoggedData → ℕ
-left_of plans journal = count_all plans - length journal
+left_of plans journal = many_commands plans - length journal
 
 -- the report of a run
 abbrev pub report_of : RequestData → List (List PlannedData) → List LoggedData → List ℕ
@@ -78,7 +79,7 @@ pub record IsDone (a : RequestData) (before now : Snapshot) (status : ℕ) : Typ
   pub planned : HavePlans a before.files plans
   pub ordered : IsOrdered journal (blocks_of_run a.blocks plans) (length plans)
   pub timed : IsTimed journal plans (places_of_run a.places plans)
-  pub few : length journal ≤ count_all plans
+  pub few : length journal ≤ many_commands plans
   pub files : now.files ≡ option_map (played a plans journal) before.files
   pub reading : now.reading ≡ before.reading
   pub writing : now.writing ≡ before.writing

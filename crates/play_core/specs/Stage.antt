@@ -2,10 +2,10 @@
 use Rattle.std.specs.Prelude.{◌≡◌, ℕ, ◌≤◌, List, [], ◌∷◌, Option, vec_len, vec_capacity}
 use Rattle.lateness.specs.Late.{AllBelow}
 use Rattle.script_plan.specs.Plan.{PlannedData, due_blocks}
-use Rattle.turns.specs.Turns.{AreFresh, IsFreshRenderer, plans_of}
+use Rattle.turns.specs.Turns.{AreFresh, IsFreshRenderer, plans_of, many_commands}
 use Rattle.play_core.specs.declared.stage.Stage.{Stage}
 use Rattle.play_core.specs.Limits.{block_limit}
-use Rattle.play_core.specs.Verdict.{blocks_of_run, places_of_run, count_all}
+use Rattle.play_core.specs.Verdict.{blocks_of_run, places_of_run}
 
 -- each command of each script is due below the number of blocks
 abbrev pub AreInTime : ℕ → List (List PlannedData) → Type 0
@@ -17,12 +17,12 @@ pub record IsStage (blocks places : Option ℕ) (plans : List (List PlannedData)
   pub players : AreFresh s.line s.players.items
   pub plans_are : plans_of s.players.items ≡ plans
   pub renderer : IsFreshRenderer s.line s.renderer
-  pub spare : count_all plans ≤ s.renderer.spare
+  pub spare : many_commands plans ≤ s.renderer.spare
   pub empty : s.ends.items ≡ []
   pub room : vec_len s.players ≤ vec_capacity s.ends
   pub blocks_are : s.blocks ≡ blocks_of_run blocks plans
   pub some : 1 ≤ s.blocks
   pub few : s.blocks ≤ block_limit
   pub places_are : s.line.places ≡ places_of_run places plans
-  pub commands : s.commands ≡ count_all plans
+  pub commands : s.commands ≡ many_commands plans
   pub due : AreInTime s.blocks plans

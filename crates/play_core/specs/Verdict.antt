@@ -1,6 +1,6 @@
 -- What the scripts of a run come to. They are judged one after the other: each is read, its bytes are added to those before, and then its
 -- commands are read.
-use Rattle.std.specs.Prelude.{ℕ, ◌+◌, ◌-◌, max, nat_lt, List, [], ◌∷◌, ◌++◌, length, map, sum, Option, Some, None, if◌then◌else◌}
+use Rattle.std.specs.Prelude.{ℕ, ◌+◌, ◌-◌, max, nat_lt, List, [], ◌∷◌, ◌++◌, length, Option, Some, None, if◌then◌else◌}
 use Rattle.std.specs.FinMap.{get}
 use Rattle.outside.specs.Files.{Files}
 use Rattle.script_plan.specs.Plan.{PlannedData, last_due}
@@ -8,6 +8,7 @@ use Rattle.script_outcome.specs.declared.fault.Place.{Place}
 use Rattle.script_outcome.specs.declared.fault.ScriptKind.{ScriptKind}
 use Rattle.script_outcome.specs.Plan.{Plan, Commands, Refused, TooMany}
 use Rattle.script_read.specs.Plan.{plan}
+use Rattle.turns.specs.Turns.{many_commands}
 use Rattle.play_core.specs.declared.totals.Totals.{Totals}
 use Rattle.play_core.specs.Limits.{script_limit, scripts_limit, command_limit, block_limit}
 use Rattle.play_core.specs.Words.{RequestData}
@@ -70,10 +71,6 @@ abbrev pub greatest_due : List (List PlannedData) → ℕ
 greatest_due [] = 0
 greatest_due (one ∷ plans) = max (last_due one) (greatest_due plans)
 
--- how many commands there are
-abbrev pub count_all : List (List PlannedData) → ℕ
-count_all plans = sum (map length plans)
-
 -- how many blocks are rendered: as many as asked for, or 201 more than the greatest block that a command is due at
 abbrev pub blocks_of_run : Option ℕ → List (List PlannedData) → ℕ
 blocks_of_run (Some blocks) plans = blocks
@@ -82,7 +79,7 @@ blocks_of_run None plans = greatest_due plans + 201
 -- how many places the line has: as many as asked for, or one for each command, and one at least
 abbrev pub places_of_run : Option ℕ → List (List PlannedData) → ℕ
 places_of_run (Some places) plans = places
-places_of_run None plans = max 1 (count_all plans)
+places_of_run None plans = max 1 (many_commands plans)
 
 -- more blocks than a run may have
 abbrev pub of_blocks : Option ℕ → Verdict → Verdict

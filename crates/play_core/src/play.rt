@@ -2,13 +2,13 @@
 ghost use Rattle.std.specs.Prelude.{◌≡◌, ◌≢◌, ◌⊎◌, ◌≤◌, ◌<◌, ◌-◌, ◌==◌, IfSome, IfOk, IfErr, OnOk, length, map, option_map, string_bytes, if◌then◌else◌};
 ghost use Rattle.play_core.specs.Words.{IsRequest, request_data};
 ghost use Rattle.play_core.specs.Limits.{block_limit, command_limit};
-ghost use Rattle.play_core.specs.Verdict.{count_all, verdict};
+ghost use Rattle.play_core.specs.Verdict.{verdict};
 ghost use Rattle.play_core.specs.Refused.{HasCause, IsWithin, Tells};
 ghost use Rattle.outside.specs.Snapshot.{snapshot};
 ghost use Rattle.play_core.specs.Run.{HavePlans, HasReported, IsPlayedRun, IsRun};
 ghost use Rattle.play_core.specs.Headline.{WasPlayed};
 ghost use Rattle.play_core.specs.Stage.{IsStage};
-ghost use Rattle.turns.specs.Turns.{plans_of};
+ghost use Rattle.turns.specs.Turns.{plans_of, many_commands};
 ghost use Rattle.turns.specs.Written.{HoldsNothing};
 ghost use Rattle.outside.specs.Faults.{HasCause as HasFault};
 ghost use Rattle.fault_lines.specs.Lines.{Says, cannot_write};
@@ -69,7 +69,7 @@ fn prepare<S: Shelf>(
     ensures tells { IfErr result (λ why. IfSome (S.files shelf.old) (λ told. Tells why (verdict (request_data request.entry) told))) }
     ensures cause { IfErr result (λ why. HasCause why request.entry.blocks (S.files shelf.old) (map string_bytes request.entry.scripts.now)
         (S.reading shelf.old) (S.reading shelf.new)) }
-    ensures few { IfOk result (λ stage. count_all (plans_of stage.players.items) ≤ command_limit) }
+    ensures few { IfOk result (λ stage. many_commands (plans_of stage.players.items) ≤ command_limit) }
     ensures within { IfErr result (λ why. IsWithin why (length request.entry.scripts.now)) }
     ensures files { S.files shelf.new ≡ S.files shelf.old }
     ensures writing { S.writing shelf.new ≡ S.writing shelf.old }
@@ -119,7 +119,7 @@ fn perform<R: Threads + Wait + Sync, S: Shelf, O: Out, G: Gate>(
     requires request { IsRequest request }
     requires stage { IsStage request.blocks request.places (plans_of stage.players.items) stage }
     requires plans { HavePlans (request_data request) (S.files shelf.old) (plans_of stage.players.items) }
-    requires few { count_all (plans_of stage.players.items) ≤ command_limit }
+    requires few { many_commands (plans_of stage.players.items) ≤ command_limit }
     ensures run { IsPlayedRun (request_data request.entry)
         (snapshot (S.files shelf.old) (S.reading shelf.old) (S.writing shelf.old) (O.written out.old) (O.faults out.old))
         (snapshot (S.files shelf.new) (S.reading shelf.new) (S.writing shelf.new) (O.written out.new) (O.faults out.new)) result }

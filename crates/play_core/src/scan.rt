@@ -6,7 +6,8 @@ ghost use Rattle.script_plan.specs.Plan.{PlannedData};
 ghost use Rattle.script_outcome.specs.Plan.{Commands};
 ghost use Rattle.script_read.specs.Plan.{plan};
 ghost use Rattle.play_core.specs.Limits.{command_limit, script_limit, scripts_limit};
-ghost use Rattle.play_core.specs.Verdict.{Verdict, nothing, count_all, of_text, of_scripts, Plays};
+ghost use Rattle.turns.specs.Turns.{many_commands};
+ghost use Rattle.play_core.specs.Verdict.{Verdict, nothing, of_text, of_scripts, Plays};
 ghost use Rattle.play_core.specs.Refused.{HasCause, IsOfContent, Tells};
 ghost use Rattle.play_core.specs.Scan.{IsNext, NextCause, NextTells, AreBelow};
 
@@ -38,7 +39,7 @@ pub(crate) fn read_scripts<S: Shelf>(
     ensures plans { IfOk result (λ scripts. IfSome (S.files shelf.old) (λ told.
         of_scripts told blocks nothing (map string_bytes names.now) ≡ Plays scripts.items)) }
     ensures many { IfOk result (λ scripts. length scripts.items ≡ length names.now) }
-    ensures few { IfOk result (λ scripts. count_all scripts.items ≤ command_limit) }
+    ensures few { IfOk result (λ scripts. many_commands scripts.items ≤ command_limit) }
     ensures below { IfOk result (λ scripts. IfSome blocks (λ b. All (λ one. AreBelow b one) scripts.items)) }
     ensures kept { OnOk result (S.reading shelf.new ≡ S.reading shelf.old) }
     ensures tells { IfErr result (λ why. IfSome (S.files shelf.old) (λ told.

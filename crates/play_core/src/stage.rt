@@ -1,7 +1,8 @@
 //! All that a run needs, made before a file is touched.
 ghost use Rattle.std.specs.Prelude.{◌≡◌, ◌+◌, ◌<◌, ◌≤◌, ℕ, Option, All, IfOk, IfSome, IfNone, max, length, map, sum, vec_len, vec_capacity, slice_index};
 ghost use Rattle.play_core.specs.Limits.{block_limit, command_limit};
-ghost use Rattle.play_core.specs.Verdict.{blocks_of_run, count_all, greatest_due, places_of_run};
+ghost use Rattle.turns.specs.Turns.{many_commands};
+ghost use Rattle.play_core.specs.Verdict.{blocks_of_run, greatest_due, places_of_run};
 ghost use Rattle.play_core.specs.Stage.{IsStage, AreInTime};
 ghost use Rattle.play_core.specs.Scan.{AreBelow};
 
@@ -75,7 +76,7 @@ fn later(a: u32, b: u32) -> u32
 
 // How many commands each script has.
 fn quotas_of(alloc: Global, scripts: &[Script]) -> Result<Vec<u32>, AllocError>
-    requires { count_all scripts.now ≤ command_limit }
+    requires { many_commands scripts.now ≤ command_limit }
     ensures { IfOk result (λ quotas. quotas.items ≡ map length scripts.now) }
 {
     let mut quotas = Vec::with_capacity(alloc, scripts.len())?;
@@ -114,7 +115,7 @@ pub(crate) fn set_stage(
     places: Option<u32>,
 ) -> Result<Stage, AllocError>
     requires many { (1 ≤ length scripts.items) × (length scripts.items ≤ 256) }
-    requires few { count_all scripts.items ≤ command_limit }
+    requires few { many_commands scripts.items ≤ command_limit }
     requires blocks { (1 ≤ blocks) × (blocks ≤ block_limit) }
     requires places { IfSome places (λ p. (1 ≤ p) × (p ≤ 1000000)) }
     requires due { AreInTime blocks scripts.items }

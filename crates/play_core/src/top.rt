@@ -8,13 +8,13 @@ ghost use Rattle.command_set.specs.Entries.{LoggedData};
 ghost use Rattle.take_files.specs.Files.{wav};
 ghost use Rattle.take_files.specs.Orders.{IsOrdered, OrderData};
 ghost use Rattle.turns.specs.Timed.{ArePlayed, IsTimed};
-ghost use Rattle.turns.specs.Turns.{plan_of};
+ghost use Rattle.turns.specs.Turns.{plan_of, many_commands};
 ghost use Rattle.turns.specs.Written.{HoldsNothing};
 ghost use Rattle.script_outcome.specs.declared.fault.Place.{Place};
 ghost use Rattle.script_outcome.specs.declared.fault.ScriptKind.{ScriptKind};
 ghost use Rattle.script_plan.specs.Plan.{PlannedData};
 ghost use Rattle.play_core.specs.Words.{requested_by};
-ghost use Rattle.play_core.specs.Verdict.{Verdict, Faulty, IsPlayed, blocks_of_run, count_all, places_of_run, verdict};
+ghost use Rattle.play_core.specs.Verdict.{Verdict, Faulty, IsPlayed, blocks_of_run, places_of_run, verdict};
 ghost use Rattle.play_core.specs.Refused.{IsUnread};
 ghost use Rattle.play_core.specs.Lines.{fault_line, report, usage};
 ghost use Rattle.play_core.specs.Files.{AreBegun};
@@ -70,10 +70,10 @@ pub fn play_main<R: Threads + Wait + Sync, S: Shelf, O: Out, G: Gate>(
         (λ a plans o. IsTimed o.journal plans (places_of_run a.places plans)) }
     // Where the line has a place for each command, as it has with PLACES `-`, each is logged at its due block.
     ensures prompt { PlayedAs (map string_bytes words.now) result (S.files shelf.old) (S.files shelf.new)
-        (λ a plans o. count_all plans ≤ places_of_run a.places plans → ArePrompt o.journal plans) }
+        (λ a plans o. many_commands plans ≤ places_of_run a.places plans → ArePrompt o.journal plans) }
     // One script alone then has the journal of its plan: its bytes and BLOCKS decide every byte of both files.
     ensures alone { PlayedAs (map string_bytes words.now) result (S.files shelf.old) (S.files shelf.new)
-        (λ a plans o. count_all plans ≤ places_of_run a.places plans → length plans ≡ 1 → o.journal ≡ journal_alone 0 (plan_of plans 0)) }
+        (λ a plans o. many_commands plans ≤ places_of_run a.places plans → length plans ≡ 1 → o.journal ≡ journal_alone 0 (plan_of plans 0)) }
     // All other files are as before, and just the report was added.
     ensures others { Played (map string_bytes words.now) result (S.files shelf.old) (λ a plans.
         (other : List ℕ) → other ≢ a.out → other ≢ a.order → file_of (S.files shelf.new) other ≡ file_of (S.files shelf.old) other) }
@@ -117,7 +117,7 @@ pub fn play_main<R: Threads + Wait + Sync, S: Shelf, O: Out, G: Gate>(
         ¬ (Rose (S.reading shelf.old) (S.reading shelf.new)) → Answers (verdict a told) result) }
     // 5 only where a number of places was asked for that is below the number of commands.
     ensures places { result ≡ 5 → Asks (map string_bytes words.now) (λ a. (plans : List (List PlannedData))
-        × HavePlans a (S.files shelf.old) plans × IsSomeAnd a.places (λ p. p < count_all plans)) }
+        × HavePlans a (S.files shelf.old) plans × IsSomeAnd a.places (λ p. p < many_commands plans)) }
 
     // What the shelf holds back of both files was written out.
     ensures written_out { WasPlayed result → Asks (map string_bytes words.now) (λ a. HoldsNothing (S.held shelf.new) a.out a.order) }

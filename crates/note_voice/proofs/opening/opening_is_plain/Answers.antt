@@ -3,11 +3,12 @@ use Rattle.voice_record.specs.Voice.{opening_voice}
 use Rattle.operator_kernel.specs.declared.OpBlock.{OpBlock}
 use Rattle.operator_kernel.specs.Operator.{silent, sample_at}
 use Rattle.algorithm_bus.specs.Signals.{Patch, own_sample}
+use Rattle.algorithm_bus.specs.Audible.{muted}
 use Rattle.algorithm_bus.specs.Buses.{op_of}
 use Rattle.algorithm_bus.proofs.Sends.{signals_meet_equation}
 use Rattle.block_rates.specs.Levels.{envelope_level}
 use Rattle.block_rates.specs.Pitches.{pitch_envelope_level}
-use Rattle.note_voice.specs.Note.{NoteData, played_note, envelope_settings, pitch_settings, pitch_shift_in, attenuation_in, gain_after, gain_before, audible_in, is_on, muted, operator_in, operators_in, note_patch}
+use Rattle.note_voice.specs.Note.{NoteData, played_note, envelope_settings, pitch_settings, pitch_shift_in, attenuation_in, gain_after, gain_before, audible_in, is_on, operator_in, operators_in, note_patch}
 use Rattle.note_voice.specs.Opening.{OthersAreSilent, IsUnmodulated}
 use Rattle.note_voice.proofs.Quiet.{IsOff, off_level, off_in_opening, gain_low, no_tremolo, no_vibrato, no_bend, pitch_still}
 use Rattle.note_voice.proofs.opening.opening_is_plain.Goals as goal

@@ -5,9 +5,9 @@ use Rattle.std.proofs.lemmas.List.{length-map}
 use Rattle.outside.specs.Files.{Files}
 use Rattle.command_set.specs.Entries.{journal_data, logged_data}
 use Rattle.take_files.specs.Files.{wav_header, order_header}
-use Rattle.turns.specs.Turns.{plans_of}
+use Rattle.turns.specs.Turns.{plans_of, many_commands}
 use Rattle.play_core.specs.Words.{request_data}
-use Rattle.play_core.specs.Verdict.{blocks_of_run, places_of_run, count_all}
+use Rattle.play_core.specs.Verdict.{blocks_of_run, places_of_run}
 use Rattle.play_core.specs.Files.{with_two}
 use Rattle.outside.specs.Snapshot.{snapshot}
 use Rattle.play_core.proofs.Runs.{rose_on, none_ordered, stopped_at_start, stopped_in_turns, played_whole, run_ordered}
@@ -47,7 +47,7 @@ pub returns-in-Ok-result-clause-run : goal.returns-in-Ok-result-clause-run
 returns-in-Ok-result-clause-run g c =
     let count : length (journal_data c.play_scripts-journal.result.0.items) ≡ c.len.result =
     omega (arith, length-map c.play_scripts-journal.result.0.items logged_data, c.len.ensures, c.play_scripts-journal.result.0.ok) in
-    let few : length (journal_data c.play_scripts-journal.result.0.items) ≤ count_all (plans_of c.args.stage.players.items) =
+    let few : length (journal_data c.play_scripts-journal.result.0.items) ≤ many_commands (plans_of c.args.stage.players.items) =
     not_more (plans_of c.args.stage.players.items) (journal_data c.play_scripts-journal.result.0.items) c.play_scripts-journal.ensures.played in
     let scripts : length (plans_of c.args.stage.players.items) ≤ 256 = omega (arith, c.requires.plans.0, length-map c.args.request.scripts.now string_bytes, c.requires.request.scripts.1) in
     played_whole (request_data c.args.request)
@@ -57,7 +57,7 @@ returns-in-Ok-result-clause-run g c =
     (rw (← c.requires.stage.blocks_are, c.requires.plans.0, length-map c.args.request.scripts.now string_bytes) c.in-Ok.ensures.whole)
     (rw (← c.requires.stage.blocks_are) (search rules))
     (rw (← c.requires.stage.blocks_are)
-    (run_ordered (journal_data c.play_scripts-journal.result.0.items) c.args.stage.blocks (length (plans_of c.args.stage.players.items)) (count_all (plans_of c.args.stage.players.items))
+    (run_ordered (journal_data c.play_scripts-journal.result.0.items) c.args.stage.blocks (length (plans_of c.args.stage.players.items)) (many_commands (plans_of c.args.stage.players.items))
     c.requires.stage.some c.requires.stage.few
     (omega (arith, c.requires.plans.0, length-map c.args.request.scripts.now string_bytes, c.requires.request.scripts.0))
     scripts few c.requires.few
@@ -71,7 +71,7 @@ returns-in-Ok-result-clause-run g c =
 
 pub returns-clause-run : goal.returns-clause-run
 returns-clause-run g c =
-    let few : length (journal_data c.play_scripts-journal.result.0.items) ≤ count_all (plans_of c.args.stage.players.items) =
+    let few : length (journal_data c.play_scripts-journal.result.0.items) ≤ many_commands (plans_of c.args.stage.players.items) =
     not_more (plans_of c.args.stage.players.items) (journal_data c.play_scripts-journal.result.0.items) c.play_scripts-journal.ensures.played in
     let scripts : length (plans_of c.args.stage.players.items) ≤ 256 = omega (arith, c.requires.plans.0, length-map c.args.request.scripts.now string_bytes, c.requires.request.scripts.1) in
     stopped_in_turns (request_data c.args.request)
@@ -81,7 +81,7 @@ returns-clause-run g c =
     (rw (← c.requires.stage.blocks_are, c.requires.plans.0, length-map c.args.request.scripts.now string_bytes) c.in-Ok.ensures.whole)
     c.stop-in-Err-result.ensures.status
     (rw (← c.requires.stage.blocks_are)
-    (run_ordered (journal_data c.play_scripts-journal.result.0.items) c.args.stage.blocks (length (plans_of c.args.stage.players.items)) (count_all (plans_of c.args.stage.players.items))
+    (run_ordered (journal_data c.play_scripts-journal.result.0.items) c.args.stage.blocks (length (plans_of c.args.stage.players.items)) (many_commands (plans_of c.args.stage.players.items))
     c.requires.stage.some c.requires.stage.few
     (omega (arith, c.requires.plans.0, length-map c.args.request.scripts.now string_bytes, c.requires.request.scripts.0))
     scripts few c.requires.few

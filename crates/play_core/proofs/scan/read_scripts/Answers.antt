@@ -1,5 +1,5 @@
 use Rattle.std.proofs.Common.{◌≡◌, ◌≤◌, ◌+◌, [], ◌∷◌, length, length-append, ◌∙◌, sym, ap, arith}
-use Rattle.play_core.specs.Verdict.{count_all}
+use Rattle.turns.specs.Turns.{many_commands}
 use Rattle.play_core.proofs.Scans.{next_read, all_read, refused_tells, refused_cause, count_pushed, below_pushed, AreReadOf}
 use Rattle.play_core.proofs.scan.read_scripts.Goals as goal
 
@@ -25,7 +25,7 @@ loop-name-preserved g c =
       read = next_read (g.S.Shelf.files c.args.shelf.now) c.args.blocks c.args.names.now c.loop-name.name-index c.name-item.result c.deref.result.now c.loop-name.scripts.items c.push.new.self.items
           c.in-Ok-read_next.script c.loop-name.totals c.read_next.new.totals (omega (arith, c.loop-name-test.true)) c.name-item.is c.deref.ensures c.in-Ok-push.ensures.items i.read
           (rw (← i.files) e.next);
-      commands = e.few ∙ ap (λ n. n + length c.in-Ok-read_next.script) i.commands ∙ sym (count_pushed c.loop-name.scripts.items c.in-Ok-read_next.script) ∙ ap count_all (sym c.in-Ok-push.ensures.items);
+      commands = e.few ∙ ap (λ n. n + length c.in-Ok-read_next.script) i.commands ∙ sym (count_pushed c.loop-name.scripts.items c.in-Ok-read_next.script) ∙ ap many_commands (sym c.in-Ok-push.ensures.items);
       few = e.commands;
       short = e.bytes;
       below = rw c.in-Ok-push.ensures.items (below_pushed c.args.blocks c.loop-name.scripts.items c.in-Ok-read_next.script i.below e.below);

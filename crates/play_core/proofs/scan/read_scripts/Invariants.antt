@@ -1,7 +1,7 @@
 use Rattle.std.proofs.Common.{◌≡◌, ◌≤◌, IfSome, map, take, length, string_bytes}
 use Rattle.std.specs.Prelude.{All}
 use Rattle.play_core.specs.Limits.{command_limit, scripts_limit}
-use Rattle.play_core.specs.Verdict.{count_all}
+use Rattle.turns.specs.Turns.{many_commands}
 use Rattle.play_core.specs.Scan.{AreBelow, AreRead}
 use Rattle.play_core.proofs.scan.read_scripts.Given as goal
 
@@ -10,7 +10,7 @@ invariant-loop-name g l = record {
   number : l.totals.scripts ≡ l.name-index;
   count : length l.scripts.items ≡ l.name-index;
   read : IfSome (g.S.Shelf.files l.fn.shelf) (λ told. AreRead told l.fn.blocks (map string_bytes (take l.name-index l.names)) l.scripts.items l.totals);
-  commands : l.totals.commands ≡ count_all l.scripts.items;
+  commands : l.totals.commands ≡ many_commands l.scripts.items;
   few : l.totals.commands ≤ command_limit;
   short : l.totals.bytes ≤ scripts_limit;
   below : IfSome l.fn.blocks (λ b. All (λ one. AreBelow b one) l.scripts.items);
