@@ -1,4 +1,4 @@
--- What it is to be in one of four stages.
+-- For private functions and proofs: what it is to be in one of four stages.
 use Rattle.std.specs.Prelude.{◌≡◌, ◌≤◌, ℕ, ◌+◌, List, [], ◌∷◌, Option, Some, None}
 use Rattle.block_rates.specs.declared.stage.Stage.{Stage}
 use Rattle.block_rates.specs.declared.stage.Stage.TheVariants.{First, Second, Third, Fourth}

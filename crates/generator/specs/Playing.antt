@@ -1,4 +1,4 @@
--- For the bodies and their proofs: how a world and four generated scripts stand for the journal so far.
+-- For private functions and proofs: how a world and four generated scripts stand for the journal so far.
 use Rattle.std.specs.Prelude.{ℕ, ◌≡◌, ◌≢◌, ◌+◌, ◌-◌, ◌<◌, ◌≤◌, List, ◌++◌, length, map, slice_index_or}
 use Rattle.std.specs.List.{range_with_len, sum_by}
 use Rattle.schedule_core.specs.Core.{Core, accepted_of}

@@ -1,4 +1,4 @@
--- The blocks of sixteen slots before and after they are run, in whatever order.
+-- For private functions and proofs: the blocks of sixteen slots before and after they are run, in whatever order.
 use Rattle.std.specs.Prelude.{ℕ, zero, suc, ◌≡◌, ◌≤◌, ◌<◌, ◌+◌, Bool, true, false, if◌then◌else◌}
 use Rattle.std.specs.Prelude.{List, length, slice_index_or, ℤ, pos, ◌+ℤ◌}
 use Rattle.operator_kernel.specs.Operator.{feedback_state_of}

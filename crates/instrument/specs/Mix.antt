@@ -1,4 +1,4 @@
--- The sum of no notes.
+-- For private functions and proofs: the sum of no notes.
 use Rattle.std.specs.Prelude.{ℕ, ◌≡◌, ◌<◌, List, slice_index_or, ℤ, pos}
 
 abbrev pub AreZeros : List ℤ → Type 0

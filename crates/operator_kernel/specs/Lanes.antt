@@ -1,4 +1,4 @@
--- What the vectors of the kernel hold.
+-- For private functions and proofs: what the vectors of the kernel hold.
 use Rattle.std.specs.Prelude.{ℕ, ◌+◌, List, [], ◌∷◌, ℤ, pos, ◌+ℤ◌, ◌*ℤ◌}
 use Rattle.dx_tables.specs.Numbers.{wrap}
 use Rattle.operator_kernel.specs.declared.OpBlock.{OpBlock}

@@ -1,4 +1,4 @@
--- What is known in the middle of reading the scripts.
+-- For private functions and proofs: what is known in the middle of reading the scripts.
 use Rattle.std.specs.Prelude.{◌≡◌, ◌⊎◌, ℕ, ◌-◌, ◌+◌, ◌<◌, ◌≤◌, List, ◌++◌, length, All, Option, Some, IfSome}
 use Rattle.std.specs.FinMap.{get}
 use Rattle.outside.specs.Files.{Files, Lacks}

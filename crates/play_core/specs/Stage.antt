@@ -1,4 +1,4 @@
--- What is made before a file is touched.
+-- For private functions and proofs: what is made before a file is touched.
 use Rattle.std.specs.Prelude.{◌≡◌, ℕ, ◌≤◌, List, [], ◌∷◌, Option, vec_len, vec_capacity}
 use Rattle.lateness.specs.Late.{AllBelow}
 use Rattle.script_plan.specs.Plan.{PlannedData, due_blocks}

@@ -1,4 +1,4 @@
--- For the bodies and their proofs: how the fields of a world stand for the core that contracts see.
+-- For private functions and proofs: how the fields of a world stand for the core that contracts see.
 use Rattle.std.specs.Prelude.{ℕ, ◌≡◌, ◌<◌, List, ◌++◌, length, map, slice_index_or}
 use Rattle.std.specs.List.{range_with_len}
 use Rattle.command_set.specs.declared.entry.Entry.{Entry}

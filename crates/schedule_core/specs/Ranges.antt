@@ -1,4 +1,4 @@
--- A command is in range in one way at most, so that a world can keep the fact.
+-- For private functions and proofs: a command is in range in one way at most, so that a world can keep the fact.
 use Rattle.std.specs.Prelude.{ℕ, ◌≡◌, ◌⊎◌}
 use Rattle.std.proofs.Common.{inl, inr, ap, arith}
 use Rattle.std.proofs.Math.Bridge.{le_prop}

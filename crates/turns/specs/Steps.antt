@@ -1,4 +1,4 @@
--- What holds between the parts of a turn.
+-- For private functions and proofs: what holds between the parts of a turn.
 use Rattle.std.specs.Prelude.{ℕ, zero, suc, ◌≡◌, ◌-◌, ◌<◌, ◌++◌, List, [], length, All, slice_index_or, ℤ}
 use Rattle.command_set.specs.Entries.{LoggedData}
 use Rattle.command_queue.specs.Ends.{LineView, others_of}
