@@ -25,7 +25,7 @@ use Rattle.play_core.specs.declared.refusal.Refusal.TheVariants as why
 use Rattle.play_core.specs.Words.{RequestData, requested_by}
 use Rattle.play_core.specs.Limits.{command_limit}
 use Rattle.play_core.specs.Verdict.{Verdict, Lacking, LongFile, LongScripts, Faulty, ManyCommands, ManyBlocks, Plays, IsPlayed, verdict, plans_in, blocks_of_run, places_of_run, nothing, with_script, with_plan, of_plan, of_file, of_blocks, of_scripts}
-use Rattle.play_core.specs.Refused.{HasCause, IsUnread, Tells}
+use Rattle.play_core.specs.Refused.{IsCaused, IsUnread, Tells}
 use Rattle.play_core.specs.Lines.{refusal_line, refusal_status, report, fault_line}
 use Rattle.play_core.specs.Files.{AreBegun, with_two}
 use Rattle.outside.specs.Snapshot.{Snapshot}
@@ -220,7 +220,7 @@ eight ManyBlocks status is = inr (inl is)
 
 module _ (a : RequestData) (before now : Snapshot) (status : ℕ) where
   refused_answers : (told : Files) → before.files ≡ Some told → ¬ (Rose before.reading now.reading) → (why : Refusal) → status ≡ refusal_status why
-      → HasCause why a.blocks before.files a.scripts before.reading now.reading → Tells why (verdict a told) → Answers (verdict a told) status
+      → IsCaused why a.blocks before.files a.scripts before.reading now.reading → Tells why (verdict a told) → Answers (verdict a told) status
   refused_answers told is none (why.Unread k) e cause tells =
       rw (lacking_verdict a told k before.reading now.reading (subst (λ (o : Option Files). IsUnread k a.blocks o a.scripts before.reading now.reading) is cause) none) (inl e)
   refused_answers told is none why.LongFile e cause tells = rw tells (inl e)
@@ -239,7 +239,7 @@ module _ (a : RequestData) (before now : Snapshot) (status : ℕ) where
   reads_of : IsRun a before now status → status ≢ 2 → now.reading ≡ before.reading
   reads_of (inl r) other = by_why r.why r.status_is r.cause
     where
-      by_why : (why : Refusal) → status ≡ refusal_status why → HasCause why a.blocks before.files a.scripts before.reading now.reading → now.reading ≡ before.reading
+      by_why : (why : Refusal) → status ≡ refusal_status why → IsCaused why a.blocks before.files a.scripts before.reading now.reading → now.reading ≡ before.reading
       by_why (why.Unread k) e cause = absurd (other e)
       by_why why.LongFile e cause = cause
       by_why why.LongScripts e cause = cause
@@ -259,7 +259,7 @@ module _ (a : RequestData) (before now : Snapshot) (status : ℕ) where
       × Says (cannot_read (slice_index_or a.scripts k [])) before.written now.written before.faults now.faults
   unread_of r two = by_why r.why r.status_is r.cause r.line
     where
-      by_why : (why : Refusal) → status ≡ refusal_status why → HasCause why a.blocks before.files a.scripts before.reading now.reading
+      by_why : (why : Refusal) → status ≡ refusal_status why → IsCaused why a.blocks before.files a.scripts before.reading now.reading
           → Says (refusal_line why a.scripts) before.written now.written before.faults now.faults
           → (k : ℕ) × IsUnread k a.blocks before.files a.scripts before.reading now.reading × Says (cannot_read (slice_index_or a.scripts k [])) before.written now.written before.faults now.faults
       by_why (why.Unread k) e cause line = (k, cause, line)
@@ -322,7 +322,7 @@ module _ (a : RequestData) (before now : Snapshot) (status : ℕ) where
 
   -- a refusal that the told files don't bear out
   refused_complete : (told : Files) (plans : List (List PlannedData)) → before.files ≡ Some told → verdict a told ≡ Plays plans → ¬ (Rose before.reading now.reading)
-      → (why : Refusal) → status ≡ refusal_status why → HasCause why a.blocks before.files a.scripts before.reading now.reading → Tells why (verdict a told) → status ≡ 8
+      → (why : Refusal) → status ≡ refusal_status why → IsCaused why a.blocks before.files a.scripts before.reading now.reading → Tells why (verdict a told) → status ≡ 8
   refused_complete told plans is right none (why.Unread k) e cause tells =
       let lacks = lacking_verdict a told k before.reading now.reading (subst (λ (o : Option Files). IsUnread k a.blocks o a.scripts before.reading now.reading) is cause) none in absurd (cc)
   refused_complete told plans is right none why.LongFile e cause tells = absurd (cc)

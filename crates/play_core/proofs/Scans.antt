@@ -19,7 +19,7 @@ use Rattle.play_core.specs.Limits.{block_limit, command_limit, script_limit, scr
 use Rattle.turns.specs.Turns.{many_commands}
 use Rattle.play_core.specs.Verdict.{Verdict, Lacking, LongFile, LongScripts, Faulty, ManyCommands, ManyBlocks, Plays, IsPlayed, nothing, verdict, blocks_of_run, of_blocks, with_script, with_plan, of_plan, of_text, of_file, of_scripts}
 use Rattle.play_core.specs.Words.{RequestData}
-use Rattle.play_core.specs.Refused.{Tells, HasCause}
+use Rattle.play_core.specs.Refused.{Tells, IsCaused}
 use Rattle.play_core.specs.Scan.{AreBelow, IsTextOf, IsNext, NextTells, NextCause, with_all, AreRead}
 
 pub all_none : (said : Verdict) → with_all [] said ≡ said
@@ -144,7 +144,7 @@ good_before (Some told) blocks names i plans t so_far =
 
 pub refused_cause : (why : Refusal) (files : Option Files) (blocks : Option ℕ) (names : List (String Global)) (i number : ℕ) (name : String Global) (q : List ℕ) (plans : List (List PlannedData)) (t : Totals) (before now : ℕ)
     → i < length names → name ≡ get_or names i name → q ≡ string_bytes name → number ≡ i → AreReadOf files blocks names i plans t → NextCause why number files q before now
-    → HasCause why blocks files (map string_bytes names) before now
+    → IsCaused why blocks files (map string_bytes names) before now
 refused_cause (why.Unread k) files blocks names i number name q plans t before now below is text counted so_far cause =
     let at : k ≡ i = cause.0 ∙ counted in
     let here : get_or (map string_bytes names) i [] ≡ q = get_or-map string_bytes names i name [] below ∙ ap string_bytes (sym is) ∙ sym text in

@@ -33,14 +33,14 @@ pub record IsUnread (k : ℕ) (blocks : Option ℕ) (files : Option Files) (name
   pub earlier : IfSome files (λ told. IsPlayed (of_scripts told blocks nothing (take k names)))
 
 -- why nothing is played, of these scripts, with the count of reading faults before and after
-abbrev pub HasCause : Refusal → Option ℕ → Option Files → List (List ℕ) → ℕ → ℕ → Type 0
-HasCause (why.Unread k) blocks files names before now = IsUnread k blocks files names before now
-HasCause why.LongFile blocks files names before now = now ≡ before
-HasCause why.LongScripts blocks files names before now = now ≡ before
-HasCause (why.Fault number place what) blocks files names before now = now ≡ before
-HasCause why.ManyCommands blocks files names before now = now ≡ before
-HasCause why.ManyBlocks blocks files names before now = now ≡ before
-HasCause why.Memory blocks files names before now = now ≡ before
+abbrev pub IsCaused : Refusal → Option ℕ → Option Files → List (List ℕ) → ℕ → ℕ → Type 0
+IsCaused (why.Unread k) blocks files names before now = IsUnread k blocks files names before now
+IsCaused why.LongFile blocks files names before now = now ≡ before
+IsCaused why.LongScripts blocks files names before now = now ≡ before
+IsCaused (why.Fault number place what) blocks files names before now = now ≡ before
+IsCaused why.ManyCommands blocks files names before now = now ≡ before
+IsCaused why.ManyBlocks blocks files names before now = now ≡ before
+IsCaused why.Memory blocks files names before now = now ≡ before
 
 -- a script that was not read is one of so many
 abbrev pub IsWithin : Refusal → ℕ → Type 0

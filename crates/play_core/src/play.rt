@@ -3,14 +3,14 @@ ghost use Rattle.std.specs.Prelude.{◌≡◌, ◌≢◌, ◌⊎◌, ◌≤◌, 
 ghost use Rattle.play_core.specs.Words.{IsRequest, request_data};
 ghost use Rattle.play_core.specs.Limits.{block_limit, command_limit};
 ghost use Rattle.play_core.specs.Verdict.{verdict};
-ghost use Rattle.play_core.specs.Refused.{HasCause, IsWithin, Tells};
+ghost use Rattle.play_core.specs.Refused.{IsCaused, IsWithin, Tells};
 ghost use Rattle.outside.specs.Snapshot.{snapshot};
 ghost use Rattle.play_core.specs.Run.{HavePlans, HasReported, IsPlayedRun, IsRun};
 ghost use Rattle.play_core.specs.Headline.{WasPlayed};
 ghost use Rattle.play_core.specs.Stage.{IsStage};
 ghost use Rattle.turns.specs.Turns.{plans_of, many_commands};
 ghost use Rattle.turns.specs.Written.{HoldsNothing};
-ghost use Rattle.outside.specs.Faults.{HasCause as HasFault};
+ghost use Rattle.outside.specs.Faults.{HasCause};
 ghost use Rattle.fault_lines.specs.Lines.{Says, cannot_write};
 ghost use Rattle.take_files.specs.Files.{wav_header as wav_bytes, order_header as order_bytes};
 ghost use Rattle.play_core.specs.Lines.{report};
@@ -67,7 +67,7 @@ fn prepare<S: Shelf>(
     ensures plans { IfOk result (λ stage. HavePlans (request_data request.entry) (S.files shelf.old) (plans_of stage.players.items)) }
     ensures kept { OnOk result (S.reading shelf.new ≡ S.reading shelf.old) }
     ensures tells { IfErr result (λ why. IfSome (S.files shelf.old) (λ told. Tells why (verdict (request_data request.entry) told))) }
-    ensures cause { IfErr result (λ why. HasCause why request.entry.blocks (S.files shelf.old) (map string_bytes request.entry.scripts.now)
+    ensures cause { IfErr result (λ why. IsCaused why request.entry.blocks (S.files shelf.old) (map string_bytes request.entry.scripts.now)
         (S.reading shelf.old) (S.reading shelf.new)) }
     ensures few { IfOk result (λ stage. many_commands (plans_of stage.players.items) ≤ command_limit) }
     ensures within { IfErr result (λ why. IsWithin why (length request.entry.scripts.now)) }
@@ -97,7 +97,7 @@ fn begin_files<S: Shelf>(shelf: &mut S, request: Request<'_>, blocks: u32) -> Re
         (S.files shelf.old)) }
     ensures stopped { IfErr result (λ target. IsStopped target (S.files shelf.old) (S.files shelf.new)
         request.entry.out.now (wav_bytes blocks) request.entry.order.now (order_bytes blocks (length request.entry.scripts.now))) }
-    ensures cause { HasFault (S.writing shelf.old) (S.writing shelf.new) (S.reading shelf.old) (S.reading shelf.new) ⊥ result }
+    ensures cause { HasCause (S.writing shelf.old) (S.writing shelf.new) (S.reading shelf.old) (S.reading shelf.new) ⊥ result }
 {
     let mut line = LineText::new();
     let scripts = request.scripts.len() as u32;

@@ -8,7 +8,7 @@ ghost use Rattle.script_read.specs.Plan.{plan};
 ghost use Rattle.play_core.specs.Limits.{command_limit, script_limit, scripts_limit};
 ghost use Rattle.turns.specs.Turns.{many_commands};
 ghost use Rattle.play_core.specs.Verdict.{Verdict, nothing, of_text, of_scripts, Plays};
-ghost use Rattle.play_core.specs.Refused.{HasCause, IsOfContent, Tells};
+ghost use Rattle.play_core.specs.Refused.{IsCaused, IsOfContent, Tells};
 ghost use Rattle.play_core.specs.Scan.{IsNext, NextCause, NextTells, AreBelow};
 
 use crate::refusal::Refusal;
@@ -44,7 +44,7 @@ pub(crate) fn read_scripts<S: Shelf>(
     ensures kept { OnOk result (S.reading shelf.new ≡ S.reading shelf.old) }
     ensures tells { IfErr result (λ why. IfSome (S.files shelf.old) (λ told.
         Tells why (of_scripts told blocks nothing (map string_bytes names.now)))) }
-    ensures cause { IfErr result (λ why. HasCause why blocks (S.files shelf.old) (map string_bytes names.now)
+    ensures cause { IfErr result (λ why. IsCaused why blocks (S.files shelf.old) (map string_bytes names.now)
         (S.reading shelf.old) (S.reading shelf.new)) }
     ensures files { S.files shelf.new ≡ S.files shelf.old }
     ensures writing { S.writing shelf.new ≡ S.writing shelf.old }
