@@ -11,15 +11,15 @@ use Rattle.tool_core.specs.declared.comparison.Step.TheVariants.{Same, Differs}
 use Rattle.tool_core.specs.Comparisons.{DiffersAt, IsPrefix, IsStep, IsWithin}
 
 -- ---- bytes at an offset
-get_behind : (prefix a : List ℕ) (i : ℕ) → slice_get (prefix ++ a) (length prefix + i) ≡ slice_get a i
-get_behind [] a i = ap (slice_get a) (let e : length {A = ℕ} [] + i ≡ i = omega arith in e)
-get_behind (x ∷ prefix) a i =
-    ap (slice_get (x ∷ (prefix ++ a))) (let e : length (x ∷ prefix) + i ≡ suc (length prefix + i) = omega arith in e) ∙ get_behind prefix a i
+get_after : (prefix a : List ℕ) (i : ℕ) → slice_get (prefix ++ a) (length prefix + i) ≡ slice_get a i
+get_after [] a i = ap (slice_get a) (let e : length {A = ℕ} [] + i ≡ i = omega arith in e)
+get_after (x ∷ prefix) a i =
+    ap (slice_get (x ∷ (prefix ++ a))) (let e : length (x ∷ prefix) + i ≡ suc (length prefix + i) = omega arith in e) ∙ get_after prefix a i
 
-get_front : (a more : List ℕ) (i : ℕ) → i < length a → slice_get (a ++ more) i ≡ slice_get a i
-get_front [] more i below = absurd (omega arith)
-get_front (x ∷ a) more zero below = refl
-get_front (x ∷ a) more (suc i) below = get_front a more i (omega arith)
+get_prefix : (a more : List ℕ) (i : ℕ) → i < length a → slice_get (a ++ more) i ≡ slice_get a i
+get_prefix [] more i below = absurd (omega arith)
+get_prefix (x ∷ a) more zero below = refl
+get_prefix (x ∷ a) more (suc i) below = get_prefix a more i (omega arith)
 
 get_taken : (n : ℕ) (a : List ℕ) (i : ℕ) → i < n → slice_get (take n a) i ≡ slice_get a i
 get_taken zero a i below = absurd (omega arith)
@@ -34,16 +34,16 @@ take_taken (suc n) [] (suc i) below = refl
 take_taken (suc n) (x ∷ a) (suc i) below = ap (λ (l : List ℕ). x ∷ l) (take_taken n a i (omega arith))
 
 -- ---- after a prefix, and before more
-pub differs_behind : (prefix a b : List ℕ) (i : ℕ) → DiffersAt a b i → DiffersAt (prefix ++ a) (prefix ++ b) (length prefix + i)
-differs_behind prefix a b i d = record {
+pub differs_after : (prefix a b : List ℕ) (i : ℕ) → DiffersAt a b i → DiffersAt (prefix ++ a) (prefix ++ b) (length prefix + i)
+differs_after prefix a b i d = record {
   prefix = take-append-add prefix a i ∙ ap (λ (l : List ℕ). prefix ++ l) d.prefix ∙ sym (take-append-add prefix b i);
-  differs = λ e. d.differs (sym (get_behind prefix a i) ∙ e ∙ get_behind prefix b i);
+  differs = λ e. d.differs (sym (get_after prefix a i) ∙ e ∙ get_after prefix b i);
 }
 
 pub differs_before : (a b more : List ℕ) (i : ℕ) → i < length b → DiffersAt a b i → DiffersAt a (b ++ more) i
 differs_before a b more i below d = record {
   prefix = d.prefix ∙ sym (take-append-le i b more (omega arith));
-  differs = λ e. d.differs (e ∙ get_front b more i below);
+  differs = λ e. d.differs (e ∙ get_prefix b more i below);
 }
 
 -- ---- the bytes that one read gives
@@ -119,7 +119,7 @@ piece_differs file piece wanted at done offset is low same step =
     let right : take done piece ++ wanted ≡ piece =
     ap (λ (l : List ℕ). take done piece ++ l) (rest_of piece wanted done is) ∙ take-append-drop done piece in
     let whole : DiffersAt (take done piece ++ drop (at + done) file) (take done piece ++ wanted) (length (take done piece) + offset) =
-    differs_behind (take done piece) (drop (at + done) file) wanted offset step in
+    differs_after (take done piece) (drop (at + done) file) wanted offset step in
     subst (λ (n : ℕ). DiffersAt (drop at file) piece (n + offset)) size
     (subst (λ (l : List ℕ). DiffersAt (drop at file) l (length (take done piece) + offset)) right
     (subst (λ (l : List ℕ). DiffersAt l (take done piece ++ wanted) (length (take done piece) + offset)) left whole))
@@ -134,16 +134,16 @@ piece_whole file piece at done is same = (
 rest_after : (file prefix rest : List ℕ) (at : ℕ) → file ≡ prefix ++ rest → at ≡ length prefix → drop at file ≡ rest
 rest_after file prefix rest at is size = ap (λ (n : ℕ). drop n file) size ∙ ap (drop (length prefix)) is ∙ drop-append_seam prefix rest
 
-pub front_more : (file prefix piece : List ℕ) (at : ℕ) → IsPrefix file prefix None → at ≡ length prefix → IsPrefix (drop at file) piece None
+pub prefix_more : (file prefix piece : List ℕ) (at : ℕ) → IsPrefix file prefix None → at ≡ length prefix → IsPrefix (drop at file) piece None
     → IsPrefix file (prefix ++ piece) None
-front_more file prefix piece at (rest, is) size (more, next) =
+prefix_more file prefix piece at (rest, is) size (more, next) =
     (more, is ∙ ap (λ (l : List ℕ). prefix ++ l) (sym (rest_after file prefix rest at is size) ∙ next) ∙ sym (append_assoc prefix piece more))
 
-pub front_differs : (file prefix piece more : List ℕ) (at offset : ℕ) → IsPrefix file prefix None → at ≡ length prefix → IsPrefix (drop at file) piece (Some offset)
+pub prefix_differs : (file prefix piece more : List ℕ) (at offset : ℕ) → IsPrefix file prefix None → at ≡ length prefix → IsPrefix (drop at file) piece (Some offset)
     → IsPrefix file ((prefix ++ piece) ++ more) (Some (at + offset))
-front_differs file prefix piece more at offset (rest, is) size (below, d) =
+prefix_differs file prefix piece more at offset (rest, is) size (below, d) =
     let left : prefix ++ drop at file ≡ file = ap (λ (l : List ℕ). prefix ++ l) (rest_after file prefix rest at is size) ∙ sym is in
-    let whole : DiffersAt (prefix ++ drop at file) (prefix ++ piece) (length prefix + offset) = differs_behind prefix (drop at file) piece offset d in
+    let whole : DiffersAt (prefix ++ drop at file) (prefix ++ piece) (length prefix + offset) = differs_after prefix (drop at file) piece offset d in
     let at_it : DiffersAt file (prefix ++ piece) (at + offset) =
     subst (λ (n : ℕ). DiffersAt file (prefix ++ piece) (n + offset)) (sym size)
     (subst (λ (l : List ℕ). DiffersAt l (prefix ++ piece) (length prefix + offset)) left whole) in
@@ -181,8 +181,8 @@ ends_there file whole size count is ends low (rest, same) =
     same ∙ ap (λ (l : List ℕ). whole ++ l) (none rest (omega (arith, ap length same, length-append whole rest))) ∙ append-nil whole
 
 -- ---- what an answer tells, where it is known which one it is
-pub front_at : (o : Option ℕ) (file prefix : List ℕ) (known : Option ℕ) → o ≡ known → IsPrefix file prefix o → IsPrefix file prefix known
-front_at o file prefix known is h = subst (λ (r : Option ℕ). IsPrefix file prefix r) is h
+pub prefix_at : (o : Option ℕ) (file prefix : List ℕ) (known : Option ℕ) → o ≡ known → IsPrefix file prefix o → IsPrefix file prefix known
+prefix_at o file prefix known is h = subst (λ (r : Option ℕ). IsPrefix file prefix r) is h
 
 pub step_same : (step : Step) (count : ℕ) (file prefix : List ℕ) → step ≡ Same count → IsStep step file prefix → take count file ≡ take count prefix
 step_same step count file prefix is h = let k : IsStep (Same count) file prefix = subst (λ (s : Step). IsStep s file prefix) is h in k

@@ -11,7 +11,7 @@ use Rattle.instrument.specs.Journal.{sound, state_at}
 use Rattle.take_files.specs.Files.{wav, wav_header, wav_block, wav_blocks, sample_bytes}
 use Rattle.tool_core.specs.Comparisons.{IsPrefix}
 use Rattle.tool_core.proofs.Writings.{with_out}
-use Rattle.tool_core.proofs.Prefixes.{first_differs, front_more, front_differs}
+use Rattle.tool_core.proofs.Prefixes.{first_differs, prefix_more, prefix_differs}
 
 -- the header and the first blocks
 abbrev pub begun : List LoggedData → ℕ → ℕ → List ℕ
@@ -95,26 +95,26 @@ header_differs journal file header blocks offset is differs =
     (ap (λ (h : List ℕ). h ++ b.more) (is ∙ sym (begun_none journal blocks)) ∙ sym b.is)
     (first_differs file header b.more offset differs)
 
-pub header_front : (journal : List LoggedData) (file header : List ℕ) (blocks : ℕ) → header ≡ wav_header blocks → IsPrefix (drop 0 file) header None
+pub header_prefix : (journal : List LoggedData) (file header : List ℕ) (blocks : ℕ) → header ≡ wav_header blocks → IsPrefix (drop 0 file) header None
     → IsPrefix file (begun journal blocks 0) None
-header_front journal file header blocks is (rest, same) = (rest, same ∙ ap (λ (h : List ℕ). h ++ rest) (is ∙ sym (begun_none journal blocks)))
+header_prefix journal file header blocks is (rest, same) = (rest, same ∙ ap (λ (h : List ℕ). h ++ rest) (is ∙ sym (begun_none journal blocks)))
 
 module _ (journal : List LoggedData) (file piece : List ℕ) (blocks from to at : ℕ) (is_at : at ≡ 44 + 128 * from)
     (is : wav_blocks journal to ≡ wav_blocks journal from ++ piece) (prefix : IsPrefix file (begun journal blocks from) None) where
-  pub piece_front : IsPrefix (drop at file) piece None → IsPrefix file (begun journal blocks to) None
-  piece_front next =
+  pub chunk_prefix : IsPrefix (drop at file) piece None → IsPrefix file (begun journal blocks to) None
+  chunk_prefix next =
       subst (λ (l : List ℕ). IsPrefix file l None) (sym (begun_more journal blocks from to piece is))
-      (front_more file (begun journal blocks from) piece at prefix (is_at ∙ sym (length-begun journal blocks from)) next)
+      (prefix_more file (begun journal blocks from) piece at prefix (is_at ∙ sym (length-begun journal blocks from)) next)
 
   pub sound_differs : (offset : ℕ) → to ≤ blocks → IsPrefix (drop at file) piece (Some offset) → IsPrefix file (wav journal blocks) (Some (at + offset))
   sound_differs offset within differs =
       let b = begins journal blocks to within in
       subst (λ (w : List ℕ). IsPrefix file w (Some (at + offset)))
       (ap (λ (l : List ℕ). l ++ b.more) (sym (begun_more journal blocks from to piece is)) ∙ sym b.is)
-      (front_differs file (begun journal blocks from) piece b.more at offset prefix (is_at ∙ sym (length-begun journal blocks from)) differs)
+      (prefix_differs file (begun journal blocks from) piece b.more at offset prefix (is_at ∙ sym (length-begun journal blocks from)) differs)
 
-pub sound_front : (journal : List LoggedData) (file : List ℕ) (blocks b : ℕ) → b ≡ blocks → IsPrefix file (begun journal blocks b) None → IsPrefix file (wav journal blocks) None
-sound_front journal file blocks b is prefix = subst (λ (l : List ℕ). IsPrefix file l None) (begun_all journal blocks b is) prefix
+pub sound_prefix : (journal : List LoggedData) (file : List ℕ) (blocks b : ℕ) → b ≡ blocks → IsPrefix file (begun journal blocks b) None → IsPrefix file (wav journal blocks) None
+sound_prefix journal file blocks b is prefix = subst (λ (l : List ℕ). IsPrefix file l None) (begun_all journal blocks b is) prefix
 
 -- ---- a file that is written with it
 pub header_begins : (journal : List LoggedData) (blocks : ℕ) (header : List ℕ) → header ≡ wav_header blocks → Begins header (wav journal blocks)

@@ -1,14 +1,14 @@
 use Rattle.std.proofs.Common.{◌+◌, refl, ◌∙◌, ap, arith}
 use Rattle.std.specs.Prelude.{Option}
 use Rattle.outside.specs.Files.{Files, file_of}
-use Rattle.tool_core.proofs.Prefixes.{front_at}
-use Rattle.tool_core.proofs.Sounds.{header_differs, header_front, piece_front, sound_differs, sound_front, chunk_bytes}
+use Rattle.tool_core.proofs.Prefixes.{prefix_at}
+use Rattle.tool_core.proofs.Sounds.{header_differs, header_prefix, chunk_prefix, sound_differs, sound_prefix, chunk_bytes}
 use Rattle.tool_core.proofs.comparison.compare_sound.Goals as goal
 
 pub returns-in-Ok-Some-clause-compared : goal.returns-in-Ok-Some-clause-compared
 returns-in-Ok-Some-clause-compared g c file is =
     header_differs c.args.playback.journal file c.wav_header.result c.args.blocks c.in-Ok-Some.offset c.wav_header.ensures
-    (front_at _ _ _ _ c.in-Ok-Some.field-0-is (c.in-Ok-Some.ensures.compared file is))
+    (prefix_at _ _ _ _ c.in-Ok-Some.field-0-is (c.in-Ok-Some.ensures.compared file is))
 
 pub pieces-init : goal.pieces-init
 pieces-init g c = record {
@@ -19,7 +19,7 @@ pieces-init g c = record {
   journal = refl;
   block = c.requires.at;
   prefix = λ file is.
-      header_front c.args.playback.journal file c.wav_header.result c.args.blocks c.wav_header.ensures (front_at _ _ _ _ c.in-Ok-None.field-0-is (c.in-Ok-None.ensures.compared file is));
+      header_prefix c.args.playback.journal file c.wav_header.result c.args.blocks c.wav_header.ensures (prefix_at _ _ _ _ c.in-Ok-None.field-0-is (c.in-Ok-None.ensures.compared file is));
 }
 
 pub returns-in-Ok-Some-compare_piece-clause-compared : goal.returns-in-Ok-Some-compare_piece-clause-compared
@@ -28,7 +28,7 @@ returns-in-Ok-Some-compare_piece-clause-compared g c file is =
     sound_differs c.args.playback.journal file c.as_slice.result.now c.args.blocks c.pieces.from (c.pieces.from + c.min-count.result) _ refl
     (chunk_bytes c.pieces.playback c.args.playback.journal c.pieces.from c.min-count.result c.as_slice.result.now _ i.journal i.block c.render_piece.ensures.bytes c.as_slice.ensures.value)
     (i.prefix file is) c.in-Ok-Some-compare_piece.offset (omega (arith, c.min-count.ensures, c.pieces-test.true))
-    (front_at _ _ _ _ c.in-Ok-Some-compare_piece.field-0-is (c.in-Ok-Some-compare_piece.ensures.compared file (ap (λ (o : Option Files). file_of o c.args.name.now) i.files ∙ is)))
+    (prefix_at _ _ _ _ c.in-Ok-Some-compare_piece.field-0-is (c.in-Ok-Some-compare_piece.ensures.compared file (ap (λ (o : Option Files). file_of o c.args.name.now) i.files ∙ is)))
 
 pub pieces-preserved : goal.pieces-preserved
 pieces-preserved g c =
@@ -42,12 +42,12 @@ pieces-preserved g c =
       journal = c.render_piece.ensures.journal ∙ i.journal;
       block = c.render_piece.ensures.block ∙ ap (λ n. n + c.min-count.result) i.block;
       prefix = λ file is.
-          piece_front c.args.playback.journal file c.as_slice.result.now c.args.blocks c.pieces.from (c.pieces.from + c.min-count.result) _ refl
+          chunk_prefix c.args.playback.journal file c.as_slice.result.now c.args.blocks c.pieces.from (c.pieces.from + c.min-count.result) _ refl
           (chunk_bytes c.pieces.playback c.args.playback.journal c.pieces.from c.min-count.result c.as_slice.result.now _ i.journal i.block c.render_piece.ensures.bytes c.as_slice.ensures.value)
           (i.prefix file is)
-          (front_at _ _ _ _ c.in-Ok-None-compare_piece.field-0-is (e.compared file (ap (λ (o : Option Files). file_of o c.args.name.now) i.files ∙ is)));
+          (prefix_at _ _ _ _ c.in-Ok-None-compare_piece.field-0-is (e.compared file (ap (λ (o : Option Files). file_of o c.args.name.now) i.files ∙ is)));
     }
 
 pub returns-clause-compared : goal.returns-clause-compared
 returns-clause-compared g c file is =
-    sound_front c.args.playback.journal file c.args.blocks c.pieces.from (omega (arith, c.pieces.invariant.within, c.pieces-test.false)) (c.pieces.invariant.prefix file is)
+    sound_prefix c.args.playback.journal file c.args.blocks c.pieces.from (omega (arith, c.pieces.invariant.within, c.pieces-test.false)) (c.pieces.invariant.prefix file is)
