@@ -1,7 +1,7 @@
 use Rattle.std.proofs.Common.{◌+◌, [], ◌++◌, refl, ◌∙◌, ap, arith}
 use Rattle.outside.proofs.Shelves.{handed_on}
 use Rattle.take_files.specs.Playback.{PlaybackView}
-use Rattle.tool_core.proofs.Sounds.{header_begins, piece_begins, header_begun, piece_begun, sound_written, chunk_bytes}
+use Rattle.tool_core.proofs.Sounds.{header_begins, chunk_begins, header_begun, chunk_begun, sound_written, chunk_bytes}
 use Rattle.tool_core.proofs.Writings.{begun_at_piece, piece_written, has_created, has_written}
 use Rattle.tool_core.proofs.replay.write_sound.Goals as goal
 
@@ -30,7 +30,7 @@ chunks-init g c = record {
 pub returns-in-Err-append_all-2-clause-begun : goal.returns-in-Err-append_all-2-clause-begun
 returns-in-Err-append_all-2-clause-begun g c =
     let i = c.chunks.invariant in
-    let b = piece_begins c.args.playback.journal c.args.blocks c.chunks.from (c.chunks.from + c.min-count.result) c.as_slice.result.now (omega (arith, c.min-count.ensures, c.chunks-test.true))
+    let b = chunk_begins c.args.playback.journal c.args.blocks c.chunks.from (c.chunks.from + c.min-count.result) c.as_slice.result.now (omega (arith, c.min-count.ensures, c.chunks-test.true))
     (chunk_bytes c.chunks.playback c.args.playback.journal c.chunks.from c.min-count.result c.as_slice.result.now _ i.journal i.block c.render_chunk.ensures.bytes c.as_slice.ensures.value) in
     begun_at_piece _ _ _ c.args.name.now _ c.as_slice.result.now b.more _ i.files b.is c.in-Err-append_all-2.ensures.some
 
@@ -44,7 +44,7 @@ chunks-preserved g c =
       block = ap (λ (p : PlaybackView). p.block) c.render_chunk.ensures.played ∙ ap (λ n. n + c.min-count.result) i.block;
       files =
           piece_written _ _ _ c.args.name.now _ c.as_slice.result.now i.files e.all
-          ∙ piece_begun c.args.playback.journal c.args.blocks c.chunks.from (c.chunks.from + c.min-count.result) c.as_slice.result.now
+          ∙ chunk_begun c.args.playback.journal c.args.blocks c.chunks.from (c.chunks.from + c.min-count.result) c.as_slice.result.now
           (chunk_bytes c.chunks.playback c.args.playback.journal c.chunks.from c.min-count.result c.as_slice.result.now _ i.journal i.block c.render_chunk.ensures.bytes c.as_slice.ensures.value)
           c.args.name.now _;
       has = has_written _ _ c.args.name.now _ (piece_written _ _ _ c.args.name.now _ c.as_slice.result.now i.files e.all);
