@@ -69,7 +69,7 @@ impl Editor {
         })
     }
 
-    /// Sets a number of the voice, 0 to 154. It allocates nothing. Setting the value that a number has is an act too.
+    /// Sets a parameter of the voice, 0 to 154. It allocates nothing. Setting the value that a parameter has is an act too.
     pub fn set(&mut self, number: u8, value: u8) -> Result<Command, EditFault>
         requires { number ≤ 154 }
         ensures taken { IsOk result ↔ (value ≤ greatest_value number) }

@@ -26,7 +26,7 @@ const NAME: usize = 10;
 /// A request to the editor.
 #[derive(Drop)]
 pub(crate) enum EditRequest {
-    /// A number of the voice, 0 to 154, set to a value, which may be above its greatest.
+    /// A parameter of the voice, 0 to 154, set to a value, which may be above its greatest.
     Set { number: u8, value: u32 },
     /// The last act taken back.
     Undo,

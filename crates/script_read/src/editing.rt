@@ -164,7 +164,7 @@ fn answer(
     }
 }
 
-/// Sets a number of the voice to a value, which may be above its greatest.
+/// Sets a parameter of the voice to a value, which may be above its greatest.
 #[tactic(auto, unfolding(crate::specs::Edits::answered))]
 fn set(editor: &mut Editor, number: u8, value: u32, line: u32) -> Result<Command, ScriptFault>
     requires { number ≤ 154 }
