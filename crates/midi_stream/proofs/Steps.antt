@@ -106,7 +106,7 @@ between_data kept parts b lt h =
     let k : kept_with Between kept b ≡ kept = rw e in
     record {
       closed = closed_data parts b h.closed;
-      text = subst (λ (o : Option (List ℕ)). IfSome o (λ text. length text ≤ 5000 → kept_with Between kept b ≡ text)) (sym (end_extended parts b)) (subst (λ (l : List ℕ). IfSome (sysex_at_end parts) (λ text. length text ≤ 5000 → l ≡ text)) (sym k) h.text);
+      bytes = subst (λ (o : Option (List ℕ)). IfSome o (λ bytes. length bytes ≤ 5000 → kept_with Between kept b ≡ bytes)) (sym (end_extended parts b)) (subst (λ (l : List ℕ). IfSome (sysex_at_end parts) (λ bytes. length bytes ≤ 5000 → l ≡ bytes)) (sym k) h.bytes);
     }
 
 between_same : (parts : List Segment) (b : ℕ) → (parts ≡ []) ⊎ (240 < (last_segment parts).status) → messages_of (extended parts b) ≡ messages_of parts
@@ -185,7 +185,7 @@ begun_sysex state kept parts b e = subst (λ (n : ℕ). IsSysEx 1 (kept_with sta
 pub begun_other : (kept : List ℕ) (parts : List Segment) (b : ℕ) → 240 < b → EndsNone parts b → IsBetween kept (with_status parts b)
 begun_other kept parts b high h = record {
   closed = inr (rw (last_status parts b) high);
-  text = subst (λ (o : Option (List ℕ)). IfSome o (λ text. length text ≤ 5000 → kept ≡ text)) (sym (end_status parts b ∙ none_ended (last_segment parts) b h)) tt;
+  bytes = subst (λ (o : Option (List ℕ)). IfSome o (λ bytes. length bytes ≤ 5000 → kept ≡ bytes)) (sym (end_status parts b ∙ none_ended (last_segment parts) b h)) tt;
 }
 
 some_ended : (segment : Segment) → segment.status ≡ 240 → ended_by segment (begun 247) ≡ Some (240 ∷ segment.data_bytes ++ 247 ∷ [])
@@ -199,7 +199,7 @@ pub stands_end : (count : ℕ) (kept : List ℕ) (parts : List Segment) (b : ℕ
 stands_end count kept parts b e h = subst (λ (n : ℕ). IsBetween (kept_with (InSysEx count) kept n) (with_status parts n)) (sym e)
     (record {
       closed = inr (rw (last_status parts 247) (lit< tt));
-      text = subst (λ (o : Option (List ℕ)). IfSome o (λ text. length text ≤ 5000 → kept_with (InSysEx count) kept 247 ≡ text)) (sym (end_status parts 247 ∙ some_ended (last_segment parts) h.status)) (kept_whole kept (last_segment parts).data_bytes h.first);
+      bytes = subst (λ (o : Option (List ℕ)). IfSome o (λ bytes. length bytes ≤ 5000 → kept_with (InSysEx count) kept 247 ≡ bytes)) (sym (end_status parts 247 ∙ some_ended (last_segment parts) h.status)) (kept_whole kept (last_segment parts).data_bytes h.first);
     })
 
 sysex_at : (segment : Segment) → segment.status ≡ 240 → segment_messages segment 247 ≡ sysex_message (length segment.data_bytes + 2) ∷ []
@@ -221,8 +221,8 @@ outside_none (Running status) kept parts b n h = λ e f. absurd (let s = h.chann
 outside_none (Half status first) kept parts b n h = λ e f. absurd (let s = h.channel.same in let l = h.channel.high in omega arith)
 outside_none (InSysEx count) kept parts b n h = absurd (n count refl)
 
-pub text_at_end : (count : ℕ) (kept : List ℕ) (parts : List Segment) (b : ℕ) → b ≡ 247 → IsSysEx count kept (last_segment parts) → sysex_at_end (with_status parts b) ≡ Some (240 ∷ (last_segment parts).data_bytes ++ 247 ∷ [])
-text_at_end count kept parts b e h = end_status parts b ∙ ap (λ (n : ℕ). ended_by (last_segment parts) (begun n)) e ∙ some_ended (last_segment parts) h.status
+pub bytes_at_end : (count : ℕ) (kept : List ℕ) (parts : List Segment) (b : ℕ) → b ≡ 247 → IsSysEx count kept (last_segment parts) → sysex_at_end (with_status parts b) ≡ Some (240 ∷ (last_segment parts).data_bytes ++ 247 ∷ [])
+bytes_at_end count kept parts b e h = end_status parts b ∙ ap (λ (n : ℕ). ended_by (last_segment parts) (begun n)) e ∙ some_ended (last_segment parts) h.status
 
 pub length_at_end : (count more : ℕ) (kept : List ℕ) (segment : Segment) → IsSysEx count kept segment → more ≡ min (count + 1) (2 ^ 32 - 1) → more ≡ min (length (240 ∷ segment.data_bytes ++ 247 ∷ [])) (2 ^ 32 - 1)
 length_at_end count more kept segment h e =

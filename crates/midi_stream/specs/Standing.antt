@@ -12,7 +12,7 @@ use Rattle.midi_stream.specs.Messages.{has_one_data_byte, unused_data, sysex_at_
 -- no message has begun: the last segment is of a system status, if there is one
 pub record IsBetween (kept : List ℕ) (parts : List Segment) : Type 0 where
   pub closed : (parts ≡ []) ⊎ (240 < (last_segment parts).status)
-  pub text : IfSome (sysex_at_end parts) (λ text. length text ≤ 5000 → kept ≡ text)
+  pub bytes : IfSome (sysex_at_end parts) (λ bytes. length bytes ≤ 5000 → kept ≡ bytes)
 
 -- the last segment is of this channel status
 pub record IsChannel (status : ℕ) (segment : Segment) : Type 0 where
@@ -79,5 +79,5 @@ HasBytes (Control channel number value) kept = Unit {0}
 HasBytes (Program channel number) kept = Unit {0}
 HasBytes (ChannelPressure channel value) kept = Unit {0}
 HasBytes (Bend channel value) kept = Unit {0}
-HasBytes (SysEx count) kept = IsSomeAnd kept (λ text. length text ≡ count)
-HasBytes (SysExTooLong count) kept = IsSomeAnd kept (λ text. min (length text) (2 ^ 32 - 1) ≡ count)
+HasBytes (SysEx count) kept = IsSomeAnd kept (λ bytes. length bytes ≡ count)
+HasBytes (SysExTooLong count) kept = IsSomeAnd kept (λ bytes. min (length bytes) (2 ^ 32 - 1) ≡ count)

@@ -59,7 +59,7 @@ impl MidiReader {
     /// The bytes of the SysEx message that the last status byte ended, from `F0` to `F7`, if
     /// they are at most 5000.
     pub fn sysex(&self) -> &[u8]
-        ensures text { (stream : List ℕ) → Reads self.now stream → IfSome (last_sysex stream) (λ text. length text ≤ 5000 → result.now ≡ text) }
+        ensures bytes { (stream : List ℕ) → Reads self.now stream → IfSome (last_sysex stream) (λ bytes. length bytes ≤ 5000 → result.now ≡ bytes) }
         ensures bound { length result.now ≤ 5000 }
     {
         self.kept.as_slice()

@@ -29,7 +29,7 @@ pub struct Ended {
 /// What a message of a stream tells of a SysEx message that began at an offset.
 pub fn ending_of(message: Option<MidiMessage>, offset: u32) -> Option<Ended>
     requires { IfSome message InRange }
-    ensures { (text : Option (List ℕ)) → IfSome message (λ m. HasBytes m text) → TellsOf result (placed message offset text) }
+    ensures { (kept : Option (List ℕ)) → IfSome message (λ m. HasBytes m kept) → TellsOf result (placed message offset kept) }
 {
     match message {
         Some(MidiMessage::SysEx { .. }) => Some(Ended {
@@ -88,9 +88,9 @@ impl Scanner {
     }
 
     /// The bytes of the message that ended with the last byte, where it isn't too long.
-    pub fn text(&self) -> &[u8]
-        ensures text { (file : List ℕ) (offset : ℕ) (sysex : SysExMessage) → Follows self.now file (offset + 1)
-            → sysex_at file offset ≡ Some sysex → is_too_long sysex ≡ false → result.now ≡ sysex.text }
+    pub fn message(&self) -> &[u8]
+        ensures bytes { (file : List ℕ) (offset : ℕ) (sysex : SysExMessage) → Follows self.now file (offset + 1)
+            → sysex_at file offset ≡ Some sysex → is_too_long sysex ≡ false → result.now ≡ sysex.bytes }
         ensures bound { length result.now ≤ 5000 }
     {
         self.reader.sysex()
@@ -150,16 +150,16 @@ fn scan_byte(
         → IsScan scan.old (sysex_before file offset) → IsScan scan.new (sysex_before file (offset + 1))) }
 {
     match scanner.feed(offset, byte) {
-        Some(ended) => scan_message(alloc, scan, ended, scanner.text()),
+        Some(ended) => scan_message(alloc, scan, ended, scanner.message()),
         None => Ok(()),
     }
 }
 
 /// Scans a message that has ended.
-fn scan_message(alloc: Global, scan: &mut Scan, ended: Ended, text: &[u8]) -> Result<(), AllocError>
-    requires { length text.now ≤ 5000 }
+fn scan_message(alloc: Global, scan: &mut Scan, ended: Ended, message: &[u8]) -> Result<(), AllocError>
+    requires { length message.now ≤ 5000 }
     ensures { OnOk result ((messages : List SysExMessage) (sysex : SysExMessage) → TellsOf (Some ended) (Some sysex)
-        → (is_too_long sysex ≡ false → text.now ≡ sysex.text)
+        → (is_too_long sysex ≡ false → message.now ≡ sysex.bytes)
         → IsScan scan.old messages → IsScan scan.new (messages ++ sysex ∷ [])) }
 {
     if ended.is_too_long {
@@ -170,7 +170,7 @@ fn scan_message(alloc: Global, scan: &mut Scan, ended: Ended, text: &[u8]) -> Re
         scan.long = scan.long.or(Some(refusal));
         return Ok(());
     }
-    match read_frame(text) {
+    match read_frame(message) {
         Ok(frame) => scan_frame(alloc, scan, frame),
         Err(fault) => {
             scan.bad = scan.bad.or(refusal_of(ended.offset, fault));

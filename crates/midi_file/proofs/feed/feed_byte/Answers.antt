@@ -14,11 +14,11 @@ returns-in-Some-clause-come g c =
     on_ok_more c.apply_message.result c.apply_message.ensures.come
     (λ is stream reads. is ∙ ap (λ (hs : List TrackOutcome). all_come c.args.acts.now.items ++ hs)
     (message_is_ended c.in-Some.message stream c.args.byte c.sysex.result.now c.args.at.tick c.args.at.place
-    (c.in-Some.ensures.answer stream reads) c.in-Some.ensures.range (c.in-Some.ensures.bytes stream reads) (c.sysex.ensures.text _ (c.in-Some.ensures.stands stream reads))))
+    (c.in-Some.ensures.answer stream reads) c.in-Some.ensures.range (c.in-Some.ensures.bytes stream reads) (c.sysex.ensures.bytes _ (c.in-Some.ensures.stands stream reads))))
 
 pub returns-in-Some-clause-faults : goal.returns-in-Some-clause-faults
 returns-in-Some-clause-faults g c =
     if_err_more c.apply_message.result c.apply_message.ensures.faults
     (λ why fault stream reads. subst (λ (hs : List TrackOutcome). Faults why (all_come c.args.acts.now.items ++ hs))
     (message_is_ended c.in-Some.message stream c.args.byte c.sysex.result.now c.args.at.tick c.args.at.place
-    (c.in-Some.ensures.answer stream reads) c.in-Some.ensures.range (c.in-Some.ensures.bytes stream reads) (c.sysex.ensures.text _ (c.in-Some.ensures.stands stream reads))) fault)
+    (c.in-Some.ensures.answer stream reads) c.in-Some.ensures.range (c.in-Some.ensures.bytes stream reads) (c.sysex.ensures.bytes _ (c.in-Some.ensures.stands stream reads))) fault)

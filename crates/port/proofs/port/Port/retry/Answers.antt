@@ -16,7 +16,7 @@ pub returns-in-Some-Message-clause-received : goal.returns-in-Some-Message-claus
 returns-in-Some-Message-clause-received g c = λ done stream u.
     kept_message_told c.args.self.now.reader _ c.args.self.now.kept c.handle.new.kept done stream c.sysex.result.now _ _ _ c.args.end.now c.handle.new.end c.handle.result u
     c.in-Some-Message.ensures.value c.in-Some-Message.field-0-is c.into_message.ensures.message c.into_message.ensures.range
-    (c.sysex.ensures.text stream u.reads) c.handle.ensures.settles c.handle.ensures.message
+    (c.sysex.ensures.bytes stream u.reads) c.handle.ensures.settles c.handle.ensures.message
 
 pub returns-in-None-clause-ranges : goal.returns-in-None-clause-ranges
 returns-in-None-clause-ranges g c = sends_same _ _ refl
