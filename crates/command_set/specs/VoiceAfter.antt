@@ -4,7 +4,7 @@ use Rattle.command_set.specs.Command.{CommandData, StartsNote, EndsNote, Bends, 
 use Rattle.command_set.specs.Command.{LoadsVoice, LoadsCartridge}
 
 -- The voice after a command that sets a parameter of it or replaces it whole. Number 155 is the operator switch, which is no parameter of the voice.
--- Of the other commands only a program changes the voice, and it takes it from the cartridge.
+-- Of the other commands only a program changes the voice, and it copies it from the cartridge.
 abbrev pub voice_after : List ℕ → CommandData → List ℕ
 voice_after voice (StartsNote channel key velocity) = voice
 voice_after voice (EndsNote channel key) = voice

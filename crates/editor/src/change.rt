@@ -31,7 +31,7 @@ pub enum Change {
 // A change of a parameter is kept in few bytes, whatever the depth.
 const _: () = prove!(size_of::<Change>() <= 16);
 
-// Sets a parameter, and gives the setting that takes it back.
+// Sets a parameter, and gives the setting that undoes it.
 fn set(voice: &mut Voice, setting: Setting) -> Setting
     ensures voice { voice.new ≡ slice_set voice.old setting.number setting.value }
     ensures value { slice_index voice.new setting.number ≡ setting.value }
@@ -66,7 +66,7 @@ impl Change {
         }
     }
 
-    /// Makes the change, and gives the one that takes it back.
+    /// Makes the change, and gives the one that undoes it.
     pub(crate) fn make(self, voice: &mut Voice) -> Change
         ensures voice { voice.new ≡ other_voice voice.old self }
         ensures back { other_voice voice.new result ≡ voice.old }

@@ -21,7 +21,7 @@ channel_grown status segment b h = record { same = h.same; low = h.low; high = h
 channel_status : (status : ℕ) (segment : Segment) → IsChannel status segment → 128 ≤ segment.status
 channel_status status segment h = let e = h.same in let l = h.low in omega arith
 
--- a data byte of a channel status that takes one
+-- a data byte of a channel status that has one
 pub running_one : (status : ℕ) (parts : List Segment) (b : ℕ) → has_one_data_byte status ≡ true → IsChannel status (last_segment parts) → IsRunning status (last_segment (extended parts b))
 running_one status parts b t h =
     subst (IsRunning status) (sym (last_extended parts b (channel_status _ _ h)))

@@ -39,7 +39,7 @@ impl Editing {
     ghost use Rattle.script_read.specs.EditReading.{HasEditOrder, IsEditing};
     ghost use Rattle.script_outcome.specs.Reading.{Stops};
 
-    /// Before the line after the first, with the opening voice. It takes the memory that an editor needs.
+    /// Before the line after the first, with the opening voice. It asks for the memory that an editor needs.
     pub(crate) fn new(alloc: Global) -> Result<Editing, AllocError>
         ensures after { IfOk result (λ p. (blocks : Option ℕ) → IsEditing p blocks []) }
         ensures order { IfOk result (λ p. (room : ℕ) → HasEditOrder p room) }

@@ -1,4 +1,4 @@
--- The words that the program takes.
+-- The words that the program understands.
 use Rattle.std.specs.Prelude.{ℕ, ◌<◌, ◌≤◌, ◌-◌, ◌*◌, ◌^◌, List, [], ◌∷◌, map, string_bytes, Option, None, Some, option_map, Bool}
 use Rattle.std.specs.Prelude.{not, ◌&&◌, nat_lt, nat_le, length, bytes_eq, codes, if◌then◌else◌}
 use Rattle.std.specs.List.{list_all}

@@ -55,7 +55,7 @@ pub fn put_check<O: Out>(out: &mut O, scanner: Scanner, file: &[u8]) -> u8
     }
 }
 
-/// Takes the byte at an offset, and puts the line of the message that ends with it; answers how many ended.
+/// Reads the byte at an offset, and puts the line of the message that ends with it; answers how many ended.
 fn put_byte<O: Out>(
     out: &mut O,
     page: &mut Page,

@@ -64,7 +64,7 @@ impl Scanner {
     ghost use Rattle.tool_core.specs.SysEx.{SysExMessage, sysex_at, is_too_long};
     ghost use Rattle.tool_core.specs.Scans.{Follows, TellsOf};
 
-    /// A scanner that is to begin. It takes all the memory that it needs.
+    /// A scanner that is to begin. It asks for all the memory that it needs.
     pub fn new(alloc: Global) -> Result<Scanner, AllocError>
         ensures { IfOk result (λ scanner. (file : List ℕ) → Follows scanner file 0) }
     {
@@ -74,7 +74,7 @@ impl Scanner {
         })
     }
 
-    /// Takes the byte at an offset, and tells of the SysEx message that ends with it.
+    /// Reads the byte at an offset, and tells of the SysEx message that ends with it.
     pub fn feed(&mut self, offset: u32, byte: u8) -> Option<Ended>
         ensures follows { (file : List ℕ) → offset < length file → slice_index file offset ≡ byte → Follows self.old file offset
             → Follows self.new file (offset + 1) }
@@ -197,7 +197,7 @@ pub fn refusal_of(offset: u32, fault: FrameFault) -> Option<Refusal>
     }
 }
 
-/// Takes a good message.
+/// Scans a good message.
 fn scan_frame(alloc: Global, scan: &mut Scan, frame: Frame<'_>) -> Result<(), AllocError>
     requires { HasSizes (content_of frame) }
     ensures bad { scan.new.bad ≡ scan.old.bad }
