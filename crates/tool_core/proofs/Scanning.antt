@@ -1,24 +1,20 @@
 -- One more message of a scan.
-use Rattle.std.proofs.Common.{◌≡◌, ℕ, ◌+◌, ◌<◌, ◌%◌, append-nil, List, [], ◌∷◌, ◌++◌, length, get_or, min, refl, sym, ◌∙◌, ap, subst, arith}
+use Rattle.std.proofs.Common.{◌≡◌, ℕ, ◌+◌, append-nil, List, [], ◌∷◌, ◌++◌, refl, sym, ◌∙◌, ap, subst}
 use Rattle.std.specs.Prelude.{Option, Some, None, true, false, option_map, option_to_list, Result, Ok, Err, OnOk}
 use Rattle.std.specs.Option.{option_or}
-use Rattle.std.proofs.lemmas.List.{ext_get_or}
-use Rattle.std.proofs.lemmas.List.FromFn.{length-map-range_with_len, get_or-map-range_with_len}
-use Rattle.voice_record.specs.Voice.{greatest_value, IsClamped}
-use Rattle.cartridge.specs.Cartridge.{voice_at, voices_of, unpacked, slot_bytes, UnpacksAll}
-use Rattle.voice_record.proofs.Packed.{unpacks_unique}
-use Rattle.voice_record.specs.Packing.{Unpacks, bits_of}
+use Rattle.cartridge.specs.Cartridge.{voices_of}
 use Rattle.sysex_frame.specs.Frame.{Content, VoiceDump, CartridgeDump, ParamChange, OtherChange, DumpRequest, IsFrame}
 use Rattle.sysex_frame.specs.FrameFault.{first_fault}
 use Rattle.sysex_frame.specs.declared.frame.FrameFault.{FrameFault}
 use Rattle.sysex_frame.proofs.Laws.{complete}
+use Rattle.command_set.specs.Message.{clamped_voice}
 use Rattle.tool_core.specs.declared.scan.Scan.{Scan}
 use Rattle.tool_core.specs.declared.refusal.Refusal.{Refusal}
 use Rattle.tool_core.specs.declared.refusal.Refusal.TheVariants.{TooLong}
 use Rattle.tool_core.specs.declared.scan.Ended.{Ended}
 use Rattle.tool_core.specs.Scans.{TellsOf}
 use Rattle.tool_core.specs.SysEx.{SysExMessage, is_too_long, sysex_at, sysex_before}
-use Rattle.tool_core.specs.Refusals.{first_some, message_refusal, long_refusal, message_voice, message_cartridge, clamped_voice, content, fault_at, voice_bytes, cartridge_bytes}
+use Rattle.tool_core.specs.Refusals.{first_some, message_refusal, long_refusal, message_voice, message_cartridge, content, fault_at, voice_bytes, cartridge_bytes}
 use Rattle.tool_core.specs.Scans.{HasSizes, IsScan}
 use Rattle.tool_core.proofs.Streams.{sysex_next}
 
@@ -46,20 +42,6 @@ scans_more old now messages e was bad long voice cartridge = record {
   cartridge = cartridge ∙ ap (λ o. option_or o (message_cartridge e)) was.cartridge ∙ sym (first_more message_cartridge messages e);
 }
 
--- what a voice message holds, as a list
-clamped_at : (bytes : List ℕ) (k : ℕ) → k < 155 → get_or (clamped_voice bytes) k 0 ≡ min (get_or bytes k 0 % 128) (greatest_value k)
-unfolding clamped_voice
-clamped_at bytes k l = get_or-map-range_with_len (λ number. min (get_or bytes number 0 % 128) (greatest_value number)) 0 155 k k 0 l (omega arith)
-
-clamped_count : (bytes : List ℕ) → length (clamped_voice bytes) ≡ 155
-unfolding clamped_voice
-clamped_count bytes = length-map-range_with_len (λ number. min (get_or bytes number 0 % 128) (greatest_value number)) 0 155
-
-pub clamped_is : (bytes fields : List ℕ) → IsClamped bytes fields → fields ≡ clamped_voice bytes
-clamped_is bytes fields c =
-    ext_get_or 0 fields (clamped_voice bytes) (c.count ∙ sym (clamped_count bytes))
-    (λ k l. let below : k < 155 = rw c.count at l in c.clamped k below ∙ sym (clamped_at bytes k below))
-
 pub content_of_frame : (message : List ℕ) (held : Content) → IsFrame message held → content message ≡ Some held
 unfolding content
 content_of_frame message held is = let whole = complete message held is in rw (whole.0, whole.1) refl
@@ -77,29 +59,6 @@ sizes message (CartridgeDump device payload) is = is.size
 sizes message (ParamChange device number value) is = tt
 sizes message (OtherChange device group number) is = tt
 sizes message (DumpRequest device) is = tt
-
--- the 32 voices of a payload
-voices_count : (payload : List ℕ) → length (voices_of payload) ≡ 32
-unfolding voices_of
-voices_count payload = length-map-range_with_len (λ slot. unpacked (slot_bytes payload slot)) 0 32
-
-voices_at : (payload : List ℕ) (slot : ℕ) → slot < 32 → voice_at (voices_of payload) slot ≡ unpacked (slot_bytes payload slot)
-unfolding voices_of
-voices_at payload slot l = get_or-map-range_with_len (λ k. unpacked (slot_bytes payload k)) 0 32 slot slot [] l (omega arith)
-
-unpacked_unpacks : (bytes : List ℕ) → Unpacks bytes (unpacked bytes)
-unfolding unpacked
-unpacked_unpacks bytes = record {
-  count = length-map-range_with_len (λ field. min (greatest_value field) (bits_of bytes field)) 0 155;
-  rows = λ field l. get_or-map-range_with_len (λ k. min (greatest_value k) (bits_of bytes k)) 0 155 field field 0 l (omega arith);
-}
-
-pub voices_known : (payload : List ℕ) (voices : List (List ℕ)) → UnpacksAll payload voices → voices ≡ voices_of payload
-voices_known payload voices u =
-    ext_get_or [] voices (voices_of payload) (u.count ∙ sym (voices_count payload))
-    (λ k l. let below : k < 32 = rw u.count at l in
-    unpacks_unique (slot_bytes payload k) (voice_at voices k) (unpacked (slot_bytes payload k)) (u.slots k below) (unpacked_unpacks (slot_bytes payload k))
-    ∙ sym (voices_at payload k below))
 
 -- what a message gives a scan
 pub record Gives (e : SysExMessage) (bad long : Option Refusal) (voice : Option (List ℕ)) (cartridge : Option (List (List ℕ))) : Type 0 where

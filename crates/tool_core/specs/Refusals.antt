@@ -1,14 +1,13 @@
 -- Why a file is refused.
-use Rattle.std.specs.Prelude.{ℕ, ◌%◌, min, Bool, true, false, List, [], ◌∷◌, length, map, slice_index, Option, Some, None}
+use Rattle.std.specs.Prelude.{ℕ, Bool, true, false, List, [], ◌∷◌, length, Option, Some, None}
 use Rattle.std.specs.Prelude.{is_none, option_map, option_and_then, if◌then◌else◌}
-use Rattle.std.specs.List.{range_with_len}
 use Rattle.std.specs.Option.{option_or}
 use Rattle.midi_stream.specs.Messages.{is_unfinished}
-use Rattle.voice_record.specs.Voice.{greatest_value}
 use Rattle.cartridge.specs.Cartridge.{voices_of}
 use Rattle.sysex_frame.specs.Frame.{Content, VoiceDump, CartridgeDump, ParamChange, OtherChange, DumpRequest}
 use Rattle.sysex_frame.specs.FrameFault.{first_fault}
 use Rattle.sysex_frame.specs.Reading.{reading}
+use Rattle.command_set.specs.Message.{clamped_voice}
 use Rattle.sysex_frame.specs.declared.frame.FrameFault.{FrameFault}
 use Rattle.sysex_frame.specs.declared.frame.FrameFault.TheVariants.{NotFramed, NotYamaha, DataByte, Short, UnknownSubstatus}
 use Rattle.sysex_frame.specs.declared.frame.FrameFault.TheVariants.{UnknownFormat, CountBytes, Length, Checksum, ParamValue}
@@ -66,10 +65,6 @@ cartridge_bytes (CartridgeDump device payload) = Some payload
 cartridge_bytes (ParamChange device number value) = None
 cartridge_bytes (OtherChange device group number) = None
 cartridge_bytes (DumpRequest device) = None
-
--- each number of a voice is the lesser of its byte modulo 128 and its greatest value
-unfoldable pub clamped_voice : List ℕ → List ℕ
-clamped_voice bytes = map (λ number. min (slice_index bytes number % 128) (greatest_value number)) (range_with_len 0 155)
 
 abbrev pub message_content : SysExMessage → Option Content
 message_content sysex = if is_too_long sysex then None else content sysex.bytes

@@ -8,9 +8,10 @@ ghost use Rattle.midi_stream.specs.Ranges.{InRange};
 ghost use Rattle.midi_stream.specs.Standing.{HasBytes};
 ghost use Rattle.cartridge.specs.Cartridge.{voices_of};
 ghost use Rattle.sysex_frame.specs.Frame.{content_of};
+ghost use Rattle.command_set.specs.Message.{clamped_voice};
 ghost use Rattle.tool_core.specs.SysEx.{SysExMessage, sysex_messages, sysex_before, is_too_long, placed};
 ghost use Rattle.tool_core.specs.Scans.{Follows, HasSizes, IsScan, TellsOf};
-ghost use Rattle.tool_core.specs.Refusals.{cartridge_bytes, clamped_voice, fault_at, voice_bytes};
+ghost use Rattle.tool_core.specs.Refusals.{cartridge_bytes, fault_at, voice_bytes};
 
 use crate::refusal::Refusal;
 use cartridge::Cartridge;
