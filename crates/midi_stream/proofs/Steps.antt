@@ -11,7 +11,7 @@ use Rattle.midi_stream.specs.Growth.{grown, extended, begun, with_status}
 use Rattle.midi_stream.specs.Messages.{message_of_one, message_of_two, has_one_data_byte, by_twos, after_twos, channel_messages, unused_data, sysex_message, segment_messages, messages_of, ended_by, sysex_at_end}
 use Rattle.midi_stream.specs.declared.step.Step.{Step}
 use Rattle.midi_stream.specs.Steps.{Advances}
-use Rattle.midi_stream.specs.Standing.{Answers, HasBytes, IsBetween, IsChannel, IsBegun, IsRunning, IsHalf, IsSysEx, EndsNone, StandsAt, kept_with}
+use Rattle.midi_stream.specs.Standing.{Answers, HasBytes, IsBetween, IsChannel, IsBareStatus, IsRunning, IsHalf, IsSysEx, EndsNone, StandsAt, kept_with}
 use Rattle.midi_stream.proofs.Ends.{last_status, same_status, last_extended, end_extended, end_status, answer_data, answer_status}
 use Rattle.midi_stream.proofs.Groups.{first_of_two, second_of_two, one_more, not_empty, channel_segment}
 
@@ -36,7 +36,7 @@ twos status bytes t = rw t
 unused_two : (status : ℕ) (bytes : List ℕ) → has_one_data_byte status ≡ false → unused_data status bytes ≡ after_twos bytes
 unused_two status bytes t = rw t
 
-pub unused_begun : (status : ℕ) (parts : List Segment) → has_one_data_byte status ≡ false → IsBegun status (last_segment parts) → unused_data status (last_segment parts).data_bytes ≡ []
+pub unused_begun : (status : ℕ) (parts : List Segment) → has_one_data_byte status ≡ false → IsBareStatus status (last_segment parts) → unused_data status (last_segment parts).data_bytes ≡ []
 unused_begun status parts t h = unused_two status (last_segment parts).data_bytes t ∙ ap after_twos h.none
 
 -- what a channel segment gives where one more data byte comes
@@ -175,8 +175,8 @@ answer_none parts b h = answer_status parts b None (same_next (last_segment part
 none_ended : (segment : Segment) (b : ℕ) → (segment.status ≡ 240 → b ≢ 247) → ended_by segment (begun b) ≡ None
 none_ended segment b h = rw (not_ended segment b h)
 
-pub begun_channel : (parts : List Segment) (b : ℕ) → 128 ≤ b → b < 240 → IsBegun b (last_segment (with_status parts b))
-begun_channel parts b low high = subst (IsBegun b) (sym (last_status parts b)) (record { channel = record { same = refl; low = low; high = high }; none = refl })
+pub begun_channel : (parts : List Segment) (b : ℕ) → 128 ≤ b → b < 240 → IsBareStatus b (last_segment (with_status parts b))
+begun_channel parts b low high = subst (IsBareStatus b) (sym (last_status parts b)) (record { channel = record { same = refl; low = low; high = high }; none = refl })
 
 pub begun_sysex : (state : ParserState) (kept : List ℕ) (parts : List Segment) (b : ℕ) → b ≡ 240 → IsSysEx 1 (kept_with state kept b) (last_segment (with_status parts b))
 begun_sysex state kept parts b e = subst (λ (n : ℕ). IsSysEx 1 (kept_with state kept n) (last_segment (with_status parts n))) (sym e)

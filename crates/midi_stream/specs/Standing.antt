@@ -21,7 +21,7 @@ pub record IsChannel (status : ℕ) (segment : Segment) : Type 0 where
   pub high : status < 240
 
 -- the last segment is a channel status that has no data byte
-pub record IsBegun (status : ℕ) (segment : Segment) : Type 0 where
+pub record IsBareStatus (status : ℕ) (segment : Segment) : Type 0 where
   pub channel : IsChannel status segment
   pub none : segment.data_bytes ≡ []
 
@@ -49,7 +49,7 @@ EndsNone parts status = (last_segment parts).status ≡ 240 → status ≢ 247
 
 abbrev pub StandsAt : ParserState → List ℕ → List Segment → Type 0
 StandsAt Between kept parts = IsBetween kept parts
-StandsAt (Begun status) kept parts = IsBegun status (last_segment parts)
+StandsAt (Begun status) kept parts = IsBareStatus status (last_segment parts)
 StandsAt (Running status) kept parts = IsRunning status (last_segment parts)
 StandsAt (Half status first) kept parts = IsHalf status first (last_segment parts)
 StandsAt (InSysEx count) kept parts = IsSysEx count kept (last_segment parts)
