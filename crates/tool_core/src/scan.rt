@@ -157,7 +157,12 @@ fn scan_byte(
 }
 
 /// Scans a message that has ended.
-fn scan_message(alloc: Global, scan: &mut Scan, ended: Ended, message: &[u8]) -> Result<(), AllocError>
+fn scan_message(
+    alloc: Global,
+    scan: &mut Scan,
+    ended: Ended,
+    message: &[u8],
+) -> Result<(), AllocError>
     requires { length message.now ≤ 5000 }
     ensures { OnOk result ((messages : List SysExMessage) (sysex : SysExMessage) → TellsOf (Some ended) (Some sysex)
         → (is_too_long sysex ≡ false → message.now ≡ sysex.bytes)
