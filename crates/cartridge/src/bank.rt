@@ -105,7 +105,7 @@ impl Cartridge {
         self.put(b, &first);
     }
 
-    /// Takes the voice of a slot of another cartridge into one of its own, 0 to 31.
+    /// Copies the voice of a slot of another cartridge into one of its own, 0 to 31.
     pub fn copy_from(&mut self, other: &Cartridge, from: u8, to: u8)
         requires from { from ≤ 31 }
         requires to { to ≤ 31 }
@@ -115,7 +115,7 @@ impl Cartridge {
         self.put(to, &other.slot(from));
     }
 
-    /// Takes all voices of another cartridge.
+    /// Copies all voices of another cartridge.
     pub fn assign(&mut self, other: &Cartridge)
         ensures voices { self.new ≡ other.now }
         ensures cartridge { IsCartridge self.new }

@@ -26,7 +26,7 @@ HasNoSpace word = HasNo 32 word
 number_whole : (n : ℕ) → n < 2 ^ 32 → HasNoSpace (decimal n)
 number_whole n l = decimal_whole 32 n (omega arith) l
 
--- a voice's numbers are bytes
+-- a voice's parameters are bytes
 pub voice_bytes : (voice : List ℕ) → IsVoice voice → IsBytes voice
 voice_bytes voice v i =
     elim (cases_lt i 155) [

@@ -32,7 +32,7 @@ content (Cartridge boxed) = LoadsCartridge boxed.value
 abbrev pub IsKnownControl : ℕ → Type 0
 IsKnownControl number = (number ≡ 1) ⊎ ((number ≡ 64) ⊎ (number ≡ 123))
 
--- sixteen channels, 128 keys, velocities from 1, bends of 14 bits, numbers of a voice at most their greatest, 32 slots
+-- sixteen channels, 128 keys, velocities from 1, bends of 14 bits, parameters at most their greatest value, 32 slots
 abbrev pub IsInRange : CommandData → Type 0
 IsInRange (StartsNote channel key velocity) = (channel ≤ 15) × (key ≤ 127) × (1 ≤ velocity) × (velocity ≤ 127)
 IsInRange (EndsNote channel key) = (channel ≤ 15) × (key ≤ 127)

@@ -29,7 +29,7 @@ pub data Told : Type 0 where
 abbrev pub acts : ℕ → Bool
 acts number = number == 1 || (number == 64 || number == 123)
 
--- each number of a voice is the lesser of its byte modulo 128 and its greatest value
+-- each parameter of a voice is the lesser of its byte modulo 128 and its greatest value
 unfoldable pub clamped_voice : List ℕ → List ℕ
 clamped_voice bytes = map (λ number. min (slice_index bytes number % 128) (greatest_value number)) (range_with_len 0 155)
 
@@ -41,7 +41,7 @@ told_by (ParamChange device number value) = Tells (SetsNumber number value)
 told_by (OtherChange device group number) = PassedOver
 told_by (DumpRequest device) = PassedOver
 
--- what holds of the parts of a message that was read: its bytes are as many as its kind has, and a value is one that its number can have
+-- what holds of the parts of a message that was read: its bytes are as many as its kind has, and a value is one that its parameter can have
 abbrev pub IsSound : Content → Type 0
 IsSound (VoiceDump device payload) = length payload ≡ 155
 IsSound (CartridgeDump device payload) = length payload ≡ 4096

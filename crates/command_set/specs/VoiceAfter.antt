@@ -3,8 +3,8 @@ use Rattle.std.specs.Prelude.{ℕ, ◌≡◌, ◌==◌, if◌then◌else◌, Lis
 use Rattle.command_set.specs.Command.{CommandData, StartsNote, EndsNote, Bends, Controls, PicksProgram, SetsNumber, StoresVoice}
 use Rattle.command_set.specs.Command.{LoadsVoice, LoadsCartridge}
 
--- The voice after a command that sets a number of it or replaces it whole. Number 155 is the operator switch, which is no number of the voice.
--- Of the other commands only a program changes the voice, and it takes it from the cartridge.
+-- The voice after a command that sets a parameter of it or replaces it whole. Number 155 is the operator switch, which is no parameter of the voice.
+-- Of the other commands only a program changes the voice, and it copies it from the cartridge.
 abbrev pub voice_after : List ℕ → CommandData → List ℕ
 voice_after voice (StartsNote channel key velocity) = voice
 voice_after voice (EndsNote channel key) = voice
@@ -16,7 +16,7 @@ voice_after voice (StoresVoice slot) = voice
 voice_after voice (LoadsVoice other) = other
 voice_after voice (LoadsCartridge voices) = voice
 
--- the commands that edit: those that set a number, or take another voice
+-- the commands that edit: those that set a parameter, or load another voice
 abbrev pub IsEdit : CommandData → Type 0
 IsEdit (StartsNote channel key velocity) = ⊥
 IsEdit (EndsNote channel key) = ⊥

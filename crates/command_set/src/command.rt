@@ -20,7 +20,7 @@ pub enum Command {
     Control { channel: u8, number: u8, value: u8 },
     /// The voice of a slot of the cartridge, the number modulo 32.
     Program { channel: u8, number: u8 },
-    /// A number of the voice, 0 to 154, or the operator switch, 155, by the DX7's parameter change.
+    /// A parameter of the voice, 0 to 154, or the operator switch, 155, by the DX7's parameter change.
     Param { number: u8, value: u8 },
     /// The voice goes into a slot of the cartridge, 0 to 31.
     Store { slot: u8 },

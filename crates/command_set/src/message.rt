@@ -167,7 +167,7 @@ fn cartridge(alloc: Global, payload: &[u8]) -> Result<Option<Command>, CommandFa
     }
 }
 
-/// The command that takes a cartridge.
+/// The command that loads a cartridge.
 fn boxed(alloc: Global, cartridge: Cartridge) -> Result<Option<Command>, CommandFault>
     requires { IsCartridge cartridge }
     ensures command { IfOk result (λ found. option_map content found ≡ Some (LoadsCartridge cartridge)) }

@@ -29,7 +29,7 @@ impl Command {
     ghost use Rattle.command_set.specs.declared.read.TextFault.TheVariants.{Memory, NotCommand};
 
     /// The command that the text is the text of. `NotCommand` comes exactly where it is the text of no
-    /// command in range, and takes no memory.
+    /// command in range, and asks for no memory.
     pub fn read_text(alloc: Global, text: &[u8]) -> Result<Command, TextFault>
         requires { length text.now ≤ 536870912 }
         ensures text { IfOk result (λ c. text_of (content c) ≡ text.now) }

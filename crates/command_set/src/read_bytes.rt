@@ -1,4 +1,4 @@
-//! Voices and cartridges, read from their hex words. Memory is taken only for a word that is right.
+//! Voices and cartridges, read from their hex words. Memory is asked for only where a word is right.
 
 ghost use Rattle.std.specs.Prelude.{List, ℕ, ◌≡◌, ◌≢◌, ◌≤◌, ◌↔◌, [], ◌∷◌, codes, false, length, IfOk, IsTrue};
 ghost use Rattle.hex.specs.Hex.{IsBytes, encode_lower};

@@ -2,7 +2,7 @@
 use Rattle.std.specs.Prelude.{ℕ, ◌≡◌, List, [], ◌∷◌, take, slice_index, Option, Some, None, option_map}
 use Rattle.command_set.specs.Command.{CommandData, SetsNumber, LoadsVoice}
 
--- what an act changes: one number of the voice, or the whole voice
+-- what an act changes: one parameter, or the whole voice
 pub data Kind : Type 0 where
   OneNumber : ℕ → Kind
   WholeVoice : Kind
@@ -35,7 +35,7 @@ acted h kind voice = record {
   future = [];
 }
 
--- the command that makes the voice what it has become: the number that was changed, or the whole voice
+-- the command that makes the voice what it has become: the parameter that was changed, or the whole voice
 abbrev pub answer : Kind → List ℕ → CommandData
 answer (OneNumber number) voice = SetsNumber number (slice_index voice number)
 answer WholeVoice voice = LoadsVoice voice

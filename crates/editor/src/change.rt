@@ -9,29 +9,29 @@ use std::alloc::{AllocError, Global};
 use std::mem;
 use voice_record::Voice;
 
-/// A value of a number of a voice.
+/// A value of a parameter.
 #[derive(Clone, Copy)]
 pub struct Setting {
-    /// The number, 0 to 154.
+    /// The number of the parameter, 0 to 154.
     pub number: u8,
-    /// The value, at most the number's greatest.
+    /// The value, at most the parameter's greatest.
     pub value: u8,
     ghost within: { (number ≤ 154) × (value ≤ greatest_value number) },
 }
 
-/// A change of a voice: of one number, or of all at once.
+/// A change of a voice: of one parameter, or of all at once.
 #[derive(Drop)]
 pub enum Change {
-    /// One number gets a value.
+    /// One parameter gets a value.
     Number(Setting),
     /// Another voice takes its place.
     Whole(Box<Voice>),
 }
 
-// A change of a number is kept in few bytes, whatever the depth.
+// A change of a parameter is kept in few bytes, whatever the depth.
 const _: () = prove!(size_of::<Change>() <= 16);
 
-// Sets a number, and gives the setting that takes it back.
+// Sets a parameter, and gives the setting that undoes it.
 fn set(voice: &mut Voice, setting: Setting) -> Setting
     ensures voice { voice.new ≡ slice_set voice.old setting.number setting.value }
     ensures value { slice_index voice.new setting.number ≡ setting.value }
@@ -66,7 +66,7 @@ impl Change {
         }
     }
 
-    /// Makes the change, and gives the one that takes it back.
+    /// Makes the change, and gives the one that undoes it.
     pub(crate) fn make(self, voice: &mut Voice) -> Change
         ensures voice { voice.new ≡ other_voice voice.old self }
         ensures back { other_voice voice.new result ≡ voice.old }

@@ -69,10 +69,10 @@ impl Editor {
         })
     }
 
-    /// Sets a number of the voice, 0 to 154. It allocates nothing. Setting the value that a number has is an act too.
+    /// Sets a parameter of the voice, 0 to 154. It allocates nothing. Setting the value that a parameter has is an act too.
     pub fn set(&mut self, number: u8, value: u8) -> Result<Command, EditFault>
         requires { number ≤ 154 }
-        ensures taken { IsOk result ↔ (value ≤ greatest_value number) }
+        ensures accepted { IsOk result ↔ (value ≤ greatest_value number) }
         ensures acted { OnOk result (self.new ≡ acted self.old (OneNumber number) (slice_set self.old.voice number value)) }
         ensures command { IfOk result (λ command. content command ≡ SetsNumber number value) }
         ensures follows { IfOk result (λ command. Turns self.old.voice (content command) self.new.voice) }
@@ -104,7 +104,7 @@ impl Editor {
         Ok(self.replace(alloc, &other)?)
     }
 
-    /// Takes another voice.
+    /// Loads another voice.
     pub fn load(&mut self, alloc: Global, voice: &Voice) -> Result<Command, EditFault>
         ensures acted { OnOk result (self.new ≡ acted self.old WholeVoice voice.now) }
         ensures command { IfOk result (λ command. content command ≡ LoadsVoice voice.now) }
@@ -131,7 +131,7 @@ impl Editor {
         Ok(command)
     }
 
-    /// Takes the latest act back that is still kept. Memory is wanted where the answer is a whole voice.
+    /// Undoes the latest act that is still kept. Memory is wanted where the answer is a whole voice.
     pub fn undo(&mut self, alloc: Global) -> Result<Command, EditFault>
         ensures undone { IfOk result (λ command. undone self.old ≡ Some (self.new, content command)) }
         ensures follows { IfOk result (λ command. Turns self.old.voice (content command) self.new.voice) }
@@ -146,7 +146,7 @@ impl Editor {
         }
     }
 
-    /// Does the act again that was taken back last. Memory is wanted where the answer is a whole voice.
+    /// Does the act again that was undone last. Memory is wanted where the answer is a whole voice.
     pub fn redo(&mut self, alloc: Global) -> Result<Command, EditFault>
         ensures redone { IfOk result (λ command. redone self.old ≡ Some (self.new, content command)) }
         ensures follows { IfOk result (λ command. Turns self.old.voice (content command) self.new.voice) }

@@ -16,7 +16,7 @@ use voice_record::Voice;
 /// Changes, the latest first.
 pub type Changes = HeapCircularBuffer<Change>;
 
-/// Keeps the change that takes an act back, and forgets what could be redone.
+/// Keeps the change that undoes an act, and forgets what could be redone.
 pub(crate) fn keep(past: &mut Changes, future: &mut Changes, change: Change)
     ensures past { past.new ≡ buffer (take past.old.capacity (change ∷ past.old.items)) past.old.capacity }
     ensures future { future.new ≡ buffer [] future.old.capacity }
@@ -25,7 +25,7 @@ pub(crate) fn keep(past: &mut Changes, future: &mut Changes, change: Change)
     future.clear();
 }
 
-/// Makes the latest change of one ring and keeps the one that takes it back in the other, which has room.
+/// Makes the latest change of one ring and keeps the one that undoes it in the other, which has room.
 /// `None`: there is no change.
 pub(crate) fn turn(
     alloc: Global,

@@ -166,7 +166,7 @@ fn draw_call(state: &mut u64) -> Call {
     }
 }
 
-/// What a voice becomes that takes only the answered commands.
+/// What a voice becomes that is given only the answered commands.
 fn follow(voice: Voice, answer: &Answer) -> Voice {
     let mut voice = voice;
     match answer {

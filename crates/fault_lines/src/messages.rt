@@ -1,4 +1,4 @@
-//! Each line of a fault, put whole or as far as the output took it.
+//! Each line of a fault, put whole or as far as the output accepted it.
 
 ghost use Rattle.fault_lines.specs.Lines.{Says, cannot_read, cannot_write, limit_commands, limit_file, out_of_memory};
 

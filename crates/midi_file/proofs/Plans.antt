@@ -14,10 +14,10 @@ use Rattle.midi_file.specs.Track.{ActData, Sets, Plays, TimedData, timed_at}
 use Rattle.midi_file.specs.Chunks.{division_of, file_outcomes}
 use Rattle.midi_file.specs.Time.{Change, block_of, changes_in, change_at, first_tempo, time_between, time_of}
 use Rattle.midi_file.specs.File.{IsInTime, act_outcomes, acts_in, first_fault, in_order, midi_outcomes, ordered_outcomes, timed_outcomes, timed_plan, unless_refused}
-use Rattle.midi_file.specs.Values.{Faults, all_come}
+use Rattle.midi_file.specs.Reading.{Faults, all_come}
 use Rattle.midi_file.specs.declared.time.Clock.{Clock}
 use Rattle.script_outcome.proofs.Plans.{fails, stops_more}
-use Rattle.midi_file.proofs.Times.{IsBehindTick, changes_after, time_on, no_time, time_changed}
+use Rattle.midi_file.proofs.Times.{IsAfterTick, changes_after, time_on, no_time, time_changed}
 
 -- ---- blocks
 
@@ -63,7 +63,7 @@ outcomes_first blocks division changes e later = refl
 pub next_time : (clock : Clock) (blocks : Option ℕ) (division : ℕ) (changes : List Change) (e : TimedData) (later : List TimedData) (given : List PlannedData) (all : List Outcome)
     → IsPlanned clock blocks division changes (e ∷ later) given all → time_of changes e.tick ≡ clock.time + (e.tick - clock.tick) * clock.tempo
 next_time clock blocks division changes e later given all p =
-    let after : IsBehindTick e.tick (changes_in (e ∷ later)) = changes_after e.tick (e ∷ later) (omega arith, p.order.1) in
+    let after : IsAfterTick e.tick (changes_in (e ∷ later)) = changes_after e.tick (e ∷ later) (omega arith, p.order.1) in
     p.times e.tick p.order.0
     ∙ ap (λ (n : ℕ). clock.time + n) (time_on clock.tempo clock.tick e.tick e.tick (changes_in (e ∷ later)) p.order.0 (omega arith) after
     ∙ ap (λ (n : ℕ). (e.tick - clock.tick) * clock.tempo + n) (no_time clock.tempo e.tick (changes_in (e ∷ later)) after) ∙ (omega arith))

@@ -6,20 +6,20 @@ use Rattle.midi_file.specs.Time.{Change, change_at, changes_in, time_between}
 use Rattle.midi_file.specs.File.{IsInTime}
 
 -- the first change is at a tick or later
-abbrev pub IsBehindTick : ℕ → List Change → Type 0
-IsBehindTick tick [] = Unit {0}
-IsBehindTick tick (change ∷ later) = tick ≤ change.tick
+abbrev pub IsAfterTick : ℕ → List Change → Type 0
+IsAfterTick tick [] = Unit {0}
+IsAfterTick tick (change ∷ later) = tick ≤ change.tick
 
-lower : (tick low : ℕ) (changes : List Change) → low ≤ tick → IsBehindTick tick changes → IsBehindTick low changes
+lower : (tick low : ℕ) (changes : List Change) → low ≤ tick → IsAfterTick tick changes → IsAfterTick low changes
 lower tick low [] le is = tt
 lower tick low (change ∷ later) le is = omega arith
 
-by_act : (tick : ℕ) (e : TimedData) (a : ActData) (later : List Change) → tick ≤ e.tick → IsBehindTick e.tick later → IsBehindTick tick (change_at e.tick a ++ later)
+by_act : (tick : ℕ) (e : TimedData) (a : ActData) (later : List Change) → tick ≤ e.tick → IsAfterTick e.tick later → IsAfterTick tick (change_at e.tick a ++ later)
 by_act tick e (Sets tempo) later le is = le
 by_act tick e (Plays command) later le is = lower e.tick tick later le is
 
 -- the changes among acts in order are in order
-pub changes_after : (tick : ℕ) (events : List TimedData) → IsInTime tick events → IsBehindTick tick (changes_in events)
+pub changes_after : (tick : ℕ) (events : List TimedData) → IsInTime tick events → IsAfterTick tick (changes_in events)
 unfolding changes_in
 changes_after tick [] time = tt
 changes_after tick (e ∷ later) time = by_act tick e e.act (changes_in later) time.0 (changes_after e.tick later time.1)
@@ -31,7 +31,7 @@ two_parts tempo from mid to a b =
     ap (λ (n : ℕ). n * tempo) parts ∙ add-mul (mid - from) (to - mid) tempo
 
 -- the time to a later tick, by a tick between
-pub time_on : (tempo from mid to : ℕ) (changes : List Change) → from ≤ mid → mid ≤ to → IsBehindTick mid changes
+pub time_on : (tempo from mid to : ℕ) (changes : List Change) → from ≤ mid → mid ≤ to → IsAfterTick mid changes
     → time_between tempo from changes to ≡ (mid - from) * tempo + time_between tempo mid changes to
 unfolding time_between
 time_on tempo from mid to [] a b is = two_parts tempo from mid to a b
@@ -50,7 +50,7 @@ no_stretch tempo tick =
     ap (λ (n : ℕ). n * tempo) none ∙ zero-mul tempo
 
 -- no time passes at a tick
-pub no_time : (tempo tick : ℕ) (changes : List Change) → IsBehindTick tick changes → time_between tempo tick changes tick ≡ 0
+pub no_time : (tempo tick : ℕ) (changes : List Change) → IsAfterTick tick changes → time_between tempo tick changes tick ≡ 0
 unfolding time_between
 no_time tempo tick [] is = no_stretch tempo tick
 no_time tempo tick (change ∷ later) is = by_test (nat_le tick change.tick) refl
@@ -60,7 +60,7 @@ no_time tempo tick (change ∷ later) is = by_test (nat_le tick change.tick) ref
     by_test false e = let above : change.tick < tick = leb-false tick change.tick e in absurd (omega arith)
 
 -- the time from a change on
-pub time_changed : (tempo tempo' from to : ℕ) (later : List Change) → from ≤ to → IsBehindTick from later
+pub time_changed : (tempo tempo' from to : ℕ) (later : List Change) → from ≤ to → IsAfterTick from later
     → time_between tempo from (record { tick = from; tempo = tempo' } ∷ later) to ≡ time_between tempo' from later to
 unfolding time_between
 time_changed tempo tempo' from to later le is = by_test (nat_le to from) refl

@@ -10,7 +10,7 @@ use Rattle.script_outcome.specs.declared.fault.ScriptFault.{ScriptFault}
 use Rattle.script_outcome.specs.declared.fault.ScriptFault.TheVariants as faults
 use Rattle.midi_file.specs.Event.{EventData, EventRead, Event, Broken, event_at}
 use Rattle.midi_file.specs.Track.{Found, TimedData, TrackOutcome, Breaks, event_outcomes, ends_track, events_outcomes, events_in, fed_by, found_at, track_outcomes}
-use Rattle.midi_file.specs.Values.{Faults, all_come}
+use Rattle.midi_file.specs.Reading.{Faults, all_come}
 use Rattle.midi_file.proofs.EndedMessages.{fault_here, faults_more}
 
 -- the reader of a track stands before these bytes of it, which end at a place; what acts before it and in it is this

@@ -1,4 +1,4 @@
--- Parts of a MIDI file at the front of bytes.
+-- Parts of a MIDI file at the beginning of bytes.
 use Rattle.std.specs.Prelude.{ℕ, zero, suc, ◌+◌, ◌-◌, ◌*◌, nat_lt, List, [], ◌∷◌, drop, length, take, if◌then◌else◌}
 use Rattle.byteorder.specs.Endian.{big_number}
 use Rattle.script_outcome.specs.declared.fault.ScriptKind.{ScriptKind}

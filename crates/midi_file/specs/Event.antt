@@ -1,4 +1,4 @@
--- An event of a track at the front of bytes.
+-- An event of a track at the beginning of bytes.
 use Rattle.std.specs.Prelude.{ℕ, ◌==◌, ◌&&◌, nat_lt, List, [], ◌∷◌, ◌++◌, length, if◌then◌else◌}
 use Rattle.byteorder.specs.Endian.{big_number}
 use Rattle.midi_stream.specs.declared.message.MidiMessage.{MidiMessage}
@@ -53,7 +53,7 @@ channel_event delta status bytes =
 
 -- a system exclusive event with the byte that comes before its own: it ends the running status
 unfoldable pub exclusive_event : ℕ → List ℕ → List ℕ → EventRead
-exclusive_event delta front bytes = after (λ fed rest. Event (event_of delta (Feeds (front ++ fed)) 0 rest)) (counted_bytes bytes)
+exclusive_event delta prefix bytes = after (λ fed rest. Event (event_of delta (Feeds (prefix ++ fed)) 0 rest)) (counted_bytes bytes)
 
 -- what a meta event does, by its type and its bytes
 abbrev pub meta_kind : ℕ → List ℕ → KindData

@@ -1,18 +1,14 @@
 -- What the values of the code say of a MIDI file.
-use Rattle.std.specs.Prelude.{◌≡◌, List, [], ◌∷◌, ◌++◌, map}
+use Rattle.std.specs.Prelude.{◌∷◌}
 use Rattle.midi_stream.specs.Ranges.{InRange}
 use Rattle.command_set.specs.Command.{IsInRange, content}
-use Rattle.script_outcome.specs.declared.fault.ScriptFault.{ScriptFault}
-use Rattle.script_outcome.specs.declared.fault.ScriptFault.TheVariants as faults
 use Rattle.midi_file.specs.declared.event.EventKind.{EventKind}
 use Rattle.midi_file.specs.declared.event.EventKind.TheVariants as kind
 use Rattle.midi_file.specs.declared.event.MidiEvent.{MidiEvent}
 use Rattle.midi_file.specs.declared.timed.Act.{Act}
 use Rattle.midi_file.specs.declared.timed.Act.TheVariants as act
-use Rattle.script_outcome.specs.Outcomes.{Fails}
 use Rattle.midi_file.specs.Event.{KindData, ChannelMessage, Feeds, SetsTempo, EndsTrack, Nothing, EventData, event_of}
-use Rattle.midi_file.specs.Track.{ActData, Sets, Plays, TimedData, TrackOutcome, Comes}
-use Rattle.midi_file.specs.File.{first_fault}
+use Rattle.midi_file.specs.Track.{ActData, Sets, Plays}
 
 -- what an event does
 abbrev pub kind_data : EventKind → KindData
@@ -44,13 +40,3 @@ act_data (act.Command command) = Plays (content command)
 abbrev pub IsSoundAct : ActData → Type 0
 IsSoundAct (Sets tempo) = Unit {0}
 IsSoundAct (Plays command) = IsInRange command
-
--- acts alone
-abbrev pub all_come : List TimedData → List TrackOutcome
-all_come events = map Comes events
-
--- whatever happens after these, this is the first fault; want of memory says nothing
-abbrev pub Faults : ScriptFault → List TrackOutcome → Type 0
-Faults (faults.Refused at why) outcomes = (more : List TrackOutcome) → first_fault (outcomes ++ more) ≡ Fails at why ∷ []
-Faults faults.TooMany outcomes = ⊥
-Faults faults.Memory outcomes = Unit {0}

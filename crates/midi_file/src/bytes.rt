@@ -1,4 +1,4 @@
-//! Parts of a MIDI file at the front of bytes.
+//! Parts of a MIDI file at the beginning of bytes.
 
 ghost use Rattle.std.specs.Prelude.{◌≡◌, ◌+◌, ◌*◌, ◌^◌, ◌<◌, ◌≤◌, length, IfErr, IfOk};
 ghost use Rattle.midi_file.specs.Bytes.{Got, Lacks, counted_bytes, data_byte, quantity, quantity_after, so_many};

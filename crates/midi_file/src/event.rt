@@ -42,7 +42,7 @@ pub(crate) struct MidiEvent<'a> {
     pub(crate) rest: &'a [u8],
 }
 
-/// Reads the event at the front of bytes, by the running status before it.
+/// Reads the event at the beginning of bytes, by the running status before it.
 #[tactic(auto, unfolding(crate::specs::Event::event_at))]
 pub(crate) fn read_event(running: u8, bytes: &[u8]) -> Result<MidiEvent<'_>, ScriptKind>
     ensures ok { IfOk result (λ e. event_at running bytes.now ≡ Event (event_data e)) }

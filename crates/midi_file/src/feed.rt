@@ -8,7 +8,8 @@ ghost use Rattle.velocity_map.specs.Map.{curve_of};
 ghost use Rattle.command_set.specs.Message.{command_of};
 ghost use Rattle.midi_stream.specs.Ended.{ended_message};
 ghost use Rattle.midi_file.specs.Track.{Comes, event_outcomes, fed_by, bytes_outcomes, ended_outcomes, timed_at, message_outcomes};
-ghost use Rattle.midi_file.specs.Values.{Faults, IsSoundAct, IsSoundKind, act_data, all_come, kind_data};
+ghost use Rattle.midi_file.specs.Reading.{Faults, all_come};
+ghost use Rattle.midi_file.specs.Values.{IsSoundAct, IsSoundKind, act_data, kind_data};
 
 use crate::bytes::refused_at;
 use crate::event::EventKind;

@@ -6,7 +6,7 @@ ghost use Rattle.velocity_map.specs.Map.{curve_of};
 ghost use Rattle.midi_file.specs.Track.{TimedData};
 ghost use Rattle.midi_file.specs.Chunks.{division_of, file_outcomes};
 ghost use Rattle.midi_file.specs.File.{IsInTime, in_order, midi_outcomes, timed_plan};
-ghost use Rattle.midi_file.specs.Values.{Faults, all_come};
+ghost use Rattle.midi_file.specs.Reading.{Faults, all_come};
 ghost use Rattle.script_outcome.specs.Reading.{Settles};
 
 use crate::bytes::refused_at;

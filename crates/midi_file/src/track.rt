@@ -4,7 +4,8 @@ ghost use Rattle.std.specs.Prelude.{ℕ, List, ◌≡◌, ◌≤◌, ◌<◌, �
 ghost use Rattle.velocity_map.specs.declared.curve.Curve.TheVariants.{Linear};
 ghost use Rattle.velocity_map.specs.Map.{curve_of};
 ghost use Rattle.midi_file.specs.Track.{ends_track, track_outcomes};
-ghost use Rattle.midi_file.specs.Values.{Faults, all_come, kind_data};
+ghost use Rattle.midi_file.specs.Reading.{Faults, all_come};
+ghost use Rattle.midi_file.specs.Values.{kind_data};
 
 use crate::bytes::refused_at;
 use crate::event::{EventKind, read_event};

@@ -55,22 +55,22 @@ none_at_end (s ∷ []) h = refl
 none_at_end (s ∷ t ∷ []) h = rw (both_not (nat_eq s.status 240) (nat_eq t.status 247) (ne_eqb t.status 247 h))
 none_at_end (s ∷ t ∷ u ∷ later) h = none_at_end (t ∷ u ∷ later) h
 
-abbrev HasText : List ℕ → List Segment → Type 0
-HasText kept parts = IfSome (sysex_at_end parts) (λ text. length text ≤ 5000 → kept ≡ text)
+abbrev KeepsBytes : List ℕ → List Segment → Type 0
+KeepsBytes kept parts = IfSome (sysex_at_end parts) (λ bytes. length bytes ≤ 5000 → kept ≡ bytes)
 
-no_text : (kept : List ℕ) (parts : List Segment) → (last_segment parts).status ≢ 247 → HasText kept parts
-no_text kept parts h = subst (λ (o : Option (List ℕ)). IfSome o (λ text. length text ≤ 5000 → kept ≡ text)) (sym (none_at_end parts h)) tt
+no_bytes : (kept : List ℕ) (parts : List Segment) → (last_segment parts).status ≢ 247 → KeepsBytes kept parts
+no_bytes kept parts h = subst (λ (o : Option (List ℕ)). IfSome o (λ bytes. length bytes ≤ 5000 → kept ≡ bytes)) (sym (none_at_end parts h)) tt
 
-channel_no_text : (status : ℕ) (kept : List ℕ) (parts : List Segment) → IsChannel status (last_segment parts) → HasText kept parts
-channel_no_text status kept parts h = no_text kept parts (λ e. let s = h.same in let high = h.high in omega arith)
+channel_no_bytes : (status : ℕ) (kept : List ℕ) (parts : List Segment) → IsChannel status (last_segment parts) → KeepsBytes kept parts
+channel_no_bytes status kept parts h = no_bytes kept parts (λ e. let s = h.same in let high = h.high in omega arith)
 
 -- the bytes that are kept are those of the message that ended
-pub text_is : (state : ParserState) (kept : List ℕ) (parts : List Segment) → StandsAt state kept parts → HasText kept parts
-text_is Between kept parts h = h.text
-text_is (Begun status) kept parts h = channel_no_text status kept parts h.channel
-text_is (Running status) kept parts h = channel_no_text status kept parts h.channel
-text_is (Half status first) kept parts h = channel_no_text status kept parts h.channel
-text_is (InSysEx count) kept parts h = no_text kept parts (λ e. let s = h.status in omega arith)
+pub bytes_are : (state : ParserState) (kept : List ℕ) (parts : List Segment) → StandsAt state kept parts → KeepsBytes kept parts
+bytes_are Between kept parts h = h.bytes
+bytes_are (Begun status) kept parts h = channel_no_bytes status kept parts h.channel
+bytes_are (Running status) kept parts h = channel_no_bytes status kept parts h.channel
+bytes_are (Half status first) kept parts h = channel_no_bytes status kept parts h.channel
+bytes_are (InSysEx count) kept parts h = no_bytes kept parts (λ e. let s = h.status in omega arith)
 
 pub kept_all : (xs : List ℕ) (b : ℕ) → length xs < 5000 → take 5000 (xs ++ b ∷ []) ≡ xs ++ b ∷ []
 kept_all xs b lt = take_all 5000 (xs ++ b ∷ []) (omega (arith, length-append xs (b ∷ [])))

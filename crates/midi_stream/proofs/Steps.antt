@@ -11,7 +11,7 @@ use Rattle.midi_stream.specs.Growth.{grown, extended, begun, with_status}
 use Rattle.midi_stream.specs.Messages.{message_of_one, message_of_two, has_one_data_byte, by_twos, after_twos, channel_messages, unused_data, sysex_message, segment_messages, messages_of, ended_by, sysex_at_end}
 use Rattle.midi_stream.specs.declared.step.Step.{Step}
 use Rattle.midi_stream.specs.Steps.{Advances}
-use Rattle.midi_stream.specs.Standing.{Answers, HasBytes, IsBetween, IsChannel, IsBegun, IsRunning, IsHalf, IsSysEx, EndsNone, StandsAt, kept_with}
+use Rattle.midi_stream.specs.Standing.{Answers, HasBytes, IsBetween, IsChannel, IsBareStatus, IsRunning, IsHalf, IsSysEx, EndsNone, StandsAt, kept_with}
 use Rattle.midi_stream.proofs.Ends.{last_status, same_status, last_extended, end_extended, end_status, answer_data, answer_status}
 use Rattle.midi_stream.proofs.Groups.{first_of_two, second_of_two, one_more, not_empty, channel_segment}
 
@@ -21,7 +21,7 @@ channel_grown status segment b h = record { same = h.same; low = h.low; high = h
 channel_status : (status : ℕ) (segment : Segment) → IsChannel status segment → 128 ≤ segment.status
 channel_status status segment h = let e = h.same in let l = h.low in omega arith
 
--- a data byte of a channel status that takes one
+-- a data byte of a channel status that has one
 pub running_one : (status : ℕ) (parts : List Segment) (b : ℕ) → has_one_data_byte status ≡ true → IsChannel status (last_segment parts) → IsRunning status (last_segment (extended parts b))
 running_one status parts b t h =
     subst (IsRunning status) (sym (last_extended parts b (channel_status _ _ h)))
@@ -36,7 +36,7 @@ twos status bytes t = rw t
 unused_two : (status : ℕ) (bytes : List ℕ) → has_one_data_byte status ≡ false → unused_data status bytes ≡ after_twos bytes
 unused_two status bytes t = rw t
 
-pub unused_begun : (status : ℕ) (parts : List Segment) → has_one_data_byte status ≡ false → IsBegun status (last_segment parts) → unused_data status (last_segment parts).data_bytes ≡ []
+pub unused_begun : (status : ℕ) (parts : List Segment) → has_one_data_byte status ≡ false → IsBareStatus status (last_segment parts) → unused_data status (last_segment parts).data_bytes ≡ []
 unused_begun status parts t h = unused_two status (last_segment parts).data_bytes t ∙ ap after_twos h.none
 
 -- what a channel segment gives where one more data byte comes
@@ -106,7 +106,7 @@ between_data kept parts b lt h =
     let k : kept_with Between kept b ≡ kept = rw e in
     record {
       closed = closed_data parts b h.closed;
-      text = subst (λ (o : Option (List ℕ)). IfSome o (λ text. length text ≤ 5000 → kept_with Between kept b ≡ text)) (sym (end_extended parts b)) (subst (λ (l : List ℕ). IfSome (sysex_at_end parts) (λ text. length text ≤ 5000 → l ≡ text)) (sym k) h.text);
+      bytes = subst (λ (o : Option (List ℕ)). IfSome o (λ bytes. length bytes ≤ 5000 → kept_with Between kept b ≡ bytes)) (sym (end_extended parts b)) (subst (λ (l : List ℕ). IfSome (sysex_at_end parts) (λ bytes. length bytes ≤ 5000 → l ≡ bytes)) (sym k) h.bytes);
     }
 
 between_same : (parts : List Segment) (b : ℕ) → (parts ≡ []) ⊎ (240 < (last_segment parts).status) → messages_of (extended parts b) ≡ messages_of parts
@@ -175,8 +175,8 @@ answer_none parts b h = answer_status parts b None (same_next (last_segment part
 none_ended : (segment : Segment) (b : ℕ) → (segment.status ≡ 240 → b ≢ 247) → ended_by segment (begun b) ≡ None
 none_ended segment b h = rw (not_ended segment b h)
 
-pub begun_channel : (parts : List Segment) (b : ℕ) → 128 ≤ b → b < 240 → IsBegun b (last_segment (with_status parts b))
-begun_channel parts b low high = subst (IsBegun b) (sym (last_status parts b)) (record { channel = record { same = refl; low = low; high = high }; none = refl })
+pub begun_channel : (parts : List Segment) (b : ℕ) → 128 ≤ b → b < 240 → IsBareStatus b (last_segment (with_status parts b))
+begun_channel parts b low high = subst (IsBareStatus b) (sym (last_status parts b)) (record { channel = record { same = refl; low = low; high = high }; none = refl })
 
 pub begun_sysex : (state : ParserState) (kept : List ℕ) (parts : List Segment) (b : ℕ) → b ≡ 240 → IsSysEx 1 (kept_with state kept b) (last_segment (with_status parts b))
 begun_sysex state kept parts b e = subst (λ (n : ℕ). IsSysEx 1 (kept_with state kept n) (last_segment (with_status parts n))) (sym e)
@@ -185,7 +185,7 @@ begun_sysex state kept parts b e = subst (λ (n : ℕ). IsSysEx 1 (kept_with sta
 pub begun_other : (kept : List ℕ) (parts : List Segment) (b : ℕ) → 240 < b → EndsNone parts b → IsBetween kept (with_status parts b)
 begun_other kept parts b high h = record {
   closed = inr (rw (last_status parts b) high);
-  text = subst (λ (o : Option (List ℕ)). IfSome o (λ text. length text ≤ 5000 → kept ≡ text)) (sym (end_status parts b ∙ none_ended (last_segment parts) b h)) tt;
+  bytes = subst (λ (o : Option (List ℕ)). IfSome o (λ bytes. length bytes ≤ 5000 → kept ≡ bytes)) (sym (end_status parts b ∙ none_ended (last_segment parts) b h)) tt;
 }
 
 some_ended : (segment : Segment) → segment.status ≡ 240 → ended_by segment (begun 247) ≡ Some (240 ∷ segment.data_bytes ++ 247 ∷ [])
@@ -199,7 +199,7 @@ pub stands_end : (count : ℕ) (kept : List ℕ) (parts : List Segment) (b : ℕ
 stands_end count kept parts b e h = subst (λ (n : ℕ). IsBetween (kept_with (InSysEx count) kept n) (with_status parts n)) (sym e)
     (record {
       closed = inr (rw (last_status parts 247) (lit< tt));
-      text = subst (λ (o : Option (List ℕ)). IfSome o (λ text. length text ≤ 5000 → kept_with (InSysEx count) kept 247 ≡ text)) (sym (end_status parts 247 ∙ some_ended (last_segment parts) h.status)) (kept_whole kept (last_segment parts).data_bytes h.first);
+      bytes = subst (λ (o : Option (List ℕ)). IfSome o (λ bytes. length bytes ≤ 5000 → kept_with (InSysEx count) kept 247 ≡ bytes)) (sym (end_status parts 247 ∙ some_ended (last_segment parts) h.status)) (kept_whole kept (last_segment parts).data_bytes h.first);
     })
 
 sysex_at : (segment : Segment) → segment.status ≡ 240 → segment_messages segment 247 ≡ sysex_message (length segment.data_bytes + 2) ∷ []
@@ -221,8 +221,8 @@ outside_none (Running status) kept parts b n h = λ e f. absurd (let s = h.chann
 outside_none (Half status first) kept parts b n h = λ e f. absurd (let s = h.channel.same in let l = h.channel.high in omega arith)
 outside_none (InSysEx count) kept parts b n h = absurd (n count refl)
 
-pub text_at_end : (count : ℕ) (kept : List ℕ) (parts : List Segment) (b : ℕ) → b ≡ 247 → IsSysEx count kept (last_segment parts) → sysex_at_end (with_status parts b) ≡ Some (240 ∷ (last_segment parts).data_bytes ++ 247 ∷ [])
-text_at_end count kept parts b e h = end_status parts b ∙ ap (λ (n : ℕ). ended_by (last_segment parts) (begun n)) e ∙ some_ended (last_segment parts) h.status
+pub bytes_at_end : (count : ℕ) (kept : List ℕ) (parts : List Segment) (b : ℕ) → b ≡ 247 → IsSysEx count kept (last_segment parts) → sysex_at_end (with_status parts b) ≡ Some (240 ∷ (last_segment parts).data_bytes ++ 247 ∷ [])
+bytes_at_end count kept parts b e h = end_status parts b ∙ ap (λ (n : ℕ). ended_by (last_segment parts) (begun n)) e ∙ some_ended (last_segment parts) h.status
 
 pub length_at_end : (count more : ℕ) (kept : List ℕ) (segment : Segment) → IsSysEx count kept segment → more ≡ min (count + 1) (2 ^ 32 - 1) → more ≡ min (length (240 ∷ segment.data_bytes ++ 247 ∷ [])) (2 ^ 32 - 1)
 length_at_end count more kept segment h e =

@@ -1,4 +1,4 @@
--- For the private functions and the proofs: the segments of a stream where one more byte comes.
+-- For private functions and proofs: the segments of a stream where one more byte comes.
 use Rattle.std.specs.Prelude.{ℕ, List, [], ◌∷◌, ◌++◌, if◌then◌else◌}
 use Rattle.midi_stream.specs.Segments.{Segment, is_data}
 

@@ -13,7 +13,7 @@ pub record Segment : Type 0 where
   pub status : ℕ
   pub data_bytes : List ℕ
 
--- the data bytes at the front
+-- the data bytes at the beginning
 abbrev pub leading_data : List ℕ → List ℕ
 leading_data [] = []
 leading_data (byte ∷ bytes) = if is_data byte then byte ∷ leading_data bytes else []

@@ -12,7 +12,7 @@ use Rattle.midi_stream.specs.Messages.{has_one_data_byte, unused_data, sysex_at_
 -- no message has begun: the last segment is of a system status, if there is one
 pub record IsBetween (kept : List ℕ) (parts : List Segment) : Type 0 where
   pub closed : (parts ≡ []) ⊎ (240 < (last_segment parts).status)
-  pub text : IfSome (sysex_at_end parts) (λ text. length text ≤ 5000 → kept ≡ text)
+  pub bytes : IfSome (sysex_at_end parts) (λ bytes. length bytes ≤ 5000 → kept ≡ bytes)
 
 -- the last segment is of this channel status
 pub record IsChannel (status : ℕ) (segment : Segment) : Type 0 where
@@ -21,7 +21,7 @@ pub record IsChannel (status : ℕ) (segment : Segment) : Type 0 where
   pub high : status < 240
 
 -- the last segment is a channel status that has no data byte
-pub record IsBegun (status : ℕ) (segment : Segment) : Type 0 where
+pub record IsBareStatus (status : ℕ) (segment : Segment) : Type 0 where
   pub channel : IsChannel status segment
   pub none : segment.data_bytes ≡ []
 
@@ -49,7 +49,7 @@ EndsNone parts status = (last_segment parts).status ≡ 240 → status ≢ 247
 
 abbrev pub StandsAt : ParserState → List ℕ → List Segment → Type 0
 StandsAt Between kept parts = IsBetween kept parts
-StandsAt (Begun status) kept parts = IsBegun status (last_segment parts)
+StandsAt (Begun status) kept parts = IsBareStatus status (last_segment parts)
 StandsAt (Running status) kept parts = IsRunning status (last_segment parts)
 StandsAt (Half status first) kept parts = IsHalf status first (last_segment parts)
 StandsAt (InSysEx count) kept parts = IsSysEx count kept (last_segment parts)
@@ -79,5 +79,5 @@ HasBytes (Control channel number value) kept = Unit {0}
 HasBytes (Program channel number) kept = Unit {0}
 HasBytes (ChannelPressure channel value) kept = Unit {0}
 HasBytes (Bend channel value) kept = Unit {0}
-HasBytes (SysEx count) kept = IsSomeAnd kept (λ text. length text ≡ count)
-HasBytes (SysExTooLong count) kept = IsSomeAnd kept (λ text. min (length text) (2 ^ 32 - 1) ≡ count)
+HasBytes (SysEx count) kept = IsSomeAnd kept (λ bytes. length bytes ≡ count)
+HasBytes (SysExTooLong count) kept = IsSomeAnd kept (λ bytes. min (length bytes) (2 ^ 32 - 1) ≡ count)

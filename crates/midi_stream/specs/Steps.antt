@@ -1,4 +1,4 @@
--- For the private functions and the proofs: what a step does.
+-- For private functions and proofs: what a step does.
 use Rattle.std.specs.Prelude.{ℕ, ◌≡◌, true, List, IfSome}
 use Rattle.midi_stream.specs.declared.state.ParserState.{ParserState}
 use Rattle.midi_stream.specs.declared.step.Step.{Step}

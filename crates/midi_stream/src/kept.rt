@@ -9,7 +9,7 @@ use arrayvec::ArrayVec;
 /// How many bytes of a SysEx message are kept.
 const KEPT: usize = 5000;
 
-/// The bytes that are kept. It has its room from the start and takes no memory later.
+/// The bytes that are kept. It has its room from the start and asks for no memory later.
 pub type KeptBytes = ArrayVec<u8, KEPT>;
 
 /// Puts a byte at the end, where there is room left.

@@ -25,7 +25,7 @@ impl MidiReader {
     ghost use Rattle.midi_stream.specs.Reading.{Reads};
     ghost use Rattle.midi_stream.specs.Standing.{Answers, HasBytes};
 
-    /// A reader of a new stream. It takes all the memory that it needs, 5000 bytes in storage that can't grow.
+    /// A reader of a new stream. It asks for all the memory that it needs, 5000 bytes in storage that can't grow.
     ///
     /// The one error is want of memory.
     pub fn new(alloc: Global) -> Result<MidiReader, AllocError>
@@ -37,7 +37,7 @@ impl MidiReader {
         })
     }
 
-    /// Takes the next byte, and answers the message that ends with it.
+    /// Reads the next byte, and answers the message that ends with it.
     pub fn feed(&mut self, byte: u8) -> Option<MidiMessage>
         ensures stands { (stream : List ℕ) → Reads self.old stream → Reads self.new (stream ++ byte ∷ []) }
         ensures answer { (stream : List ℕ) → Reads self.old stream → Answers result (messages stream) (messages (stream ++ byte ∷ [])) }
@@ -59,7 +59,7 @@ impl MidiReader {
     /// The bytes of the SysEx message that the last status byte ended, from `F0` to `F7`, if
     /// they are at most 5000.
     pub fn sysex(&self) -> &[u8]
-        ensures text { (stream : List ℕ) → Reads self.now stream → IfSome (last_sysex stream) (λ text. length text ≤ 5000 → result.now ≡ text) }
+        ensures bytes { (stream : List ℕ) → Reads self.now stream → IfSome (last_sysex stream) (λ bytes. length bytes ≤ 5000 → result.now ≡ bytes) }
         ensures bound { length result.now ≤ 5000 }
     {
         self.kept.as_slice()

@@ -111,7 +111,7 @@ impl<R: Files> Shelf for DiskShelf<'_, R> {
     fn append(&mut self, name: &str, bytes: &[u8]) -> Result<usize, Failed>
         ensures count { IfOk result (λ count. count ≤ length bytes.now) }
         ensures some { IfOk result (λ count. 0 < length bytes.now → 0 < count) }
-        ensures taken { IfOk result (λ count.
+        ensures added { IfOk result (λ count.
             disk_files self.new ≡ option_map (appended name.now (take count bytes.now)) (disk_files self.old)) }
         ensures failed { OnErr result (disk_files self.new ≡ disk_files self.old) }
         ensures lacks { Lacks (disk_files self.old) name.now → IsErr result }
@@ -178,7 +178,7 @@ impl<R: Print> Out for StdOut<'_, R> {
     fn put(&mut self, bytes: &[u8]) -> Result<usize, Failed>
         ensures count { IfOk result (λ count. count ≤ length bytes.now) }
         ensures some { IfOk result (λ count. 0 < length bytes.now → 0 < count) }
-        ensures taken { IfOk result (λ count.
+        ensures added { IfOk result (λ count.
             output_bytes self.new ≡ option_map (said (take count bytes.now)) (output_bytes self.old)) }
         ensures failed { OnErr result (output_bytes self.new ≡ output_bytes self.old) }
         ensures cause { HasCause (output_faults self.old) (output_faults self.new) 0 0 ⊥ result }

@@ -126,7 +126,7 @@ impl<F: Write + Drop> HeldFile<F> {
         self.file = None;
     }
 
-    /// Writes out what is held back, takes another file in its place, and appends to that as `append` does. A
+    /// Writes out what is held back, opens another file in its place, and appends to that as `append` does. A
     /// name for which there is no room is cut to nothing.
     fn replace(&mut self, name: &str, file: F, bytes: &[u8], holds: bool) -> io::Result<usize>
         ensures count { IfOk result (λ count. count ≤ length bytes.now) }
@@ -138,7 +138,7 @@ impl<F: Write + Drop> HeldFile<F> {
         self.append(bytes, holds)
     }
 
-    /// Takes another file, with no bytes held back.
+    /// Opens another file, with no bytes held back.
     fn open(&mut self, name: &str, file: F)
         ensures { (other : List ℕ) → other ≢ name.now → is_file_of self.new other ≡ false }
     {

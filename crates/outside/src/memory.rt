@@ -130,7 +130,7 @@ impl Shelf for MemShelf {
     fn append(&mut self, name: &str, bytes: &[u8]) -> Result<usize, Failed>
         ensures count { IfOk result (λ count. count ≤ length bytes.now) }
         ensures some { IfOk result (λ count. 0 < length bytes.now → 0 < count) }
-        ensures taken { IfOk result (λ count.
+        ensures added { IfOk result (λ count.
             shelf_files self.new ≡ option_map (appended name.now (take count bytes.now)) (shelf_files self.old)) }
         ensures failed { OnErr result (shelf_files self.new ≡ shelf_files self.old) }
         ensures lacks { Lacks (shelf_files self.old) name.now → IsErr result }
@@ -141,7 +141,7 @@ impl Shelf for MemShelf {
         ensures held { (other : List ℕ) → other ≢ name.now → shelf_held self.new other ≤ shelf_held self.old other }
 
         // The call is counted. Where it is listed it fails and its count rises by one; else the count stays at a lacking name,
-        // and rises by one where the call fails at a file that is there. All the bytes are taken.
+        // and rises by one where the call fails at a file that is there. All the bytes are added.
         ensures called { shelf_calls self.new ≡ next_of (shelf_calls self.old) }
         ensures listed { FailsNext (shelf_calls self.old) → IsErr result × (writing_faults self.new ≡ one_more (writing_faults self.old)) }
         ensures unlisted { ¬ FailsNext (shelf_calls self.old)

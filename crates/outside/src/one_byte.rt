@@ -1,8 +1,8 @@
-//! A shelf that takes one byte an append.
+//! A shelf that adds one byte an append.
 
 use crate::shelf::{Failed, Shelf};
 
-/// Serves as the shelf inside does, but takes at most one byte in each append: for tests of what is written in pieces.
+/// Serves as the shelf inside does, but adds at most one byte in each append: for tests of what is written in pieces.
 #[derive(Drop)]
 pub struct OneByteShelf<S> {
     /// The shelf that serves.

@@ -47,12 +47,12 @@ impl Out for MemOut {
     fn put(&mut self, bytes: &[u8]) -> Result<usize, Failed>
         ensures count { IfOk result (λ count. count ≤ length bytes.now) }
         ensures some { IfOk result (λ count. 0 < length bytes.now → 0 < count) }
-        ensures taken { IfOk result (λ count.
+        ensures added { IfOk result (λ count.
             put_bytes self.new ≡ option_map (said (take count bytes.now)) (put_bytes self.old)) }
         ensures failed { OnErr result (put_bytes self.new ≡ put_bytes self.old) }
         ensures cause { HasCause (put_faults self.old) (put_faults self.new) 0 0 ⊥ result }
 
-        // The call is counted. Where it is listed it fails; the count of faults rises by one exactly where it fails. All the bytes are taken.
+        // The call is counted. Where it is listed it fails; the count of faults rises by one exactly where it fails. All the bytes are added.
         ensures called { put_calls self.new ≡ next_of (put_calls self.old) }
         ensures listed { FailsNext (put_calls self.old) → IsErr result }
         ensures by_one { OnErr result (put_faults self.new ≡ one_more (put_faults self.old)) }

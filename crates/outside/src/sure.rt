@@ -88,7 +88,7 @@ impl Shelf for SureShelf {
     fn append(&mut self, _name: &str, bytes: &[u8]) -> Result<usize, Failed>
         ensures count { IfOk result (λ count. count ≤ length bytes.now) }
         ensures some { IfOk result (λ count. 0 < length bytes.now → 0 < count) }
-        ensures taken { IfOk result (λ count.
+        ensures added { IfOk result (λ count.
             sure_files self.new ≡ option_map (appended _name.now (take count bytes.now)) (sure_files self.old)) }
         ensures failed { OnErr result (sure_files self.new ≡ sure_files self.old) }
         ensures lacks { Lacks (sure_files self.old) _name.now → IsErr result }

@@ -3,7 +3,7 @@ use Rattle.std.proofs.Common.{◌≡◌, ◌≢◌, ◌⊎◌, ℕ, zero, suc, �
 use Rattle.std.specs.Prelude.{◌==◌, Option, Some, None, All, option_map, slice_index_or, if◌then◌else◌}
 use Rattle.std.proofs.Math.Seq.{take-length}
 use Rattle.std.proofs.lemmas.List.Elements.{All-nil}
-use Rattle.outside.specs.Files.{IsBegun, Files, SaidSome, appended, said}
+use Rattle.outside.specs.Files.{IsFileBegun, Files, SaidSome, appended, said}
 use Rattle.outside.specs.Faults.{Rose}
 use Rattle.outside.proofs.Shelves.{then_mapped}
 use Rattle.fault_lines.specs.Lines.{Says, cannot_write}
@@ -39,7 +39,7 @@ prefix_longer zero x more = let none : min 0 (length x) ≡ 0 = omega arith in r
 prefix_longer (suc n) [] more = let none : min (suc n) 0 ≡ 0 = omega arith in rw none refl
 prefix_longer (suc n) (b ∷ x) more = let one : min (suc n) (suc (length x)) ≡ suc (min n (length x)) = omega arith in rw one (ap (λ (l : List ℕ). b ∷ l) (prefix_longer n x more))
 
-begun_longer : (before now : Option (List ℕ)) (x more : List ℕ) → IsBegun before now x → IsBegun before now (x ++ more)
+begun_longer : (before now : Option (List ℕ)) (x more : List ℕ) → IsFileBegun before now x → IsFileBegun before now (x ++ more)
 begun_longer before now x more (inl same) = inl same
 begun_longer before now x more (inr (count, is)) = inr (min count (length x), is ∙ ap (λ (l : List ℕ). Some l) (prefix_longer count x more))
 

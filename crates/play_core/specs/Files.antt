@@ -1,7 +1,7 @@
 -- What a run leaves of the two files that it writes.
 use Rattle.std.specs.Prelude.{◌≡◌, ◌≢◌, ◌⊎◌, ℕ, ◌≤◌, List, [], length, Option, Some, option_map, take}
 use Rattle.std.specs.FinMap.{insert}
-use Rattle.outside.specs.Files.{Files, IsBegun, created, file_of}
+use Rattle.outside.specs.Files.{Files, IsFileBegun, created, file_of}
 use Rattle.turns.specs.declared.target.Target.{Target}
 use Rattle.turns.specs.declared.target.Target.TheVariants.{Sound, Order}
 
@@ -11,8 +11,8 @@ with_two out sound name text files = insert (insert files out sound) name text
 
 -- of the two files each is as before or begun, and all others are as before
 pub record AreBegun (before now : Option Files) (out sound name text : List ℕ) : Type 0 where
-  pub out_begun : IsBegun (file_of before out) (file_of now out) sound
-  pub order_begun : IsBegun (file_of before name) (file_of now name) text
+  pub out_begun : IsFileBegun (file_of before out) (file_of now out) sound
+  pub order_begun : IsFileBegun (file_of before name) (file_of now name) text
   pub others : (other : List ℕ) → other ≢ out → other ≢ name → file_of now other ≡ file_of before other
 
 -- The files where a write failed: first the sound file is made, then the order file, then the bytes of the first are appended, then those of

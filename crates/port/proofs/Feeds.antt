@@ -15,7 +15,8 @@ use Rattle.port.specs.declared.fed.PortStop.TheVariants.{All, Full, Memory}
 use Rattle.port.specs.Outcomes.{commands_in, is_passed_over, is_refused}
 use Rattle.port.specs.Feeding.{Handles, all_accepted, stopped}
 use Rattle.port.specs.Keeping.{HasUsed, KeepsAt}
-use Rattle.port.specs.Settling.{FullOnly, OneMore, refusals_after}
+use Rattle.port.specs.Handling.{OneMore}
+use Rattle.port.specs.Stopping.{FullOnly, refusals_after}
 
 commands_in-append : (xs ys : List Told) → commands_in (xs ++ ys) ≡ commands_in xs ++ commands_in ys
 commands_in-append [] ys = refl

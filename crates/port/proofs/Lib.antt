@@ -1,4 +1,4 @@
-pub mod Settled
+pub mod Handled
 pub mod Receiving
 pub mod Feeds
 pub mod Sending

@@ -22,7 +22,7 @@ use Rattle.midi_stream.proofs.Ended.{ended_is}
 use Rattle.port.specs.Outcomes.{exclusive_of, listed, ended_after, ended_messages, told_by, outcomes}
 use Rattle.port.specs.Feeding.{Handles}
 use Rattle.port.specs.Keeping.{HasUsed, IsLast, KeepsLast, told_kept}
-use Rattle.port.specs.Settling.{Settles, KeepsThis, KeepsNoMessage}
+use Rattle.port.specs.Handling.{IsDoneOrKept, KeepsThis, KeepsNoMessage}
 
 -- the message of an answer, with these bytes
 abbrev one_ended : List ℕ → Option MidiMessage → List EndedMessage
@@ -103,7 +103,7 @@ none_last (Some (kept.Message held)) stream k = absurd k
 received_by :
     (reader : MidiReader) (curve : Curve) (keeps : Option Kept) (done : List Told) (stream sysex : List ℕ) (t : Told) (old new : SendView) (fed : Fed)
     → Reads reader stream → map (λ h. h.message) (ended_messages stream) ≡ messages stream
-    → outcomes curve stream ≡ done ++ t ∷ [] → Settles curve sysex t keeps old new fed
+    → outcomes curve stream ≡ done ++ t ∷ [] → IsDoneOrKept curve sysex t keeps old new fed
     → told_kept curve sysex keeps ≡ told_kept curve (exclusive_of stream) keeps → KeepsLast keeps stream
     → (now : List Told) × (HasUsed reader curve keeps (done ++ now) stream × Handles now old new fed)
 received_by reader curve keeps done stream sysex t old new fed r ms e s same l = (
@@ -125,7 +125,7 @@ pub byte_told :
     → HasUsed was curve None done stream → Reads reader (stream ++ byte ∷ [])
     → Answers (Some m) (messages stream) (messages (stream ++ byte ∷ [])) → InRange m → HasBytes m (last_sysex (stream ++ byte ∷ []))
     → IfSome (last_sysex (stream ++ byte ∷ [])) (λ bytes. length bytes ≤ 5000 → sysex ≡ bytes)
-    → Settles curve sysex (command_of m sysex curve) keeps old new fed → KeepsThis keeps m
+    → IsDoneOrKept curve sysex (command_of m sysex curve) keeps old new fed → KeepsThis keeps m
     → (now : List Told) × (HasUsed reader curve keeps (done ++ now) (stream ++ byte ∷ []) × Handles now old new fed)
 byte_told was reader curve keeps done stream sysex byte m old new fed u r a range has text s k =
     let same = told_same m (last_sysex (stream ++ byte ∷ [])) sysex curve range has text in
@@ -155,7 +155,7 @@ with_used now old new fed used h = record { end_is = h.end_is; sent_is = h.sent_
 pub kept_command_told :
     (reader : MidiReader) (curve : Curve) (was keeps : Option Kept) (done : List Told) (stream : List ℕ) (held : Kept) (waiting command : CommandData) (old new : SendView) (fed : Fed)
     → HasUsed reader curve was done stream → Some held ≡ was → held ≡ kept.Command waiting → command ≡ waiting
-    → ((c : Curve) (bytes : List ℕ) → Settles c bytes (Tells command) keeps old new fed) → KeepsNoMessage keeps
+    → ((c : Curve) (bytes : List ℕ) → IsDoneOrKept c bytes (Tells command) keeps old new fed) → KeepsNoMessage keeps
     → (now : List Told) × (HasUsed reader curve keeps (done ++ now) stream × Handles now old new fed)
 kept_command_told reader curve was keeps done stream held waiting command old new fed u w h e s k =
     let is : was ≡ Some (kept.Command command) = sym w ∙ ap (λ (x : Kept). Some x) (h ∙ ap (λ (d : CommandData). kept.Command d) (sym e)) in
@@ -167,7 +167,7 @@ pub kept_message_told :
     (reader : MidiReader) (curve : Curve) (was keeps : Option Kept) (done : List Told) (stream sysex : List ℕ) (held : Kept) (ended m : MidiMessage) (old new : SendView) (fed : Fed)
     → HasUsed reader curve was done stream → Some held ≡ was → held ≡ kept.Message ended → m ≡ ended → InRange m
     → IfSome (last_sysex stream) (λ bytes. length bytes ≤ 5000 → sysex ≡ bytes)
-    → Settles curve sysex (command_of m sysex curve) keeps old new fed → KeepsThis keeps m
+    → IsDoneOrKept curve sysex (command_of m sysex curve) keeps old new fed → KeepsThis keeps m
     → (now : List Told) × (HasUsed reader curve keeps (done ++ now) stream × Handles now old new fed)
 kept_message_told reader curve was keeps done stream sysex held ended m old new fed u w h e range text s k =
     let is : was ≡ Some (kept.Message m) = sym w ∙ ap (λ (x : Kept). Some x) (h ∙ ap (λ (x : MidiMessage). kept.Message x) (sym e)) in

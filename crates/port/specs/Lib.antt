@@ -1,6 +1,7 @@
 pub mod Outcomes
 pub mod Feeding
 pub mod Keeping
-pub mod Settling
+pub mod Stopping
+pub mod Handling
 pub mod Used
 pub mod Ranges

@@ -8,7 +8,7 @@ ghost use Rattle.command_set.specs.Command.{IsInRange, content};
 ghost use Rattle.command_set.specs.Message.{Told, Tells, command_of};
 ghost use Rattle.command_queue.specs.Ends.{quota_of};
 ghost use Rattle.port.specs.Ranges.{SendsInRange};
-ghost use Rattle.port.specs.Settling.{Settles, KeepsThis, KeepsNoMessage, OneMore};
+ghost use Rattle.port.specs.Handling.{IsDoneOrKept, KeepsThis, KeepsNoMessage, OneMore};
 
 use crate::fed::Fed;
 use crate::kept::{Ended, Kept, Waiting};
@@ -31,7 +31,7 @@ pub(crate) fn send<R: Wait>(
     requires quota { length end.old.list < quota_of end.old }
     requires command { IsInRange (content command) }
     requires clear { kept.old ≡ None }
-    ensures settles { (curve : Curve) (bytes : List ℕ) → Settles curve bytes (Tells (content command)) kept.new end.old end.new result }
+    ensures done { (curve : Curve) (bytes : List ℕ) → IsDoneOrKept curve bytes (Tells (content command)) kept.new end.old end.new result }
     ensures keeps { KeepsNoMessage kept.new }
     ensures one { OneMore end.old end.new 0 result }
     ensures ranges { SendsInRange end.old end.new }
@@ -61,7 +61,7 @@ pub(crate) fn handle<R: Wait>(
     requires range { InRange message }
     requires bytes { length sysex.now ≤ 5000 }
     requires clear { kept.old ≡ None }
-    ensures settles { Settles (curve_of map.now) sysex.now (command_of message sysex.now (curve_of map.now)) kept.new end.old end.new result }
+    ensures done { IsDoneOrKept (curve_of map.now) sysex.now (command_of message sysex.now (curve_of map.now)) kept.new end.old end.new result }
     ensures message { KeepsThis kept.new message }
     ensures one { OneMore end.old end.new 0 result }
     ensures ranges { SendsInRange end.old end.new }

@@ -8,7 +8,8 @@ ghost use Rattle.command_queue.specs.Ends.{quota_of};
 ghost use Rattle.port.specs.Feeding.{Handles};
 ghost use Rattle.port.specs.Keeping.{KeepsAt};
 ghost use Rattle.port.specs.Ranges.{SendsInRange};
-ghost use Rattle.port.specs.Settling.{FullOnly, OneMore, refusals_after};
+ghost use Rattle.port.specs.Handling.{OneMore};
+ghost use Rattle.port.specs.Stopping.{FullOnly, refusals_after};
 
 use crate::fed::{Fed, PortStop};
 use crate::kept::Kept;

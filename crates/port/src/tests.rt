@@ -1,4 +1,4 @@
-//! Worked rows of a port on a line of one place.
+//! Worked streams through a port on a line of one place.
 
 ghost use Rattle.std.specs.Prelude.{◌≡◌, ◌<◌, ◌≤◌, length};
 ghost use Rattle.velocity_map.specs.Curve.{curve_value};
@@ -74,7 +74,7 @@ fn whole_voice<R: Abort + Wait>(rt: &R, alloc: Global, port: &mut Port) -> Resul
     Ok(())
 }
 
-fn worked_row<R: Abort + Wait>(
+fn worked_stream<R: Abort + Wait>(
     rt: &R,
     alloc: Global,
     map: VelocityMap,
@@ -131,6 +131,6 @@ fn soft_and_hard(rt: HostRuntime) -> Result<(), Fail> {
             ensures { result ≡ curve_value Curve.Hard v }
         { Curve::Hard.value(v) },
     )?;
-    worked_row(&rt, alloc, VelocityMap::new(Curve::Soft, soft), 96)?;
-    worked_row(&rt, alloc, VelocityMap::new(Curve::Hard, hard), 32)
+    worked_stream(&rt, alloc, VelocityMap::new(Curve::Soft, soft), 96)?;
+    worked_stream(&rt, alloc, VelocityMap::new(Curve::Hard, hard), 32)
 }

@@ -33,7 +33,7 @@ pub struct Spot {
 }
 
 impl Feed {
-    /// A reader of a new stream, and no commands. It takes the memory that the reader needs.
+    /// A reader of a new stream, and no commands. It asks for the memory that the reader needs.
     pub fn new(alloc: Global) -> Result<Feed, AllocError>
         ensures reads { IfOk result (λ feed. Reads feed.reader []) }
         ensures script { IfOk result (λ feed. feed.script ≡ []) }

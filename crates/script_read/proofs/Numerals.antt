@@ -38,7 +38,7 @@ not_digits most i word below other =
     failed (all_ascii_digits word) (nat_lt 0 (length word)) (nat_le (length word) 10) (nat_le (digits_value 10 word) most) _
     (λ digits some short small. other (digit_at word i (own.to word digits) below))
 
--- a number whose front is already above the most
+-- a number whose prefix is already above the most
 pub not_small : (most i value : ℕ) (word : List ℕ) → value ≡ digits_value 10 (take i word) → most < value → number_to most word ≡ None
 unfolding number_to
 not_small most i value word is above =

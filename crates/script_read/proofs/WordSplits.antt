@@ -5,7 +5,8 @@ use Rattle.std.specs.Prelude.{◌==◌, filter, take, drop}
 use Rattle.std.proofs.Math.Seq.{drop-length, take-nil}
 use Rattle.std.specs.List.{join_with_byte}
 use Rattle.plain_text.specs.Split.{split}
-use Rattle.script_read.specs.Words.{after_word, is_some_word, text_after, words_of}
+use Rattle.plain_text.specs.Words.{is_some_word}
+use Rattle.script_read.specs.Words.{after_word, text_after, words_of}
 
 pub word_first : (line word after : List ℕ) → split 32 line ≡ word ∷ split 32 after → 0 < length word → words_of line ≡ word ∷ words_of after
 unfolding words_of

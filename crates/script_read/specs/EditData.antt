@@ -1,4 +1,4 @@
--- A line of edits that was read, as plain data.
+-- For private functions and proofs: a line of edits that was read, as plain data.
 use Rattle.std.specs.Prelude.{◌≡◌, ◌≤◌, None}
 use Rattle.editor.specs.Names.{first_high}
 use Rattle.script_read.specs.declared.edit_line.EditRequest.{EditRequest}

@@ -8,7 +8,7 @@ use Rattle.script_read.specs.Words.{number_to, text_after, words_of}
 use Rattle.script_read.specs.Grammar.{parsed_voice}
 use Rattle.script_read.specs.Lines.{is_comment}
 
--- a request to an editor: a number of the voice set to a value; an act taken back, or done again; another name; another voice; or the voice
+-- a request to an editor: a parameter of the voice set to a value; an act undone, or done again; another name; another voice; or the voice
 -- put into a slot
 pub data Request : Type 0 where
   Sets : ℕ → ℕ → Request
@@ -35,13 +35,13 @@ parsed_name text =
     then Some (text ++ replicate (10 - length text) 32)
     else None
 
--- a number of the voice, from 0 to 154, and a value, which may be above the greatest of its number
+-- a parameter of the voice, from 0 to 154, and a value, which may be above its greatest
 abbrev pub parsed_set : Option ℕ → Option ℕ → Option Request
 parsed_set (Some number) (Some value) = Some (Sets number value)
 parsed_set (Some number) None = None
 parsed_set None value = None
 
--- the voice of a command that takes one
+-- the voice of a command that loads one
 abbrev pub voice_taken : CommandData → Option (List ℕ)
 voice_taken (StartsNote channel key velocity) = None
 voice_taken (EndsNote channel key) = None

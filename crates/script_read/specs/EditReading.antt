@@ -1,4 +1,4 @@
--- What a reader of edits knows in the middle of a script.
+-- For private functions and proofs: what a reader of edits knows in the middle of a script.
 use Rattle.std.specs.Prelude.{ℕ, ◌≡◌, ◌+◌, ◌≤◌, List, [], ◌++◌, length, Option}
 use Rattle.script_plan.specs.Plan.{last_due}
 use Rattle.script_outcome.specs.declared.fault.Place.{Place}

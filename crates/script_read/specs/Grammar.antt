@@ -20,7 +20,7 @@ if_lower word (Err e) = None
 abbrev pub lower_bytes : List ℕ → Option (List ℕ)
 lower_bytes word = if_lower word (decode_of word)
 
--- a voice: 155 numbers, none above its greatest value
+-- a voice: the values of 155 parameters, none above its greatest
 abbrev pub if_voice : List ℕ → Option CommandData
 if_voice bytes = if bytes_eq (clamped_voice bytes) bytes then Some (LoadsVoice bytes) else None
 
@@ -48,7 +48,7 @@ both f (Some first) (Some second) = Some (f first second)
 both f (Some first) None = None
 both f None second = None
 
--- a number of the voice or the operator switch, and a value up to its greatest
+-- a parameter of the voice or the operator switch, and a value up to its greatest
 abbrev pub parsed_param : List ℕ → Option ℕ → Option CommandData
 parsed_param value None = None
 parsed_param value (Some number) = option_map (SetsNumber number) (number_to (greatest_value number) value)

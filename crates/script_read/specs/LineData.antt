@@ -1,4 +1,4 @@
--- A line that was read, as plain data.
+-- For private functions and proofs: a line that was read, as plain data.
 use Rattle.command_set.specs.Command.{IsInRange, content}
 use Rattle.script_read.specs.declared.line.Line.{Line}
 use Rattle.script_read.specs.declared.line.Line.TheVariants as line

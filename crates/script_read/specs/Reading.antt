@@ -1,4 +1,4 @@
--- What a reader of a script knows in the middle of it.
+-- For private functions and proofs: what a reader of a script knows in the middle of it.
 use Rattle.std.specs.Prelude.{ℕ, ◌≡◌, ◌+◌, ◌≤◌, List, [], ◌++◌, length, Option}
 use Rattle.midi_stream.specs.Reading.{Reads}
 use Rattle.velocity_map.specs.declared.curve.Curve.TheVariants.{Linear}

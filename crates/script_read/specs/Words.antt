@@ -7,6 +7,7 @@ use Rattle.std.specs.Str.Parse.{digits_value}
 use Rattle.std.specs.Result.{result_ok}
 use Rattle.hex.specs.Hex.{decode_of}
 use Rattle.plain_text.specs.Split.{split}
+use Rattle.plain_text.specs.Words.{is_some_word}
 
 -- a line without a carriage return at its end
 abbrev pub without_return : List ℕ → List ℕ
@@ -21,10 +22,6 @@ ended (line ∷ next ∷ more) = without_return line ∷ ended (next ∷ more)
 -- the lines of a text; after a last line feed there is an empty one
 unfoldable pub lines_of : List ℕ → List (List ℕ)
 lines_of text = ended (split 10 text)
-
--- a word has one byte at least
-abbrev pub is_some_word : List ℕ → Bool
-is_some_word word = nat_lt 0 (length word)
 
 -- the words of a line, which one or more spaces part; spaces at its ends don't count
 unfoldable pub words_of : List ℕ → List (List ℕ)

@@ -26,11 +26,11 @@ const NAME: usize = 10;
 /// A request to the editor.
 #[derive(Drop)]
 pub(crate) enum EditRequest {
-    /// A number of the voice, 0 to 154, set to a value, which may be above its greatest.
+    /// A parameter of the voice, 0 to 154, set to a value, which may be above its greatest.
     Set { number: u8, value: u32 },
-    /// The last act taken back.
+    /// The last act undone.
     Undo,
-    /// The act done again that was taken back last.
+    /// The act done again that was undone last.
     Redo,
     /// Another name.
     Rename([u8; 10]),
@@ -166,7 +166,7 @@ fn read_load(alloc: Global, word: &[u8]) -> Result<Option<EditRequest>, AllocErr
     }
 }
 
-/// The voice of a command that takes one.
+/// The voice of a command that loads one.
 fn load_of(command: Command) -> Option<EditRequest>
     ensures parsed { option_map request_data result ≡ option_map Loads (voice_taken (content command)) }
     ensures sound { IfSome result IsSoundRequest }

@@ -39,7 +39,7 @@ impl Editing {
     ghost use Rattle.script_read.specs.EditReading.{HasEditOrder, IsEditing};
     ghost use Rattle.script_outcome.specs.Reading.{Stops};
 
-    /// Before the line after the first, with the opening voice. It takes the memory that an editor needs.
+    /// Before the line after the first, with the opening voice. It asks for the memory that an editor needs.
     pub(crate) fn new(alloc: Global) -> Result<Editing, AllocError>
         ensures after { IfOk result (λ p. (blocks : Option ℕ) → IsEditing p blocks []) }
         ensures order { IfOk result (λ p. (room : ℕ) → HasEditOrder p room) }
@@ -164,7 +164,7 @@ fn answer(
     }
 }
 
-/// Sets a number of the voice to a value, which may be above its greatest.
+/// Sets a parameter of the voice to a value, which may be above its greatest.
 #[tactic(auto, unfolding(crate::specs::Edits::answered))]
 fn set(editor: &mut Editor, number: u8, value: u32, line: u32) -> Result<Command, ScriptFault>
     requires { number ≤ 154 }

@@ -37,7 +37,7 @@ impl Progress {
     ghost use Rattle.script_outcome.specs.Reading.{Stops};
     ghost use Rattle.script_read.specs.Reading.{HasOrder, IsAfter};
 
-    /// Before the line after the first. It takes the memory that a reader of MIDI bytes needs.
+    /// Before the line after the first. It asks for the memory that a reader of MIDI bytes needs.
     pub(crate) fn new(alloc: Global) -> Result<Progress, AllocError>
         ensures after { IfOk result (λ p. (blocks : Option ℕ) → IsAfter p blocks []) }
         ensures order { IfOk result (λ p. (room : ℕ) → HasOrder p room) }

@@ -27,14 +27,14 @@ pub record IsDump (message : List ℕ) (device format high low count : ℕ) (pay
   pub checked : IsChecksum payload check
   pub spelled : message ≡ 0xF0 ∷ 0x43 ∷ device ∷ format ∷ high ∷ low ∷ (payload ++ check ∷ 0xF7 ∷ [])
 
--- a change of a number of the voice, or of the operator switch, to a value that it can have
+-- a change of a parameter of the voice, or of the operator switch, to a value that it can have
 pub record IsParamChange (message : List ℕ) (device number value : ℕ) : Type 0 where
   pub sixteen : device < 16
   pub known : number ≤ 155
   pub within : value ≤ greatest_value number
   pub spelled : message ≡ 0xF0 ∷ 0x43 ∷ (0x10 + device) ∷ (number / 128) ∷ (number % 128) ∷ value ∷ 0xF7 ∷ []
 
--- a change of some other number: above 155 in group 0, where one data byte follows; in another group one or more
+-- a change of a parameter of some other number: above 155 in group 0, where one data byte follows; in another group one or more
 pub record IsOtherChange (message : List ℕ) (device group number : ℕ) : Type 0 where
   pub sixteen : device < 16
   pub groups : group < 32

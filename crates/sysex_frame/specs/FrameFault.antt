@@ -102,7 +102,7 @@ wrong_checksum message =
     (substatus message == 0 && not (check message == checksum_of (payload message)))
     (Checksum (check message) (checksum_of (payload message)))
 
--- it changes a number of the voice or the operator switch to a value above its greatest
+-- it changes a parameter of the voice or the operator switch to a value above its greatest
 abbrev pub high_value : List ℕ → Option FrameFault
 high_value message =
     where_true

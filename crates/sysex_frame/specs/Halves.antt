@@ -1,4 +1,4 @@
--- For the private functions and the proofs: the table of faults in two halves, as they are looked at one after the other.
+-- For private functions and proofs: the table of faults in two halves, as they are looked at one after the other.
 use Rattle.std.specs.Prelude.{ℕ, ◌≡◌, List, [], ◌∷◌, MatchResult}
 use Rattle.std.specs.declared.option.Option.{Option}
 use Rattle.std.specs.declared.option.Option.TheVariants.{None, Some}

@@ -3,11 +3,11 @@
 /// What a message holds. A device number is kept and not looked at.
 #[derive(Clone, Copy, Debug, PartialEq, Eq)]
 pub enum Frame<'a> {
-    /// The 155 numbers of a voice as they were sent.
+    /// The 155 parameters of a voice as they were sent.
     Voice { device: u8, payload: &'a [u8] },
     /// The 32 packed voices of a cartridge, 4096 bytes as they were sent.
     Cartridge { device: u8, payload: &'a [u8] },
-    /// A number of the voice from 0 to 154, or the operator switch 155, and its new value.
+    /// A parameter of the voice from 0 to 154, or the operator switch 155, and its new value.
     Param { device: u8, number: u8, value: u8 },
     /// A parameter of another group, or a function parameter of group 0.
     OtherParam { device: u8, group: u8, number: u16 },
@@ -36,6 +36,6 @@ pub enum FrameFault {
     Length { found: u32, wanted: u32 },
     /// The checksum isn't that of the payload.
     Checksum { found: u8, wanted: u8 },
-    /// The value is above the greatest of its number.
+    /// The value is above the greatest of its parameter.
     ParamValue { number: u8, value: u8 },
 }

@@ -7,7 +7,7 @@ ghost use Rattle.sysex_frame.specs.Frame.{Content, IsFrame, ParamChange, VoiceDu
 use crate::sums::checksum;
 use voice_record::Voice;
 
-/// The dump of a voice, for a device from 0 to 15. It is read back as the voice's 155 numbers.
+/// The dump of a voice, for a device from 0 to 15. It is read back as the voice's 155 parameters.
 pub fn write_voice(device: u8, voice: &Voice) -> [u8; 163]
     requires { device ≤ 15 }
     ensures frame { IsFrame result (VoiceDump device voice.now) }
@@ -26,7 +26,7 @@ pub fn write_voice(device: u8, voice: &Voice) -> [u8; 163]
     message
 }
 
-/// The change of a number of the voice or of the operator switch, for a device from 0 to 15. It is read
+/// The change of a parameter of the voice or of the operator switch, for a device from 0 to 15. It is read
 /// back as this change.
 pub fn write_param(device: u8, number: u8, value: u8) -> [u8; 7]
     requires device { device ≤ 15 }

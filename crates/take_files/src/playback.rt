@@ -44,7 +44,7 @@ impl<'a> Model for Playback<'a> {
 }
 
 impl<'a> Playback<'a> {
-    /// The journal from its beginning, whose blocks don't fall. No later call takes memory.
+    /// The journal from its beginning, whose blocks don't fall. No later call asks for memory.
     pub fn new(
         alloc: Global,
         engine: Engine,

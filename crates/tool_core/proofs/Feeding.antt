@@ -1,4 +1,4 @@
--- A file that is fed to a reader, piece by piece.
+-- A file that is fed to a reader, chunk by chunk.
 use Rattle.std.proofs.Common.{◌≡◌, inl, inr, ℕ, ◌+◌, ◌<◌, ◌≤◌, List, [], ◌++◌, length, take, sym, ◌∙◌, ap, subst, arith}
 use Rattle.std.specs.Prelude.{Option, Some, None, IfSome, IsSomeAnd, Result, Ok, Err, IfOk, IfErr}
 use Rattle.std.specs.FinMap.{get}
@@ -34,11 +34,11 @@ fed_none (Some told) name s fed = one (get told name)
     one None = tt
     one (Some file) = fed
 
-pub fed_more : (o now : Option Files) (name piece buffer : List ℕ) (at count : ℕ) (before after : Standing) → now ≡ o → piece ≡ take count buffer
+pub fed_more : (o now : Option Files) (name chunk buffer : List ℕ) (at count : ℕ) (before after : Standing) → now ≡ o → chunk ≡ take count buffer
     → WasFed before at o name → IfSome now (λ told. IsSomeAnd (get told name) (λ file. ReadsFrom file at count buffer))
-    → ((fed : List ℕ) → HasFed before fed → HasFed after (fed ++ piece)) → WasFed after (at + count) o name
-fed_more None now name piece buffer at count before after same is fed read feeds = tt
-fed_more (Some told) now name piece buffer at count before after same is fed read feeds =
+    → ((fed : List ℕ) → HasFed before fed → HasFed after (fed ++ chunk)) → WasFed after (at + count) o name
+fed_more None now name chunk buffer at count before after same is fed read feeds = tt
+fed_more (Some told) now name chunk buffer at count before after same is fed read feeds =
     one (get told name) fed (let h : IfSome (Some told) (λ t. IsSomeAnd (get t name) (λ file. ReadsFrom file at count buffer)) =
     subst (λ (f : Option Files). IfSome f (λ t. IsSomeAnd (get t name) (λ file. ReadsFrom file at count buffer))) same read in h)
   where

@@ -1,4 +1,4 @@
--- Files compared piece by piece.
+-- Files compared chunk by chunk.
 use Rattle.std.proofs.Common.{◌≡◌, ◌≢◌, inl, inr, ℕ, zero, suc, ◌+◌, ◌-◌, ◌<◌, ◌≤◌, min, List, [], ◌∷◌, ◌++◌, length, take, drop, get_or, refl, sym, ◌∙◌, ap, subst, arith, append_assoc, append-nil, length-append, length-drop}
 use Rattle.std.specs.Prelude.{Option, Some, None, IfSome, IsSomeAnd, unwrap_or, slice_get}
 use Rattle.std.specs.FinMap.{get}
@@ -11,15 +11,15 @@ use Rattle.tool_core.specs.declared.comparison.Step.TheVariants.{Same, Differs}
 use Rattle.tool_core.specs.Comparisons.{DiffersAt, IsPrefix, IsStep, IsWithin}
 
 -- ---- bytes at an offset
-get_behind : (prefix a : List ℕ) (i : ℕ) → slice_get (prefix ++ a) (length prefix + i) ≡ slice_get a i
-get_behind [] a i = ap (slice_get a) (let e : length {A = ℕ} [] + i ≡ i = omega arith in e)
-get_behind (x ∷ prefix) a i =
-    ap (slice_get (x ∷ (prefix ++ a))) (let e : length (x ∷ prefix) + i ≡ suc (length prefix + i) = omega arith in e) ∙ get_behind prefix a i
+get_after : (prefix a : List ℕ) (i : ℕ) → slice_get (prefix ++ a) (length prefix + i) ≡ slice_get a i
+get_after [] a i = ap (slice_get a) (let e : length {A = ℕ} [] + i ≡ i = omega arith in e)
+get_after (x ∷ prefix) a i =
+    ap (slice_get (x ∷ (prefix ++ a))) (let e : length (x ∷ prefix) + i ≡ suc (length prefix + i) = omega arith in e) ∙ get_after prefix a i
 
-get_front : (a more : List ℕ) (i : ℕ) → i < length a → slice_get (a ++ more) i ≡ slice_get a i
-get_front [] more i below = absurd (omega arith)
-get_front (x ∷ a) more zero below = refl
-get_front (x ∷ a) more (suc i) below = get_front a more i (omega arith)
+get_prefix : (a more : List ℕ) (i : ℕ) → i < length a → slice_get (a ++ more) i ≡ slice_get a i
+get_prefix [] more i below = absurd (omega arith)
+get_prefix (x ∷ a) more zero below = refl
+get_prefix (x ∷ a) more (suc i) below = get_prefix a more i (omega arith)
 
 get_taken : (n : ℕ) (a : List ℕ) (i : ℕ) → i < n → slice_get (take n a) i ≡ slice_get a i
 get_taken zero a i below = absurd (omega arith)
@@ -34,16 +34,16 @@ take_taken (suc n) [] (suc i) below = refl
 take_taken (suc n) (x ∷ a) (suc i) below = ap (λ (l : List ℕ). x ∷ l) (take_taken n a i (omega arith))
 
 -- ---- after a prefix, and before more
-pub differs_behind : (prefix a b : List ℕ) (i : ℕ) → DiffersAt a b i → DiffersAt (prefix ++ a) (prefix ++ b) (length prefix + i)
-differs_behind prefix a b i d = record {
+pub differs_after : (prefix a b : List ℕ) (i : ℕ) → DiffersAt a b i → DiffersAt (prefix ++ a) (prefix ++ b) (length prefix + i)
+differs_after prefix a b i d = record {
   prefix = take-append-add prefix a i ∙ ap (λ (l : List ℕ). prefix ++ l) d.prefix ∙ sym (take-append-add prefix b i);
-  differs = λ e. d.differs (sym (get_behind prefix a i) ∙ e ∙ get_behind prefix b i);
+  differs = λ e. d.differs (sym (get_after prefix a i) ∙ e ∙ get_after prefix b i);
 }
 
 pub differs_before : (a b more : List ℕ) (i : ℕ) → i < length b → DiffersAt a b i → DiffersAt a (b ++ more) i
 differs_before a b more i below d = record {
   prefix = d.prefix ∙ sym (take-append-le i b more (omega arith));
-  differs = λ e. d.differs (e ∙ get_front b more i below);
+  differs = λ e. d.differs (e ∙ get_prefix b more i below);
 }
 
 -- ---- the bytes that one read gives
@@ -89,70 +89,70 @@ read_end file buffer chunk at count reads fits room is none =
     let size : length chunk ≡ count = ap length is ∙ length-take-le count buffer fits in
     elim (reads.ended.0 (sym size ∙ none)) [ inl no_room ↦ absurd (omega arith) | inr past ↦ (let h : length (drop at file) ≡ 0 = omega (arith, length-drop at file) in h) ]
 
--- ---- a piece, step by step
+-- ---- a chunk, step by step
 drop_drop : (n m : ℕ) (a : List ℕ) → drop m (drop n a) ≡ drop (n + m) a
 drop_drop zero m a = ap (λ (k : ℕ). drop k a) (let e : m ≡ 0 + m = omega arith in e)
 drop_drop (suc n) m [] = ap (drop m) (drop-nil {A = ℕ} (suc n)) ∙ drop-nil {A = ℕ} m ∙ sym (drop-nil {A = ℕ} (suc n + m))
 drop_drop (suc n) m (x ∷ a) = drop_drop n m a ∙ ap (λ (k : ℕ). drop k (x ∷ a)) (let e : suc (n + m) ≡ suc n + m = omega arith in e)
 
--- the rest of a piece, as the code cuts it off
-rest_of : (piece wanted : List ℕ) (done : ℕ) → wanted ≡ take (length piece - done) (drop done piece) → wanted ≡ drop done piece
-rest_of piece wanted done is = is ∙ take_all (length piece - done) (drop done piece) (omega (arith, length-drop done piece))
+-- the rest of a chunk, as the code cuts it off
+rest_of : (chunk wanted : List ℕ) (done : ℕ) → wanted ≡ take (length chunk - done) (drop done chunk) → wanted ≡ drop done chunk
+rest_of chunk wanted done is = is ∙ take_all (length chunk - done) (drop done chunk) (omega (arith, length-drop done chunk))
 
-pub piece_more : (file piece wanted : List ℕ) (at done count : ℕ) → wanted ≡ take (length piece - done) (drop done piece)
-    → take done (drop at file) ≡ take done piece → take count (drop (at + done) file) ≡ take count wanted
-    → take (done + count) (drop at file) ≡ take (done + count) piece
-piece_more file piece wanted at done count is same step =
+pub sound_chunk_more : (file chunk wanted : List ℕ) (at done count : ℕ) → wanted ≡ take (length chunk - done) (drop done chunk)
+    → take done (drop at file) ≡ take done chunk → take count (drop (at + done) file) ≡ take count wanted
+    → take (done + count) (drop at file) ≡ take (done + count) chunk
+sound_chunk_more file chunk wanted at done count is same step =
     take-add done count (drop at file)
     ∙ ap (λ (l : List ℕ). take done (drop at file) ++ take count l) (drop_drop at done file)
-    ∙ ap (λ (l : List ℕ). take done (drop at file) ++ l) (step ∙ ap (take count) (rest_of piece wanted done is))
-    ∙ ap (λ (l : List ℕ). l ++ take count (drop done piece)) same
-    ∙ sym (take-add done count piece)
+    ∙ ap (λ (l : List ℕ). take done (drop at file) ++ l) (step ∙ ap (take count) (rest_of chunk wanted done is))
+    ∙ ap (λ (l : List ℕ). l ++ take count (drop done chunk)) same
+    ∙ sym (take-add done count chunk)
 
-pub piece_differs : (file piece wanted : List ℕ) (at done offset : ℕ) → wanted ≡ take (length piece - done) (drop done piece) → done ≤ length piece
-    → take done (drop at file) ≡ take done piece → DiffersAt (drop (at + done) file) wanted offset
-    → DiffersAt (drop at file) piece (done + offset)
-piece_differs file piece wanted at done offset is low same step =
-    let size : length (take done piece) ≡ done = length-take-le done piece low in
-    let left : take done piece ++ drop (at + done) file ≡ drop at file =
+pub sound_chunk_differs : (file chunk wanted : List ℕ) (at done offset : ℕ) → wanted ≡ take (length chunk - done) (drop done chunk) → done ≤ length chunk
+    → take done (drop at file) ≡ take done chunk → DiffersAt (drop (at + done) file) wanted offset
+    → DiffersAt (drop at file) chunk (done + offset)
+sound_chunk_differs file chunk wanted at done offset is low same step =
+    let size : length (take done chunk) ≡ done = length-take-le done chunk low in
+    let left : take done chunk ++ drop (at + done) file ≡ drop at file =
     ap (λ (l : List ℕ). l ++ drop (at + done) file) (sym same) ∙ ap (λ (l : List ℕ). take done (drop at file) ++ l) (sym (drop_drop at done file)) ∙ take-append-drop done (drop at file) in
-    let right : take done piece ++ wanted ≡ piece =
-    ap (λ (l : List ℕ). take done piece ++ l) (rest_of piece wanted done is) ∙ take-append-drop done piece in
-    let whole : DiffersAt (take done piece ++ drop (at + done) file) (take done piece ++ wanted) (length (take done piece) + offset) =
-    differs_behind (take done piece) (drop (at + done) file) wanted offset step in
-    subst (λ (n : ℕ). DiffersAt (drop at file) piece (n + offset)) size
-    (subst (λ (l : List ℕ). DiffersAt (drop at file) l (length (take done piece) + offset)) right
-    (subst (λ (l : List ℕ). DiffersAt l (take done piece ++ wanted) (length (take done piece) + offset)) left whole))
+    let right : take done chunk ++ wanted ≡ chunk =
+    ap (λ (l : List ℕ). take done chunk ++ l) (rest_of chunk wanted done is) ∙ take-append-drop done chunk in
+    let whole : DiffersAt (take done chunk ++ drop (at + done) file) (take done chunk ++ wanted) (length (take done chunk) + offset) =
+    differs_after (take done chunk) (drop (at + done) file) wanted offset step in
+    subst (λ (n : ℕ). DiffersAt (drop at file) chunk (n + offset)) size
+    (subst (λ (l : List ℕ). DiffersAt (drop at file) l (length (take done chunk) + offset)) right
+    (subst (λ (l : List ℕ). DiffersAt l (take done chunk ++ wanted) (length (take done chunk) + offset)) left whole))
 
-pub piece_whole : (file piece : List ℕ) (at done : ℕ) → done ≡ length piece → take done (drop at file) ≡ take done piece → IsPrefix (drop at file) piece None
-piece_whole file piece at done is same = (
+pub sound_chunk_whole : (file chunk : List ℕ) (at done : ℕ) → done ≡ length chunk → take done (drop at file) ≡ take done chunk → IsPrefix (drop at file) chunk None
+sound_chunk_whole file chunk at done is same = (
   drop done (drop at file),
-  sym (take-append-drop done (drop at file)) ∙ ap (λ (l : List ℕ). l ++ drop done (drop at file)) (same ∙ take_all done piece (omega arith)),
+  sym (take-append-drop done (drop at file)) ∙ ap (λ (l : List ℕ). l ++ drop done (drop at file)) (same ∙ take_all done chunk (omega arith)),
 )
 
--- ---- a file, piece by piece
+-- ---- a file, chunk by chunk
 rest_after : (file prefix rest : List ℕ) (at : ℕ) → file ≡ prefix ++ rest → at ≡ length prefix → drop at file ≡ rest
 rest_after file prefix rest at is size = ap (λ (n : ℕ). drop n file) size ∙ ap (drop (length prefix)) is ∙ drop-append_seam prefix rest
 
-pub front_more : (file prefix piece : List ℕ) (at : ℕ) → IsPrefix file prefix None → at ≡ length prefix → IsPrefix (drop at file) piece None
-    → IsPrefix file (prefix ++ piece) None
-front_more file prefix piece at (rest, is) size (more, next) =
-    (more, is ∙ ap (λ (l : List ℕ). prefix ++ l) (sym (rest_after file prefix rest at is size) ∙ next) ∙ sym (append_assoc prefix piece more))
+pub prefix_more : (file prefix chunk : List ℕ) (at : ℕ) → IsPrefix file prefix None → at ≡ length prefix → IsPrefix (drop at file) chunk None
+    → IsPrefix file (prefix ++ chunk) None
+prefix_more file prefix chunk at (rest, is) size (more, next) =
+    (more, is ∙ ap (λ (l : List ℕ). prefix ++ l) (sym (rest_after file prefix rest at is size) ∙ next) ∙ sym (append_assoc prefix chunk more))
 
-pub front_differs : (file prefix piece more : List ℕ) (at offset : ℕ) → IsPrefix file prefix None → at ≡ length prefix → IsPrefix (drop at file) piece (Some offset)
-    → IsPrefix file ((prefix ++ piece) ++ more) (Some (at + offset))
-front_differs file prefix piece more at offset (rest, is) size (below, d) =
+pub prefix_differs : (file prefix chunk more : List ℕ) (at offset : ℕ) → IsPrefix file prefix None → at ≡ length prefix → IsPrefix (drop at file) chunk (Some offset)
+    → IsPrefix file ((prefix ++ chunk) ++ more) (Some (at + offset))
+prefix_differs file prefix chunk more at offset (rest, is) size (below, d) =
     let left : prefix ++ drop at file ≡ file = ap (λ (l : List ℕ). prefix ++ l) (rest_after file prefix rest at is size) ∙ sym is in
-    let whole : DiffersAt (prefix ++ drop at file) (prefix ++ piece) (length prefix + offset) = differs_behind prefix (drop at file) piece offset d in
-    let at_it : DiffersAt file (prefix ++ piece) (at + offset) =
-    subst (λ (n : ℕ). DiffersAt file (prefix ++ piece) (n + offset)) (sym size)
-    (subst (λ (l : List ℕ). DiffersAt l (prefix ++ piece) (length prefix + offset)) left whole) in
-    let low : at + offset < length (prefix ++ piece) = omega (arith, length-append prefix piece) in
-    (let l : at + offset < length ((prefix ++ piece) ++ more) = omega (arith, length-append (prefix ++ piece) more) in l, differs_before file (prefix ++ piece) more (at + offset) low at_it)
+    let whole : DiffersAt (prefix ++ drop at file) (prefix ++ chunk) (length prefix + offset) = differs_after prefix (drop at file) chunk offset d in
+    let at_it : DiffersAt file (prefix ++ chunk) (at + offset) =
+    subst (λ (n : ℕ). DiffersAt file (prefix ++ chunk) (n + offset)) (sym size)
+    (subst (λ (l : List ℕ). DiffersAt l (prefix ++ chunk) (length prefix + offset)) left whole) in
+    let low : at + offset < length (prefix ++ chunk) = omega (arith, length-append prefix chunk) in
+    (let l : at + offset < length ((prefix ++ chunk) ++ more) = omega (arith, length-append (prefix ++ chunk) more) in l, differs_before file (prefix ++ chunk) more (at + offset) low at_it)
 
-pub first_differs : (file piece more : List ℕ) (offset : ℕ) → IsPrefix (drop 0 file) piece (Some offset) → IsPrefix file (piece ++ more) (Some offset)
-first_differs file piece more offset (below, d) =
-    (let l : offset < length (piece ++ more) = omega (arith, length-append piece more) in l, differs_before file piece more offset below d)
+pub first_differs : (file chunk more : List ℕ) (offset : ℕ) → IsPrefix (drop 0 file) chunk (Some offset) → IsPrefix file (chunk ++ more) (Some offset)
+first_differs file chunk more offset (below, d) =
+    (let l : offset < length (chunk ++ more) = omega (arith, length-append chunk more) in l, differs_before file chunk more offset below d)
 
 -- ---- the whole file
 pub known_within : (file whole : List ℕ) (offset : Option ℕ) (size : ℕ) → size ≡ length whole → IsPrefix file whole offset → unwrap_or offset size ≤ length file
@@ -181,8 +181,8 @@ ends_there file whole size count is ends low (rest, same) =
     same ∙ ap (λ (l : List ℕ). whole ++ l) (none rest (omega (arith, ap length same, length-append whole rest))) ∙ append-nil whole
 
 -- ---- what an answer tells, where it is known which one it is
-pub front_at : (o : Option ℕ) (file prefix : List ℕ) (known : Option ℕ) → o ≡ known → IsPrefix file prefix o → IsPrefix file prefix known
-front_at o file prefix known is h = subst (λ (r : Option ℕ). IsPrefix file prefix r) is h
+pub prefix_at : (o : Option ℕ) (file prefix : List ℕ) (known : Option ℕ) → o ≡ known → IsPrefix file prefix o → IsPrefix file prefix known
+prefix_at o file prefix known is h = subst (λ (r : Option ℕ). IsPrefix file prefix r) is h
 
 pub step_same : (step : Step) (count : ℕ) (file prefix : List ℕ) → step ≡ Same count → IsStep step file prefix → take count file ≡ take count prefix
 step_same step count file prefix is h = let k : IsStep (Same count) file prefix = subst (λ (s : Step). IsStep s file prefix) is h in k

@@ -116,19 +116,19 @@ pub all_put : (o now : Option (List ℕ)) (text : List ℕ) → Holds o now [] t
 all_put o now text puts = puts.was_put ∙ ap (λ (l : List ℕ). option_map (said l) o) (sym (append-nil puts.prefix) ∙ puts.whole)
 
 -- ---- the line of a message
-pub frame_shown : (e : SysExMessage) (long : Bool) (text line : List ℕ) (held : Content) → long ≡ false → long ≡ is_too_long e → text ≡ e.text → IsFrame text held
+pub frame_shown : (e : SysExMessage) (long : Bool) (message line : List ℕ) (held : Content) → long ≡ false → long ≡ is_too_long e → message ≡ e.bytes → IsFrame message held
     → line ≡ content_line (Some held) → line ≡ message_line e
-frame_shown e long text line held short tells same is shown =
+frame_shown e long message line held short tells same is shown =
     let e_short : is_too_long e ≡ false = sym tells ∙ short in
-    let something : content e.text ≡ Some held = ap content (sym same) ∙ content_of_frame text held is in
+    let something : content e.bytes ≡ Some held = ap content (sym same) ∙ content_of_frame message held is in
     let whole : message_content e ≡ Some held = rw (e_short, something) refl in
     shown ∙ ap content_line (sym whole)
 
-pub fault_shown : (e : SysExMessage) (long : Bool) (text line : List ℕ) (fault : FrameFault) → long ≡ false → long ≡ is_too_long e → text ≡ e.text → first_fault text ≡ Some fault
+pub fault_shown : (e : SysExMessage) (long : Bool) (message line : List ℕ) (fault : FrameFault) → long ≡ false → long ≡ is_too_long e → message ≡ e.bytes → first_fault message ≡ Some fault
     → line ≡ content_line None → line ≡ message_line e
-fault_shown e long text line fault short tells same is shown =
+fault_shown e long message line fault short tells same is shown =
     let e_short : is_too_long e ≡ false = sym tells ∙ short in
-    let nothing : content e.text ≡ None = ap content (sym same) ∙ no_content text fault is in
+    let nothing : content e.bytes ≡ None = ap content (sym same) ∙ no_content message fault is in
     let whole : message_content e ≡ None = rw (e_short, nothing) refl in
     shown ∙ ap content_line (sym whole)
 

@@ -1,24 +1,20 @@
 -- One more message of a scan.
-use Rattle.std.proofs.Common.{◌≡◌, ℕ, ◌+◌, ◌<◌, ◌%◌, append-nil, List, [], ◌∷◌, ◌++◌, length, get_or, min, refl, sym, ◌∙◌, ap, subst, arith}
+use Rattle.std.proofs.Common.{◌≡◌, ℕ, ◌+◌, append-nil, List, [], ◌∷◌, ◌++◌, refl, sym, ◌∙◌, ap, subst}
 use Rattle.std.specs.Prelude.{Option, Some, None, true, false, option_map, option_to_list, Result, Ok, Err, OnOk}
 use Rattle.std.specs.Option.{option_or}
-use Rattle.std.proofs.lemmas.List.{ext_get_or}
-use Rattle.std.proofs.lemmas.List.FromFn.{length-map-range_with_len, get_or-map-range_with_len}
-use Rattle.voice_record.specs.Voice.{greatest_value, IsClamped}
-use Rattle.cartridge.specs.Cartridge.{voice_at, voices_of, unpacked, slot_bytes, UnpacksAll}
-use Rattle.voice_record.proofs.Packed.{unpacks_unique}
-use Rattle.voice_record.specs.Packing.{Unpacks, bits_of}
+use Rattle.cartridge.specs.Cartridge.{voices_of}
 use Rattle.sysex_frame.specs.Frame.{Content, VoiceDump, CartridgeDump, ParamChange, OtherChange, DumpRequest, IsFrame}
 use Rattle.sysex_frame.specs.FrameFault.{first_fault}
 use Rattle.sysex_frame.specs.declared.frame.FrameFault.{FrameFault}
 use Rattle.sysex_frame.proofs.Laws.{complete}
+use Rattle.command_set.specs.Message.{clamped_voice}
 use Rattle.tool_core.specs.declared.scan.Scan.{Scan}
 use Rattle.tool_core.specs.declared.refusal.Refusal.{Refusal}
 use Rattle.tool_core.specs.declared.refusal.Refusal.TheVariants.{TooLong}
 use Rattle.tool_core.specs.declared.scan.Ended.{Ended}
 use Rattle.tool_core.specs.Scans.{TellsOf}
 use Rattle.tool_core.specs.SysEx.{SysExMessage, is_too_long, sysex_at, sysex_before}
-use Rattle.tool_core.specs.Refusals.{first_some, message_refusal, long_refusal, message_voice, message_cartridge, clamped_voice, content, fault_at, voice_bytes, cartridge_bytes}
+use Rattle.tool_core.specs.Refusals.{first_some, message_refusal, long_refusal, message_voice, message_cartridge, content, fault_at, voice_bytes, cartridge_bytes}
 use Rattle.tool_core.specs.Scans.{HasSizes, IsScan}
 use Rattle.tool_core.proofs.Streams.{sysex_next}
 
@@ -46,60 +42,23 @@ scans_more old now messages e was bad long voice cartridge = record {
   cartridge = cartridge ∙ ap (λ o. option_or o (message_cartridge e)) was.cartridge ∙ sym (first_more message_cartridge messages e);
 }
 
--- what a voice message holds, as a list
-clamped_at : (bytes : List ℕ) (k : ℕ) → k < 155 → get_or (clamped_voice bytes) k 0 ≡ min (get_or bytes k 0 % 128) (greatest_value k)
-unfolding clamped_voice
-clamped_at bytes k l = get_or-map-range_with_len (λ number. min (get_or bytes number 0 % 128) (greatest_value number)) 0 155 k k 0 l (omega arith)
-
-clamped_count : (bytes : List ℕ) → length (clamped_voice bytes) ≡ 155
-unfolding clamped_voice
-clamped_count bytes = length-map-range_with_len (λ number. min (get_or bytes number 0 % 128) (greatest_value number)) 0 155
-
-pub clamped_is : (bytes fields : List ℕ) → IsClamped bytes fields → fields ≡ clamped_voice bytes
-clamped_is bytes fields c =
-    ext_get_or 0 fields (clamped_voice bytes) (c.count ∙ sym (clamped_count bytes))
-    (λ k l. let below : k < 155 = rw c.count at l in c.clamped k below ∙ sym (clamped_at bytes k below))
-
-pub content_of_frame : (text : List ℕ) (held : Content) → IsFrame text held → content text ≡ Some held
+pub content_of_frame : (message : List ℕ) (held : Content) → IsFrame message held → content message ≡ Some held
 unfolding content
-content_of_frame text held is = let whole = complete text held is in rw (whole.0, whole.1) refl
+content_of_frame message held is = let whole = complete message held is in rw (whole.0, whole.1) refl
 
-pub faultless_frame : (text : List ℕ) (held : Content) → IsFrame text held → first_fault text ≡ None
-faultless_frame text held is = (complete text held is).0
+pub faultless_frame : (message : List ℕ) (held : Content) → IsFrame message held → first_fault message ≡ None
+faultless_frame message held is = (complete message held is).0
 
-pub no_content : (text : List ℕ) (fault : FrameFault) → first_fault text ≡ Some fault → content text ≡ None
+pub no_content : (message : List ℕ) (fault : FrameFault) → first_fault message ≡ Some fault → content message ≡ None
 unfolding content
-no_content text fault is = rw is refl
+no_content message fault is = rw is refl
 
-pub sizes : (text : List ℕ) (held : Content) → IsFrame text held → HasSizes held
-sizes text (VoiceDump device payload) is = is.size
-sizes text (CartridgeDump device payload) is = is.size
-sizes text (ParamChange device number value) is = tt
-sizes text (OtherChange device group number) is = tt
-sizes text (DumpRequest device) is = tt
-
--- the 32 voices of a payload
-voices_count : (payload : List ℕ) → length (voices_of payload) ≡ 32
-unfolding voices_of
-voices_count payload = length-map-range_with_len (λ slot. unpacked (slot_bytes payload slot)) 0 32
-
-voices_at : (payload : List ℕ) (slot : ℕ) → slot < 32 → voice_at (voices_of payload) slot ≡ unpacked (slot_bytes payload slot)
-unfolding voices_of
-voices_at payload slot l = get_or-map-range_with_len (λ k. unpacked (slot_bytes payload k)) 0 32 slot slot [] l (omega arith)
-
-unpacked_unpacks : (bytes : List ℕ) → Unpacks bytes (unpacked bytes)
-unfolding unpacked
-unpacked_unpacks bytes = record {
-  count = length-map-range_with_len (λ field. min (greatest_value field) (bits_of bytes field)) 0 155;
-  rows = λ field l. get_or-map-range_with_len (λ k. min (greatest_value k) (bits_of bytes k)) 0 155 field field 0 l (omega arith);
-}
-
-pub voices_known : (payload : List ℕ) (voices : List (List ℕ)) → UnpacksAll payload voices → voices ≡ voices_of payload
-voices_known payload voices u =
-    ext_get_or [] voices (voices_of payload) (u.count ∙ sym (voices_count payload))
-    (λ k l. let below : k < 32 = rw u.count at l in
-    unpacks_unique (slot_bytes payload k) (voice_at voices k) (unpacked (slot_bytes payload k)) (u.slots k below) (unpacked_unpacks (slot_bytes payload k))
-    ∙ sym (voices_at payload k below))
+pub sizes : (message : List ℕ) (held : Content) → IsFrame message held → HasSizes held
+sizes message (VoiceDump device payload) is = is.size
+sizes message (CartridgeDump device payload) is = is.size
+sizes message (ParamChange device number value) is = tt
+sizes message (OtherChange device group number) is = tt
+sizes message (DumpRequest device) is = tt
 
 -- what a message gives a scan
 pub record Gives (e : SysExMessage) (bad long : Option Refusal) (voice : Option (List ℕ)) (cartridge : Option (List (List ℕ))) : Type 0 where
@@ -111,16 +70,16 @@ pub record Gives (e : SysExMessage) (bad long : Option Refusal) (voice : Option 
 pub long_gives : (e : SysExMessage) → is_too_long e ≡ true → Gives e (Some (TooLong e.offset)) (Some (TooLong e.offset)) None None
 long_gives e h = record { bad_is = rw h refl; long_is = rw h refl; voice_is = rw h refl; cartridge_is = rw h refl }
 
-pub fault_gives : (e : SysExMessage) (fault : FrameFault) → is_too_long e ≡ false → first_fault e.text ≡ Some fault → Gives e (fault_at e.offset (Some fault)) None None None
+pub fault_gives : (e : SysExMessage) (fault : FrameFault) → is_too_long e ≡ false → first_fault e.bytes ≡ Some fault → Gives e (fault_at e.offset (Some fault)) None None None
 fault_gives e fault h is =
-    let nothing : content e.text ≡ None = no_content e.text fault is in
+    let nothing : content e.bytes ≡ None = no_content e.bytes fault is in
     record { bad_is = rw (h, is) refl; long_is = rw h refl; voice_is = rw (h, nothing) refl; cartridge_is = rw (h, nothing) refl }
 
-pub frame_gives : (e : SysExMessage) (held : Content) → is_too_long e ≡ false → IsFrame e.text held
+pub frame_gives : (e : SysExMessage) (held : Content) → is_too_long e ≡ false → IsFrame e.bytes held
     → Gives e None None (option_map clamped_voice (voice_bytes held)) (option_map voices_of (cartridge_bytes held))
 frame_gives e held h is =
-    let something : content e.text ≡ Some held = content_of_frame e.text held is in
-    let faultless : first_fault e.text ≡ None = faultless_frame e.text held is in
+    let something : content e.bytes ≡ Some held = content_of_frame e.bytes held is in
+    let faultless : first_fault e.bytes ≡ None = faultless_frame e.bytes held is in
     record { bad_is = rw (h, faultless) refl; long_is = rw h refl; voice_is = rw (h, something) refl; cartridge_is = rw (h, something) refl }
 
 pub given_more : (old now : Scan) (messages : List SysExMessage) (e : SysExMessage) (bad long : Option Refusal) (voice : Option (List ℕ)) (cartridge : Option (List (List ℕ)))
@@ -135,9 +94,9 @@ given_more old now messages e bad long voice cartridge was g a b c d =
 
 -- whatever messages there were, the one that ended is after them
 abbrev pub Takes : Scan → Scan → Ended → List ℕ → Type 0
-Takes old now ended text =
+Takes old now ended message =
     (messages : List SysExMessage) (sysex : SysExMessage) → (ended.offset ≡ sysex.offset) × (ended.is_too_long ≡ is_too_long sysex)
-    → (is_too_long sysex ≡ false → text ≡ sysex.text) → IsScan old messages → IsScan now (messages ++ sysex ∷ [])
+    → (is_too_long sysex ≡ false → message ≡ sysex.bytes) → IsScan old messages → IsScan now (messages ++ sysex ∷ [])
 
 -- one more byte
 pub none_taken : (scan : Scan) (file : List ℕ) (offset : ℕ) → TellsOf None (sysex_at file offset)
@@ -162,32 +121,32 @@ on_ok_more (Ok x) p along = along p
 on_ok_more (Err e) p along = tt
 
 -- one more message
-pub long_taken : (old now : Scan) (ended : Ended) (text : List ℕ) → ended.is_too_long ≡ true
+pub long_taken : (old now : Scan) (ended : Ended) (message : List ℕ) → ended.is_too_long ≡ true
     → now.bad ≡ option_or old.bad (Some (TooLong ended.offset)) → now.long ≡ option_or old.long (Some (TooLong ended.offset))
     → now.voice ≡ old.voice → now.cartridge ≡ old.cartridge
-    → Takes old now ended text
-long_taken old now ended text long a b c d = λ messages e tells same was.
+    → Takes old now ended message
+long_taken old now ended message long a b c d = λ messages e tells same was.
     given_more old now messages e (Some (TooLong e.offset)) (Some (TooLong e.offset)) None None was (long_gives e (sym (tells.1) ∙ long))
     (a ∙ ap (λ (p : ℕ). option_or old.bad (Some (TooLong p))) (tells.0)) (b ∙ ap (λ (p : ℕ). option_or old.long (Some (TooLong p))) (tells.0))
     (c ∙ sym (or_none old.voice)) (d ∙ sym (or_none old.cartridge))
 
-pub fault_taken : (old now : Scan) (ended : Ended) (text : List ℕ) (fault : FrameFault) → ended.is_too_long ≡ false → first_fault text ≡ Some fault
+pub fault_taken : (old now : Scan) (ended : Ended) (message : List ℕ) (fault : FrameFault) → ended.is_too_long ≡ false → first_fault message ≡ Some fault
     → now.bad ≡ option_or old.bad (fault_at ended.offset (Some fault)) → now.long ≡ old.long
     → now.voice ≡ old.voice → now.cartridge ≡ old.cartridge
-    → Takes old now ended text
-fault_taken old now ended text fault short is a b c d = λ messages e tells same was.
+    → Takes old now ended message
+fault_taken old now ended message fault short is a b c d = λ messages e tells same was.
     let e_short : is_too_long e ≡ false = sym (tells.1) ∙ short in
     given_more old now messages e (fault_at e.offset (Some fault)) None None None was (fault_gives e fault e_short (ap first_fault (sym (same e_short)) ∙ is))
     (a ∙ ap (λ (p : ℕ). option_or old.bad (fault_at p (Some fault))) (tells.0)) (b ∙ sym (or_none old.long))
     (c ∙ sym (or_none old.voice)) (d ∙ sym (or_none old.cartridge))
 
-pub frame_scanned : {T E : Type 0} (r : Result T E) (old now : Scan) (ended : Ended) (text : List ℕ) (held : Content) → ended.is_too_long ≡ false → IsFrame text held
+pub frame_scanned : {T E : Type 0} (r : Result T E) (old now : Scan) (ended : Ended) (message : List ℕ) (held : Content) → ended.is_too_long ≡ false → IsFrame message held
     → now.bad ≡ old.bad → now.long ≡ old.long
     → OnOk r (now.voice ≡ option_or old.voice (option_map clamped_voice (voice_bytes held)))
     → OnOk r (now.cartridge ≡ option_or old.cartridge (option_map voices_of (cartridge_bytes held)))
-    → OnOk r (Takes old now ended text)
-frame_scanned (Err x) old now ended text held short is a b c d = tt
-frame_scanned (Ok x) old now ended text held short is a b c d = λ messages e tells same was.
+    → OnOk r (Takes old now ended message)
+frame_scanned (Err x) old now ended message held short is a b c d = tt
+frame_scanned (Ok x) old now ended message held short is a b c d = λ messages e tells same was.
     let e_short : is_too_long e ≡ false = sym (tells.1) ∙ short in
     given_more old now messages e None None (option_map clamped_voice (voice_bytes held)) (option_map voices_of (cartridge_bytes held)) was
     (frame_gives e held e_short (subst (λ (t : List ℕ). IsFrame t held) (same e_short) is))

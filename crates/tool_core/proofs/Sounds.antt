@@ -1,4 +1,4 @@
--- The bytes of a sound file, piece by piece.
+-- The bytes of a sound file, chunk by chunk.
 use Rattle.take_files.specs.Playback.{PlaybackView}
 use Rattle.std.proofs.Common.{◌≡◌, ℕ, zero, suc, ◌+◌, ◌*◌, ◌≤◌, ◌-◌, List, [], ◌∷◌, ◌++◌, length, drop, refl, sym, ◌∙◌, ap, subst, arith, append_assoc, append-nil, length-append}
 use Rattle.std.specs.Prelude.{ℤ, Option, Some, None, option_map}
@@ -11,7 +11,7 @@ use Rattle.instrument.specs.Journal.{sound, state_at}
 use Rattle.take_files.specs.Files.{wav, wav_header, wav_block, wav_blocks, sample_bytes}
 use Rattle.tool_core.specs.Comparisons.{IsPrefix}
 use Rattle.tool_core.proofs.Writings.{with_out}
-use Rattle.tool_core.proofs.Prefixes.{first_differs, front_more, front_differs}
+use Rattle.tool_core.proofs.Prefixes.{first_differs, prefix_more, prefix_differs}
 
 -- the header and the first blocks
 abbrev pub begun : List LoggedData → ℕ → ℕ → List ℕ
@@ -53,11 +53,11 @@ begun_all journal blocks b is = ap (begun journal blocks) is
 pub length-wav : (journal : List LoggedData) (blocks : ℕ) → length (wav journal blocks) ≡ 44 + 128 * blocks
 length-wav journal blocks = ap length (sym (begun_all journal blocks blocks refl)) ∙ length-begun journal blocks blocks
 
--- a piece more
-pub begun_more : (journal : List LoggedData) (blocks from to : ℕ) (piece : List ℕ) → wav_blocks journal to ≡ wav_blocks journal from ++ piece
-    → begun journal blocks to ≡ begun journal blocks from ++ piece
-begun_more journal blocks from to piece is =
-    ap (λ (l : List ℕ). wav_header blocks ++ l) is ∙ sym (append_assoc (wav_header blocks) (wav_blocks journal from) piece)
+-- a chunk more
+pub begun_more : (journal : List LoggedData) (blocks from to : ℕ) (chunk : List ℕ) → wav_blocks journal to ≡ wav_blocks journal from ++ chunk
+    → begun journal blocks to ≡ begun journal blocks from ++ chunk
+begun_more journal blocks from to chunk is =
+    ap (λ (l : List ℕ). wav_header blocks ++ l) is ∙ sym (append_assoc (wav_header blocks) (wav_blocks journal from) chunk)
 
 -- what is begun is a prefix of the whole
 pub record Begins (prefix whole : List ℕ) : Type 0 where
@@ -95,26 +95,26 @@ header_differs journal file header blocks offset is differs =
     (ap (λ (h : List ℕ). h ++ b.more) (is ∙ sym (begun_none journal blocks)) ∙ sym b.is)
     (first_differs file header b.more offset differs)
 
-pub header_front : (journal : List LoggedData) (file header : List ℕ) (blocks : ℕ) → header ≡ wav_header blocks → IsPrefix (drop 0 file) header None
+pub header_prefix : (journal : List LoggedData) (file header : List ℕ) (blocks : ℕ) → header ≡ wav_header blocks → IsPrefix (drop 0 file) header None
     → IsPrefix file (begun journal blocks 0) None
-header_front journal file header blocks is (rest, same) = (rest, same ∙ ap (λ (h : List ℕ). h ++ rest) (is ∙ sym (begun_none journal blocks)))
+header_prefix journal file header blocks is (rest, same) = (rest, same ∙ ap (λ (h : List ℕ). h ++ rest) (is ∙ sym (begun_none journal blocks)))
 
-module _ (journal : List LoggedData) (file piece : List ℕ) (blocks from to at : ℕ) (is_at : at ≡ 44 + 128 * from)
-    (is : wav_blocks journal to ≡ wav_blocks journal from ++ piece) (prefix : IsPrefix file (begun journal blocks from) None) where
-  pub piece_front : IsPrefix (drop at file) piece None → IsPrefix file (begun journal blocks to) None
-  piece_front next =
-      subst (λ (l : List ℕ). IsPrefix file l None) (sym (begun_more journal blocks from to piece is))
-      (front_more file (begun journal blocks from) piece at prefix (is_at ∙ sym (length-begun journal blocks from)) next)
+module _ (journal : List LoggedData) (file chunk : List ℕ) (blocks from to at : ℕ) (is_at : at ≡ 44 + 128 * from)
+    (is : wav_blocks journal to ≡ wav_blocks journal from ++ chunk) (prefix : IsPrefix file (begun journal blocks from) None) where
+  pub chunk_prefix : IsPrefix (drop at file) chunk None → IsPrefix file (begun journal blocks to) None
+  chunk_prefix next =
+      subst (λ (l : List ℕ). IsPrefix file l None) (sym (begun_more journal blocks from to chunk is))
+      (prefix_more file (begun journal blocks from) chunk at prefix (is_at ∙ sym (length-begun journal blocks from)) next)
 
-  pub sound_differs : (offset : ℕ) → to ≤ blocks → IsPrefix (drop at file) piece (Some offset) → IsPrefix file (wav journal blocks) (Some (at + offset))
+  pub sound_differs : (offset : ℕ) → to ≤ blocks → IsPrefix (drop at file) chunk (Some offset) → IsPrefix file (wav journal blocks) (Some (at + offset))
   sound_differs offset within differs =
       let b = begins journal blocks to within in
       subst (λ (w : List ℕ). IsPrefix file w (Some (at + offset)))
-      (ap (λ (l : List ℕ). l ++ b.more) (sym (begun_more journal blocks from to piece is)) ∙ sym b.is)
-      (front_differs file (begun journal blocks from) piece b.more at offset prefix (is_at ∙ sym (length-begun journal blocks from)) differs)
+      (ap (λ (l : List ℕ). l ++ b.more) (sym (begun_more journal blocks from to chunk is)) ∙ sym b.is)
+      (prefix_differs file (begun journal blocks from) chunk b.more at offset prefix (is_at ∙ sym (length-begun journal blocks from)) differs)
 
-pub sound_front : (journal : List LoggedData) (file : List ℕ) (blocks b : ℕ) → b ≡ blocks → IsPrefix file (begun journal blocks b) None → IsPrefix file (wav journal blocks) None
-sound_front journal file blocks b is prefix = subst (λ (l : List ℕ). IsPrefix file l None) (begun_all journal blocks b is) prefix
+pub sound_prefix : (journal : List LoggedData) (file : List ℕ) (blocks b : ℕ) → b ≡ blocks → IsPrefix file (begun journal blocks b) None → IsPrefix file (wav journal blocks) None
+sound_prefix journal file blocks b is prefix = subst (λ (l : List ℕ). IsPrefix file l None) (begun_all journal blocks b is) prefix
 
 -- ---- a file that is written with it
 pub header_begins : (journal : List LoggedData) (blocks : ℕ) (header : List ℕ) → header ≡ wav_header blocks → Begins header (wav journal blocks)
@@ -122,29 +122,29 @@ header_begins journal blocks header is =
     let b = begins journal blocks 0 (omega arith) in
     record { more = b.more; is = b.is ∙ ap (λ (h : List ℕ). h ++ b.more) (begun_none journal blocks ∙ sym is) }
 
-pub piece_begins : (journal : List LoggedData) (blocks from to : ℕ) (piece : List ℕ) → to ≤ blocks → wav_blocks journal to ≡ wav_blocks journal from ++ piece
-    → Begins (begun journal blocks from ++ piece) (wav journal blocks)
-piece_begins journal blocks from to piece within is =
+pub chunk_begins : (journal : List LoggedData) (blocks from to : ℕ) (chunk : List ℕ) → to ≤ blocks → wav_blocks journal to ≡ wav_blocks journal from ++ chunk
+    → Begins (begun journal blocks from ++ chunk) (wav journal blocks)
+chunk_begins journal blocks from to chunk within is =
     let b = begins journal blocks to within in
-    record { more = b.more; is = b.is ∙ ap (λ (l : List ℕ). l ++ b.more) (begun_more journal blocks from to piece is) }
+    record { more = b.more; is = b.is ∙ ap (λ (l : List ℕ). l ++ b.more) (begun_more journal blocks from to chunk is) }
 
 pub header_begun : (journal : List LoggedData) (blocks : ℕ) (header : List ℕ) → header ≡ wav_header blocks → (out : List ℕ) (o : Option Files)
     → option_map (with_out out header) o ≡ option_map (with_out out (begun journal blocks 0)) o
 header_begun journal blocks header is out o = ap (λ (l : List ℕ). option_map (with_out out l) o) (is ∙ sym (begun_none journal blocks))
 
-pub piece_begun : (journal : List LoggedData) (blocks from to : ℕ) (piece : List ℕ) → wav_blocks journal to ≡ wav_blocks journal from ++ piece → (out : List ℕ) (o : Option Files)
-    → option_map (with_out out (begun journal blocks from ++ piece)) o ≡ option_map (with_out out (begun journal blocks to)) o
-piece_begun journal blocks from to piece is out o = ap (λ (l : List ℕ). option_map (with_out out l) o) (sym (begun_more journal blocks from to piece is))
+pub chunk_begun : (journal : List LoggedData) (blocks from to : ℕ) (chunk : List ℕ) → wav_blocks journal to ≡ wav_blocks journal from ++ chunk → (out : List ℕ) (o : Option Files)
+    → option_map (with_out out (begun journal blocks from ++ chunk)) o ≡ option_map (with_out out (begun journal blocks to)) o
+chunk_begun journal blocks from to chunk is out o = ap (λ (l : List ℕ). option_map (with_out out l) o) (sym (begun_more journal blocks from to chunk is))
 
 pub sound_written : (journal : List LoggedData) (blocks b : ℕ) → b ≡ blocks → (out : List ℕ) (o : Option Files)
     → option_map (with_out out (begun journal blocks b)) o ≡ option_map (with_out out (wav journal blocks)) o
 sound_written journal blocks b is out o = ap (λ (l : List ℕ). option_map (with_out out l) o) (begun_all journal blocks b is)
 
 -- ---- what a playback renders next
-pub chunk_bytes : (p : PlaybackView) (journal : List LoggedData) (from count : ℕ) (piece items : List ℕ) → p.journal ≡ journal → p.block ≡ from
-    → wav_blocks p.journal (p.block + count) ≡ wav_blocks p.journal p.block ++ items → piece ≡ items
-    → wav_blocks journal (from + count) ≡ wav_blocks journal from ++ piece
-chunk_bytes p journal from count piece items same at is whole =
+pub chunk_bytes : (p : PlaybackView) (journal : List LoggedData) (from count : ℕ) (chunk items : List ℕ) → p.journal ≡ journal → p.block ≡ from
+    → wav_blocks p.journal (p.block + count) ≡ wav_blocks p.journal p.block ++ items → chunk ≡ items
+    → wav_blocks journal (from + count) ≡ wav_blocks journal from ++ chunk
+chunk_bytes p journal from count chunk items same at is whole =
     sym (ap (λ (j : List LoggedData). wav_blocks j (p.block + count)) same ∙ ap (λ (n : ℕ). wav_blocks journal (n + count)) at)
     ∙ is
     ∙ ap (λ (j : List LoggedData). wav_blocks j p.block ++ items) same ∙ ap (λ (n : ℕ). wav_blocks journal n ++ items) at

@@ -31,23 +31,23 @@ pub sysex_next : (file : List ℕ) (offset : ℕ) → sysex_before file (offset 
 unfolding sysex_before
 sysex_next file offset = rw add-one refl
 
-chosen_text : (t : Bool) (offset : ℕ) (text : Option (List ℕ)) (e : SysExMessage)
-    → (if t then Rattle.std.specs.Prelude.option_map (λ bytes. record { offset = offset; text = bytes }) text else None) ≡ Some e → text ≡ Some e.text
-chosen_text true offset None e h = absurd (cc)
-chosen_text true offset (Some bytes) e h = let is : record { offset = offset; text = bytes } ≡ e = cc in ap (λ (x : SysExMessage). Some x.text) is
-chosen_text false offset text e h = absurd (cc)
+chosen_bytes : (t : Bool) (offset : ℕ) (last : Option (List ℕ)) (e : SysExMessage)
+    → (if t then Rattle.std.specs.Prelude.option_map (λ bytes. record { offset = offset; bytes = bytes }) last else None) ≡ Some e → last ≡ Some e.bytes
+chosen_bytes true offset None e h = absurd (cc)
+chosen_bytes true offset (Some bytes) e h = let is : record { offset = offset; bytes = bytes } ≡ e = cc in ap (λ (x : SysExMessage). Some x.bytes) is
+chosen_bytes false offset last e h = absurd (cc)
 
-pub placed_text : (m : Option MidiMessage) (offset : ℕ) (text : Option (List ℕ)) (e : SysExMessage) → placed m offset text ≡ Some e → text ≡ Some e.text
-placed_text None offset text e h = absurd (cc)
-placed_text (Some m) offset text e h = chosen_text (is_sysex m) offset text e h
+pub placed_bytes : (m : Option MidiMessage) (offset : ℕ) (last : Option (List ℕ)) (e : SysExMessage) → placed m offset last ≡ Some e → last ≡ Some e.bytes
+placed_bytes None offset last e h = absurd (cc)
+placed_bytes (Some m) offset last e h = chosen_bytes (is_sysex m) offset last e h
 
-pub sysex_text : (file : List ℕ) (offset : ℕ) (e : SysExMessage) → sysex_at file offset ≡ Some e → last_sysex (take (offset + 1) file) ≡ Some e.text
+pub sysex_bytes : (file : List ℕ) (offset : ℕ) (e : SysExMessage) → sysex_at file offset ≡ Some e → last_sysex (take (offset + 1) file) ≡ Some e.bytes
 unfolding sysex_at
-sysex_text file offset e h = placed_text (message_at file offset) (start_before file offset) (last_sysex (take (offset + 1) file)) e h
+sysex_bytes file offset e h = placed_bytes (message_at file offset) (start_before file offset) (last_sysex (take (offset + 1) file)) e h
 
-pub kept_text : (text : Option (List ℕ)) (e : SysExMessage) (kept : List ℕ) → text ≡ Some e.text → is_too_long e ≡ false
-    → IfSome text (λ bytes. length bytes ≤ 5000 → kept ≡ bytes) → kept ≡ e.text
-kept_text text e kept is short h =
-    let at : length e.text ≤ 5000 → kept ≡ e.text = rw is at h in
-    let fits : length e.text ≤ 5000 = ltb-false 5000 (length e.text) short in
+pub kept_bytes : (last : Option (List ℕ)) (e : SysExMessage) (kept : List ℕ) → last ≡ Some e.bytes → is_too_long e ≡ false
+    → IfSome last (λ bytes. length bytes ≤ 5000 → kept ≡ bytes) → kept ≡ e.bytes
+kept_bytes last e kept is short h =
+    let at : length e.bytes ≤ 5000 → kept ≡ e.bytes = rw is at h in
+    let fits : length e.bytes ≤ 5000 = ltb-false 5000 (length e.bytes) short in
     at fits

@@ -25,11 +25,11 @@ pub begun_at_create : (o now : Option Files) (out text : List ℕ) → now ≡ o
 begun_at_create None now out text is = tt
 begun_at_create (Some m) now out text is = rw is (begun_none m out text)
 
-some_appended : (o first now : Option Files) (out piece : List ℕ) → first ≡ option_map (created out) o → now ≡ option_map (appended out piece) first
-    → now ≡ option_map (with_out out piece) o
-some_appended o first now out piece made is =
-    is ∙ ap (option_map (appended out piece)) made ∙ then_mapped (created out) (appended out piece) o
-    ∙ mapped_alike _ _ (λ m. appended_created m out piece) o
+some_appended : (o first now : Option Files) (out chunk : List ℕ) → first ≡ option_map (created out) o → now ≡ option_map (appended out chunk) first
+    → now ≡ option_map (with_out out chunk) o
+some_appended o first now out chunk made is =
+    is ∙ ap (option_map (appended out chunk)) made ∙ then_mapped (created out) (appended out chunk) o
+    ∙ mapped_alike _ _ (λ m. appended_created m out chunk) o
 
 prefix_begun : (o now : Option Files) (out text : List ℕ) (count : ℕ) → now ≡ option_map (with_out out (take count text)) o
     → IfSome o (λ m. BeginsOut m now out text)
@@ -55,24 +55,24 @@ has_created (Some m) first out is lacks =
     let some : is_some (get (insert m out []) out) ≡ true = ap is_some (get-insert_same m out []) in
     cc
 
--- ---- a file that is written piece by piece
-pub piece_written : (o before now : Option Files) (out prefix piece : List ℕ) → before ≡ option_map (with_out out prefix) o → now ≡ option_map (appended out piece) before
-    → now ≡ option_map (with_out out (prefix ++ piece)) o
-piece_written o before now out prefix piece was is =
-    is ∙ ap (option_map (appended out piece)) was ∙ then_mapped (with_out out prefix) (appended out piece) o
-    ∙ mapped_alike _ _ (λ m. appended_second m out prefix piece) o
+-- ---- a file that is written chunk by chunk
+pub chunk_written : (o before now : Option Files) (out prefix chunk : List ℕ) → before ≡ option_map (with_out out prefix) o → now ≡ option_map (appended out chunk) before
+    → now ≡ option_map (with_out out (prefix ++ chunk)) o
+chunk_written o before now out prefix chunk was is =
+    is ∙ ap (option_map (appended out chunk)) was ∙ then_mapped (with_out out prefix) (appended out chunk) o
+    ∙ mapped_alike _ _ (λ m. appended_second m out prefix chunk) o
 
-pub begun_at_piece : (o before now : Option Files) (out prefix piece more whole : List ℕ) → before ≡ option_map (with_out out prefix) o → whole ≡ (prefix ++ piece) ++ more
-    → AppendedSome out piece before now → IfSome o (λ m. BeginsOut m now out whole)
-begun_at_piece o before now out prefix piece more whole was is (inl same) =
+pub begun_at_chunk : (o before now : Option Files) (out prefix chunk more whole : List ℕ) → before ≡ option_map (with_out out prefix) o → whole ≡ (prefix ++ chunk) ++ more
+    → AppendedSome out chunk before now → IfSome o (λ m. BeginsOut m now out whole)
+begun_at_chunk o before now out prefix chunk more whole was is (inl same) =
     prefix_begun o now out whole (length prefix)
     (same ∙ was ∙ ap (λ (l : List ℕ). option_map (with_out out l) o)
-    (sym (ap (take (length prefix)) (is ∙ append_assoc prefix piece more) ∙ take-append_seam prefix (piece ++ more))))
-begun_at_piece o before now out prefix piece more whole was is (inr (count, fits, part)) =
+    (sym (ap (take (length prefix)) (is ∙ append_assoc prefix chunk more) ∙ take-append_seam prefix (chunk ++ more))))
+begun_at_chunk o before now out prefix chunk more whole was is (inr (count, fits, part)) =
     prefix_begun o now out whole (length prefix + count)
-    (piece_written o before now out prefix (take count piece) was part ∙ ap (λ (l : List ℕ). option_map (with_out out l) o)
-    (sym (ap (take (length prefix + count)) (is ∙ append_assoc prefix piece more) ∙ take-append-add prefix (piece ++ more) count
-    ∙ ap (λ (l : List ℕ). prefix ++ l) (take-append-le count piece more fits))))
+    (chunk_written o before now out prefix (take count chunk) was part ∙ ap (λ (l : List ℕ). option_map (with_out out l) o)
+    (sym (ap (take (length prefix + count)) (is ∙ append_assoc prefix chunk more) ∙ take-append-add prefix (chunk ++ more) count
+    ∙ ap (λ (l : List ℕ). prefix ++ l) (take-append-le count chunk more fits))))
 
 pub has_written : (o now : Option Files) (out text : List ℕ) → now ≡ option_map (with_out out text) o → Lacks now out → ⊥
 has_written None now out text is lacks = rw is at lacks

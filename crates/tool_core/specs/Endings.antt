@@ -1,4 +1,4 @@
--- What the functions of this crate promise to each other: how a command ends, in two cases.
+-- For private functions and proofs: how a command ends, in two cases.
 use Rattle.std.specs.Prelude.{◌≡◌, ◌⊎◌, ℕ, ◌<◌, List, length, Option, IfSome, IsSomeAnd, option_map}
 use Rattle.std.specs.FinMap.{get}
 use Rattle.outside.specs.Files.{Files, Lacks, said, SaidSome}

@@ -1,4 +1,5 @@
--- Why a command fails before it writes: the status and the line of each failure, and what it means for the file that was read.
+-- For private functions and proofs: why a command fails before it writes; the status and the line of each failure, and what it means for the file
+-- that was read.
 use Rattle.std.specs.Prelude.{◌≡◌, ◌⊎◌, ℕ, List, Option, IfSome}
 use Rattle.std.specs.FinMap.{get}
 use Rattle.outside.specs.Files.{Files, Lacks}

@@ -4,6 +4,7 @@ use Rattle.std.specs.Prelude.{Option, Some, None, if◌then◌else◌}
 use Rattle.std.specs.List.{flat_map}
 use Rattle.std.specs.Fmt.{signed_decimal}
 use Rattle.cartridge.specs.Cartridge.{voice_at}
+use Rattle.command_set.specs.Message.{clamped_voice}
 use Rattle.fault_text.specs.Text.{frame_text}
 use Rattle.sysex_frame.specs.Frame.{Content, VoiceDump, CartridgeDump, ParamChange, OtherChange, DumpRequest}
 use Rattle.tool_core.specs.declared.refusal.Refusal.{Refusal}
@@ -11,7 +12,7 @@ use Rattle.take_files.specs.declared.read.OrderKind.{OrderKind}
 use Rattle.take_files.specs.declared.read.OrderKind.TheVariants.{Line, Block, Script, Sequence, Many}
 use Rattle.tool_core.specs.declared.refusal.Refusal.TheVariants.{TooLong, Fault, Cut, NoVoice, NoCartridge, Order}
 use Rattle.tool_core.specs.SysEx.{SysExMessage, sysex_messages, sysex_before}
-use Rattle.tool_core.specs.Refusals.{clamped_voice, message_content}
+use Rattle.tool_core.specs.Refusals.{message_content}
 
 unfoldable pub usage : List ℕ
 usage = codes "usage: tool COMMAND WORDS..." ++ 10 ∷ []

@@ -1,7 +1,7 @@
 -- What a command leaves, by its status.
 use Rattle.std.specs.Prelude.{◌≡◌, ◌≢◌, ◌⊎◌, ℕ, List, [], ◌∷◌, ◌++◌, Option, IfSome, option_map}
 use Rattle.std.specs.FinMap.{get}
-use Rattle.outside.specs.Files.{Files, Lacks, IsBegun, file_of, said, SaidSome}
+use Rattle.outside.specs.Files.{Files, Lacks, IsFileBegun, file_of, said, SaidSome}
 use Rattle.outside.specs.Faults.{Rose}
 use Rattle.outside.specs.Snapshot.{Snapshot}
 use Rattle.fault_lines.specs.Lines.{Says, cannot_read, cannot_write, limit_file, limit_commands, out_of_memory}
@@ -42,7 +42,7 @@ pub record IsUnread (request : RequestData) (before now : Snapshot) : Type 0 whe
 
 -- a file is as before or a prefix of its whole bytes, and all others are as before
 pub record BeginsOut (before : Files) (now : Option Files) (name text : List ℕ) : Type 0 where
-  pub begun : IsBegun (get before name) (file_of now name) text
+  pub begun : IsFileBegun (get before name) (file_of now name) text
   pub others : (other : List ℕ) → other ≢ name → file_of now other ≡ get before other
 
 -- 3, of a file: A write of it failed and was counted. Those written before it are whole, it is as before or begun, and all others are as before.

@@ -1,4 +1,4 @@
--- Why some files can't be packed.
+-- For private functions and proofs: why some files can't be packed.
 use Rattle.std.specs.Prelude.{ℕ, ◌≡◌, List, [], map, take, slice_index_or, Option, IfSome}
 use Rattle.outside.specs.Files.{Files}
 use Rattle.tool_core.specs.declared.failure.Failure.{Failure}

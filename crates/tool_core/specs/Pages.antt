@@ -1,4 +1,4 @@
--- A report that is put page by page.
+-- For private functions and proofs: a report that is put page by page.
 use Rattle.std.specs.Prelude.{◌≡◌, ◌⊎◌, ℕ, List, ◌++◌, Option, option_map}
 use Rattle.outside.specs.Files.{said, SaidSome}
 

@@ -1,14 +1,13 @@
 -- Why a file is refused.
-use Rattle.std.specs.Prelude.{ℕ, ◌%◌, min, Bool, true, false, List, [], ◌∷◌, length, map, slice_index, Option, Some, None}
+use Rattle.std.specs.Prelude.{ℕ, Bool, true, false, List, [], ◌∷◌, length, Option, Some, None}
 use Rattle.std.specs.Prelude.{is_none, option_map, option_and_then, if◌then◌else◌}
-use Rattle.std.specs.List.{range_with_len}
 use Rattle.std.specs.Option.{option_or}
 use Rattle.midi_stream.specs.Messages.{is_unfinished}
-use Rattle.voice_record.specs.Voice.{greatest_value}
 use Rattle.cartridge.specs.Cartridge.{voices_of}
 use Rattle.sysex_frame.specs.Frame.{Content, VoiceDump, CartridgeDump, ParamChange, OtherChange, DumpRequest}
 use Rattle.sysex_frame.specs.FrameFault.{first_fault}
 use Rattle.sysex_frame.specs.Reading.{reading}
+use Rattle.command_set.specs.Message.{clamped_voice}
 use Rattle.sysex_frame.specs.declared.frame.FrameFault.{FrameFault}
 use Rattle.sysex_frame.specs.declared.frame.FrameFault.TheVariants.{NotFramed, NotYamaha, DataByte, Short, UnknownSubstatus}
 use Rattle.sysex_frame.specs.declared.frame.FrameFault.TheVariants.{UnknownFormat, CountBytes, Length, Checksum, ParamValue}
@@ -18,7 +17,7 @@ use Rattle.tool_core.specs.SysEx.{SysExMessage, sysex_messages, is_too_long}
 
 -- what a message holds, where it has no fault
 unfoldable pub content : List ℕ → Option Content
-content text = if is_none (first_fault text) then Some (reading text) else None
+content message = if is_none (first_fault message) then Some (reading message) else None
 
 -- the first answer that some messages give
 abbrev pub first_some : {X : Type 0} → (SysExMessage → Option X) → List SysExMessage → Option X
@@ -49,7 +48,7 @@ long_refusal sysex = if is_too_long sysex then Some (TooLong sysex.offset) else 
 -- one with another fault where all messages are looked at
 abbrev pub message_refusal : SysExMessage → Option Refusal
 message_refusal sysex =
-    if is_too_long sysex then Some (TooLong sysex.offset) else fault_at sysex.offset (first_fault sysex.text)
+    if is_too_long sysex then Some (TooLong sysex.offset) else fault_at sysex.offset (first_fault sysex.bytes)
 
 -- the bytes of a voice that a message holds
 abbrev pub voice_bytes : Content → Option (List ℕ)
@@ -67,12 +66,8 @@ cartridge_bytes (ParamChange device number value) = None
 cartridge_bytes (OtherChange device group number) = None
 cartridge_bytes (DumpRequest device) = None
 
--- each number of a voice is the lesser of its byte modulo 128 and its greatest value
-unfoldable pub clamped_voice : List ℕ → List ℕ
-clamped_voice bytes = map (λ number. min (slice_index bytes number % 128) (greatest_value number)) (range_with_len 0 155)
-
 abbrev pub message_content : SysExMessage → Option Content
-message_content sysex = if is_too_long sysex then None else content sysex.text
+message_content sysex = if is_too_long sysex then None else content sysex.bytes
 
 abbrev pub message_voice : SysExMessage → Option (List ℕ)
 message_voice sysex = option_map clamped_voice (option_and_then voice_bytes (message_content sysex))

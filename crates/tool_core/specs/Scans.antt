@@ -1,4 +1,4 @@
--- The scan of a file: how far it went, and what is known of the messages so far.
+-- For private functions and proofs: the scan of a file, how far it went, and what is known of the messages so far.
 use Rattle.std.specs.Prelude.{ℕ, ◌≡◌, List, length, take, Option, Some, None}
 use Rattle.midi_stream.specs.Reading.{Reads}
 use Rattle.sysex_frame.specs.Frame.{Content, VoiceDump, CartridgeDump, ParamChange, OtherChange, DumpRequest}

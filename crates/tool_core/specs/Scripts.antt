@@ -1,4 +1,4 @@
--- Files of scripts that are written, as the program holds them.
+-- For private functions and proofs: files of scripts that are written, as the program holds them.
 use Rattle.std.specs.Prelude.{◌≡◌, ℕ, List, ◌∷◌, ◌++◌, length, string_bytes, Option, IfSome}
 use Rattle.outside.specs.Files.{Files}
 use Rattle.tool_core.specs.declared.generate.ScriptFile.{ScriptFile}

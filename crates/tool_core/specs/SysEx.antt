@@ -18,11 +18,11 @@ start_before bytes (suc offset) = if slice_index bytes offset == 240 then offset
 -- a SysEx message: the offset of its F0 among all bytes of the file, and its bytes from F0 to F7
 pub record SysExMessage : Type 0 where
   pub offset : ℕ
-  pub text : List ℕ
+  pub bytes : List ℕ
 
 -- it has more than 5000 bytes
 abbrev pub is_too_long : SysExMessage → Bool
-is_too_long sysex = nat_lt 5000 (length sysex.text)
+is_too_long sysex = nat_lt 5000 (length sysex.bytes)
 
 -- a message is a SysEx one
 abbrev pub is_sysex : MidiMessage → Bool
@@ -38,9 +38,9 @@ is_sysex (SysExTooLong count) = true
 
 -- a message with its offset and its bytes, where it is a SysEx one
 abbrev pub placed : Option MidiMessage → ℕ → Option (List ℕ) → Option SysExMessage
-placed None offset text = None
-placed (Some message) offset text =
-    if is_sysex message then option_map (λ bytes. record { offset = offset; text = bytes }) text else None
+placed None offset kept = None
+placed (Some message) offset kept =
+    if is_sysex message then option_map (λ bytes. record { offset = offset; bytes = bytes }) kept else None
 
 -- the SysEx message that ends with the byte at an offset
 unfoldable pub sysex_at : List ℕ → ℕ → Option SysExMessage

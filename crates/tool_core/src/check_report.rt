@@ -55,7 +55,7 @@ pub fn put_check<O: Out>(out: &mut O, scanner: Scanner, file: &[u8]) -> u8
     }
 }
 
-/// Takes the byte at an offset, and puts the line of the message that ends with it; answers how many ended.
+/// Reads the byte at an offset, and puts the line of the message that ends with it; answers how many ended.
 fn put_byte<O: Out>(
     out: &mut O,
     page: &mut Page,
@@ -78,7 +78,7 @@ fn put_byte<O: Out>(
 {
     match scanner.feed(offset, byte) {
         Some(ended) => {
-            let line = message_line(ended, scanner.text());
+            let line = message_line(ended, scanner.message());
             match put_line(out, page, line.as_slice()) {
                 Ok(()) => Ok(1),
                 Err(failed) => Err(failed),
@@ -89,15 +89,15 @@ fn put_byte<O: Out>(
 }
 
 /// The line of a message that has ended.
-fn message_line(ended: Ended, text: &[u8]) -> Line
-    requires { length text.now ≤ 5000 }
-    ensures { (sysex : SysExMessage) → TellsOf (Some ended) (Some sysex) → (is_too_long sysex ≡ false → text.now ≡ sysex.text)
+fn message_line(ended: Ended, message: &[u8]) -> Line
+    requires { length message.now ≤ 5000 }
+    ensures { (sysex : SysExMessage) → TellsOf (Some ended) (Some sysex) → (is_too_long sysex ≡ false → message.now ≡ sysex.bytes)
         → result.items ≡ lines.message_line sysex }
 {
     if ended.is_too_long {
         return other_line();
     }
-    match read_frame(text) {
+    match read_frame(message) {
         Ok(frame) => frame_line(frame),
         Err(_) => other_line(),
     }

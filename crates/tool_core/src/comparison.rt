@@ -1,4 +1,4 @@
-//! A file that is compared with the sound of a journal, piece by piece.
+//! A file that is compared with the sound of a journal, chunk by chunk.
 
 ghost use Rattle.std.specs.Prelude.{ℕ, List, ◌≡◌, ◌+◌, ◌-◌, ◌*◌, ◌<◌, ◌≤◌, ◌++◌, Option, IfErr, IfOk, IfSome, IsErr, OnOk, drop, length, take};
 ghost use Rattle.take_files.specs.Files.{wav, wav_blocks};
@@ -13,8 +13,8 @@ use arrayvec::ArrayVec;
 use outside::{Failed, Shelf};
 use take_files::{Chunk, Playback, wav_header};
 
-/// A piece of the sound: the bytes of up to 512 blocks.
-type SoundPiece = ArrayVec<u8, 65536>;
+/// A chunk of the sound: the bytes of up to 512 blocks.
+type SoundChunk = ArrayVec<u8, 65536>;
 
 /// The most bytes of a sound file.
 const SOUND_LIMIT: u32 = 140_000_000;
@@ -75,18 +75,18 @@ fn compare_sound<S: Shelf>(
         (Lacks (S.files shelf.old) name.now) result }
     ensures files { S.files shelf.new ≡ S.files shelf.old }
 {
-    match compare_piece(shelf, name, 0, &wav_header(blocks)) {
+    match compare_sound_chunk(shelf, name, 0, &wav_header(blocks)) {
         Ok(None) => {}
         Ok(Some(offset)) => return Ok(Some(offset)),
         Err(failed) => return Err(failed),
     }
-    let mut piece = SoundPiece::new();
+    let mut chunk = SoundChunk::new();
     let mut from = 0;
-    'pieces: while from < blocks {
+    'chunks: while from < blocks {
         let count = (blocks - from).min(512);
-        render_piece(&mut playback, count, &mut piece);
+        render_sound_chunk(&mut playback, count, &mut chunk);
         let at = 44 + 128 * from;
-        match compare_piece(shelf, name, at, piece.as_slice()) {
+        match compare_sound_chunk(shelf, name, at, chunk.as_slice()) {
             Ok(None) => {}
             Ok(Some(offset)) => return Ok(Some(at + offset)),
             Err(failed) => return Err(failed),
@@ -96,8 +96,8 @@ fn compare_sound<S: Shelf>(
     Ok(None)
 }
 
-/// The bytes of the next blocks, up to 512, in the place of the piece.
-fn render_piece(playback: &mut Playback<'_>, count: u32, into: &mut SoundPiece)
+/// The bytes of the next blocks, up to 512, in the place of the chunk.
+fn render_sound_chunk(playback: &mut Playback<'_>, count: u32, into: &mut SoundChunk)
     requires few { count ≤ 512 }
     requires blocks { playback.old.block + count ≤ 1048576 }
     ensures bytes { wav_blocks playback.old.journal (playback.old.block + count)
@@ -117,33 +117,33 @@ fn render_piece(playback: &mut Playback<'_>, count: u32, into: &mut SoundPiece)
     }
 }
 
-/// Adds a chunk to a piece that has room for it.
-fn add_chunk(into: &mut SoundPiece, chunk: &[u8])
+/// Adds a chunk of the playback to a chunk that has room for it.
+fn add_chunk(into: &mut SoundChunk, chunk: &[u8])
     requires { length into.old.items + length chunk.now ≤ 65536 }
     ensures { into.new.items ≡ into.old.items ++ chunk.now }
 {
     let _ = into.try_extend_from_slice(chunk);
 }
 
-/// The first offset, counted from `at` on, at which a file differs from a piece that should stand there, or none where the piece does.
-fn compare_piece<S: Shelf>(
+/// The first offset, counted from `at` on, at which a file differs from a chunk that should stand there, or none where the chunk does.
+fn compare_sound_chunk<S: Shelf>(
     shelf: &mut S,
     name: &str,
     at: u32,
-    piece: &[u8],
+    chunk: &[u8],
 ) -> Result<Option<u32>, Failed>
     requires low { at ≤ 140000000 }
-    requires short { length piece.now ≤ 65536 }
+    requires short { length chunk.now ≤ 65536 }
     ensures compared { IfOk result (λ offset. (file : List ℕ) → file_of (S.files shelf.old) name.now ≡ Some file
-        → IsPrefix (drop at file) piece.now offset) }
-    ensures within { IfOk result (λ offset. IfSome offset (λ p. p < length piece.now)) }
+        → IsPrefix (drop at file) chunk.now offset) }
+    ensures within { IfOk result (λ offset. IfSome offset (λ p. p < length chunk.now)) }
     ensures cause { HasCause (S.reading shelf.old) (S.reading shelf.new) (S.writing shelf.old) (S.writing shelf.new)
         (Lacks (S.files shelf.old) name.now) result }
     ensures files { S.files shelf.new ≡ S.files shelf.old }
 {
     let mut done = 0usize;
-    'comparing: while done < piece.len() {
-        match compare_some(shelf, name, at + done as u32, &piece[done..]) {
+    'comparing: while done < chunk.len() {
+        match compare_some(shelf, name, at + done as u32, &chunk[done..]) {
             Ok(Step::Same(count)) => done += count,
             Ok(Step::Differs(offset)) => return Ok(Some((done + offset) as u32)),
             Err(failed) => return Err(failed),

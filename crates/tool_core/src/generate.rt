@@ -28,7 +28,7 @@ pub struct ScriptFile {
     pub text: Vec<u8>,
 }
 
-/// `gen SEED SCRIPTS COMMANDS`: so many generated scripts, each in a file of its own. All memory is taken first.
+/// `gen SEED SCRIPTS COMMANDS`: so many generated scripts, each in a file of its own. All memory is asked for first.
 pub fn generate<S: Shelf, O: Out>(
     alloc: Global,
     seed: u64,

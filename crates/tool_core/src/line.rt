@@ -48,12 +48,12 @@ pub fn refusal_line(why: Refusal) -> Line
         Refusal::Cut => line_of(b"cut\n"),
         Refusal::NoVoice => line_of(b"no voice\n"),
         Refusal::NoCartridge => line_of(b"no cartridge\n"),
-        Refusal::Order { line, kind } => order_line(line, kind),
+        Refusal::Order { line, kind } => order_refusal_line(line, kind),
     }
 }
 
 #[tactic(auto, unfolding(crate::specs::Lines::refusal_line))]
-fn order_line(number: u32, kind: OrderKind) -> Line
+fn order_refusal_line(number: u32, kind: OrderKind) -> Line
     ensures { result.items ≡ lines.refusal_line (Refusal.Order number kind) }
 {
     let mut line = Line::new();

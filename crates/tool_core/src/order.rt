@@ -35,7 +35,7 @@ pub fn read_order_file<S: Shelf>(alloc: Global, shelf: &mut S, name: &str) -> Re
     }
 }
 
-/// Feeds a file of at most 536,870,912 bytes to a reader, in pieces of 65,536 bytes. What the reader answers to a piece it
+/// Feeds a file of at most 536,870,912 bytes to a reader, in chunks of 65,536 bytes. What the reader answers to a chunk it
 /// answers at the end too, so the file is read to its end, whatever is wrong with a line: a later read that fails is told.
 fn feed_file<S: Shelf>(
     alloc: Global,
@@ -51,10 +51,10 @@ fn feed_file<S: Shelf>(
     ensures files { S.files shelf.new ≡ S.files shelf.old }
     ensures writing { S.writing shelf.new ≡ S.writing shelf.old }
 {
-    let mut piece = [0u8; 65536];
+    let mut chunk = [0u8; 65536];
     let mut at = 0u64;
     'feeding: loop {
-        let count = match shelf.read_at(name, at, &mut piece) {
+        let count = match shelf.read_at(name, at, &mut chunk) {
             Ok(count) => count,
             Err(_) => return Err(Failure::Unread),
         };
@@ -64,7 +64,7 @@ fn feed_file<S: Shelf>(
         if count as u64 > ORDER_LIMIT - at {
             return Err(Failure::TooLarge);
         }
-        let _ = reader.feed(alloc, &piece[..count]);
+        let _ = reader.feed(alloc, &chunk[..count]);
         at += count as u64;
     }
 }

@@ -1,4 +1,4 @@
-//! A report that is put page by page, so that it takes no memory.
+//! A report that is put page by page, so that it asks for no memory.
 
 ghost use Rattle.std.specs.Prelude.{ℕ, ◌≡◌, ◌≤◌, ◌+◌, [], ◌++◌, List, Option, length, OnOk, OnErr};
 ghost use Rattle.outside.specs.Faults.{HasCause};

@@ -37,7 +37,7 @@ pub fn replay<S: Shelf, O: Out>(
     }
 }
 
-/// Writes the sound of an order, and then the report. All memory is taken first.
+/// Writes the sound of an order, and then the report. All memory is asked for first.
 fn play_order<S: Shelf, O: Out>(
     alloc: Global,
     order: &Order,

@@ -8,9 +8,10 @@ ghost use Rattle.midi_stream.specs.Ranges.{InRange};
 ghost use Rattle.midi_stream.specs.Standing.{HasBytes};
 ghost use Rattle.cartridge.specs.Cartridge.{voices_of};
 ghost use Rattle.sysex_frame.specs.Frame.{content_of};
+ghost use Rattle.command_set.specs.Message.{clamped_voice};
 ghost use Rattle.tool_core.specs.SysEx.{SysExMessage, sysex_messages, sysex_before, is_too_long, placed};
 ghost use Rattle.tool_core.specs.Scans.{Follows, HasSizes, IsScan, TellsOf};
-ghost use Rattle.tool_core.specs.Refusals.{cartridge_bytes, clamped_voice, fault_at, voice_bytes};
+ghost use Rattle.tool_core.specs.Refusals.{cartridge_bytes, fault_at, voice_bytes};
 
 use crate::refusal::Refusal;
 use cartridge::Cartridge;
@@ -29,7 +30,7 @@ pub struct Ended {
 /// What a message of a stream tells of a SysEx message that began at an offset.
 pub fn ending_of(message: Option<MidiMessage>, offset: u32) -> Option<Ended>
     requires { IfSome message InRange }
-    ensures { (text : Option (List ℕ)) → IfSome message (λ m. HasBytes m text) → TellsOf result (placed message offset text) }
+    ensures { (kept : Option (List ℕ)) → IfSome message (λ m. HasBytes m kept) → TellsOf result (placed message offset kept) }
 {
     match message {
         Some(MidiMessage::SysEx { .. }) => Some(Ended {
@@ -64,7 +65,7 @@ impl Scanner {
     ghost use Rattle.tool_core.specs.SysEx.{SysExMessage, sysex_at, is_too_long};
     ghost use Rattle.tool_core.specs.Scans.{Follows, TellsOf};
 
-    /// A scanner that is to begin. It takes all the memory that it needs.
+    /// A scanner that is to begin. It asks for all the memory that it needs.
     pub fn new(alloc: Global) -> Result<Scanner, AllocError>
         ensures { IfOk result (λ scanner. (file : List ℕ) → Follows scanner file 0) }
     {
@@ -74,7 +75,7 @@ impl Scanner {
         })
     }
 
-    /// Takes the byte at an offset, and tells of the SysEx message that ends with it.
+    /// Reads the byte at an offset, and tells of the SysEx message that ends with it.
     pub fn feed(&mut self, offset: u32, byte: u8) -> Option<Ended>
         ensures follows { (file : List ℕ) → offset < length file → slice_index file offset ≡ byte → Follows self.old file offset
             → Follows self.new file (offset + 1) }
@@ -88,9 +89,9 @@ impl Scanner {
     }
 
     /// The bytes of the message that ended with the last byte, where it isn't too long.
-    pub fn text(&self) -> &[u8]
-        ensures text { (file : List ℕ) (offset : ℕ) (sysex : SysExMessage) → Follows self.now file (offset + 1)
-            → sysex_at file offset ≡ Some sysex → is_too_long sysex ≡ false → result.now ≡ sysex.text }
+    pub fn message(&self) -> &[u8]
+        ensures bytes { (file : List ℕ) (offset : ℕ) (sysex : SysExMessage) → Follows self.now file (offset + 1)
+            → sysex_at file offset ≡ Some sysex → is_too_long sysex ≡ false → result.now ≡ sysex.bytes }
         ensures bound { length result.now ≤ 5000 }
     {
         self.reader.sysex()
@@ -150,16 +151,21 @@ fn scan_byte(
         → IsScan scan.old (sysex_before file offset) → IsScan scan.new (sysex_before file (offset + 1))) }
 {
     match scanner.feed(offset, byte) {
-        Some(ended) => scan_message(alloc, scan, ended, scanner.text()),
+        Some(ended) => scan_message(alloc, scan, ended, scanner.message()),
         None => Ok(()),
     }
 }
 
 /// Scans a message that has ended.
-fn scan_message(alloc: Global, scan: &mut Scan, ended: Ended, text: &[u8]) -> Result<(), AllocError>
-    requires { length text.now ≤ 5000 }
+fn scan_message(
+    alloc: Global,
+    scan: &mut Scan,
+    ended: Ended,
+    message: &[u8],
+) -> Result<(), AllocError>
+    requires { length message.now ≤ 5000 }
     ensures { OnOk result ((messages : List SysExMessage) (sysex : SysExMessage) → TellsOf (Some ended) (Some sysex)
-        → (is_too_long sysex ≡ false → text.now ≡ sysex.text)
+        → (is_too_long sysex ≡ false → message.now ≡ sysex.bytes)
         → IsScan scan.old messages → IsScan scan.new (messages ++ sysex ∷ [])) }
 {
     if ended.is_too_long {
@@ -170,7 +176,7 @@ fn scan_message(alloc: Global, scan: &mut Scan, ended: Ended, text: &[u8]) -> Re
         scan.long = scan.long.or(Some(refusal));
         return Ok(());
     }
-    match read_frame(text) {
+    match read_frame(message) {
         Ok(frame) => scan_frame(alloc, scan, frame),
         Err(fault) => {
             scan.bad = scan.bad.or(refusal_of(ended.offset, fault));
@@ -197,7 +203,7 @@ pub fn refusal_of(offset: u32, fault: FrameFault) -> Option<Refusal>
     }
 }
 
-/// Takes a good message.
+/// Scans a good message.
 fn scan_frame(alloc: Global, scan: &mut Scan, frame: Frame<'_>) -> Result<(), AllocError>
     requires { HasSizes (content_of frame) }
     ensures bad { scan.new.bad ≡ scan.old.bad }

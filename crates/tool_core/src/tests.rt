@@ -487,7 +487,7 @@ fn a_refused_order_is_read_to_its_end(rt: HostRuntime) -> Result<(), Fail> {
         order.extend_from_slice(b"0 0 0 0 on\n")?;
     }
     let files: [(&str, &[u8]); 1] = [("f", order.as_slice())];
-    // Two pieces of the order, and its end. The sound file is not looked at: that it is not there is not told.
+    // Two chunks of the order, and its end. The sound file is not looked at: that it is not there is not told.
     for (words, fail, wanted, line) in [
         (
             ["replay", "f", "w"],

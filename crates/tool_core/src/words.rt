@@ -1,4 +1,4 @@
-//! The words that the program takes.
+//! The words that the program understands.
 
 ghost use Rattle.std.specs.Prelude.{◌≡◌, ◌≤◌, ◌∷◌, IfSome, Option, map, option_map, string_bytes};
 ghost use Rattle.tool_core.specs.Words as spec;

@@ -5,7 +5,7 @@ use Rattle.midi_stream.specs.declared.state.ParserState.TheVariants.{InSysEx}
 use Rattle.midi_stream.specs.Segments.{last_segment}
 use Rattle.midi_stream.specs.Messages.{messages_of}
 use Rattle.midi_stream.specs.Standing.{HasBytes}
-use Rattle.midi_stream.proofs.Steps.{stands_end, answer_end, count_at_end, answer_none, text_at_end, length_at_end}
+use Rattle.midi_stream.proofs.Steps.{stands_end, answer_end, count_at_end, answer_none, bytes_at_end, length_at_end}
 use Rattle.midi_stream.proofs.step.status_in_sysex.Goals as goal
 
 pub returns-then-byte-eq247 : goal.returns-then-byte-eq247
@@ -16,7 +16,7 @@ returns-then-byte-eq247 c = record {
       answer_end c.args.count kept parts c.args.byte c.if-byte-eq247.true h
       ∙ ap (λ (m : MidiMessage). messages_of parts ++ m ∷ []) (sym (c.sysex_message.ensures.value (length (last_segment parts).data_bytes + 2) n));
   bytes = λ kept parts h.
-      subst (λ (o : Option (List ℕ)). HasBytes c.sysex_message.result o) (sym (text_at_end c.args.count kept parts c.args.byte c.if-byte-eq247.true h))
+      subst (λ (o : Option (List ℕ)). HasBytes c.sysex_message.result o) (sym (bytes_at_end c.args.count kept parts c.args.byte c.if-byte-eq247.true h))
       (c.sysex_message.ensures.bytes (240 ∷ (last_segment parts).data_bytes ++ 247 ∷ []) (length_at_end c.args.count _ kept (last_segment parts) h c.saturating_add.ensures));
   range = c.sysex_message.ensures.range;
   holds = refl;

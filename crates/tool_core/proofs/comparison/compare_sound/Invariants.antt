@@ -5,8 +5,8 @@ use Rattle.tool_core.specs.Comparisons.{IsPrefix}
 use Rattle.tool_core.proofs.Sounds.{begun}
 use Rattle.tool_core.proofs.comparison.compare_sound.Given as goal
 
-abbrev pub invariant-pieces : goal.invariant-pieces
-invariant-pieces g l = record {
+abbrev pub invariant-chunks : goal.invariant-chunks
+invariant-chunks g l = record {
   files : g.S.Shelf.files l.shelf ≡ g.S.Shelf.files l.fn.shelf;
   reading : g.S.Shelf.reading l.shelf ≡ g.S.Shelf.reading l.fn.shelf;
   writing : g.S.Shelf.writing l.shelf ≡ g.S.Shelf.writing l.fn.shelf;
@@ -16,5 +16,5 @@ invariant-pieces g l = record {
   prefix : (file : List ℕ) → file_of (g.S.Shelf.files l.fn.shelf) l.name ≡ Some file → IsPrefix file (begun l.fn.playback.journal l.blocks l.from) None;
 }
 
-abbrev pub decreases-pieces : goal.decreases-pieces
-decreases-pieces g l = l.blocks - l.from
+abbrev pub decreases-chunks : goal.decreases-chunks
+decreases-chunks g l = l.blocks - l.from

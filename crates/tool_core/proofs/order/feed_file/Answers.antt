@@ -6,7 +6,7 @@ pub feeding-init : goal.feeding-init
 feeding-init g c = record {
   files = refl;
   within = omega arith;
-  piece = refl;
+  chunk = refl;
   fed = fed_none (g.S.Shelf.files c.args.shelf.now) c.args.name.now _ c.requires;
   reading = refl;
   writing = refl;
@@ -19,7 +19,7 @@ feeding-preserved g c =
     record {
       files = e.files ∙ i.files;
       within = omega (arith, i.within, c.if-count-at.false);
-      piece = c.read_at.auto.into ∙ i.piece;
+      chunk = c.read_at.auto.into ∙ i.chunk;
       fed = fed_more _ _ _ _ _ _ _ _ _ i.files refl i.fed e.bytes c.feed.ensures.fed;
       reading = e.cause.kept ∙ i.reading;
       writing = e.cause.other ∙ i.writing;
@@ -28,4 +28,4 @@ feeding-preserved g c =
 pub returns-then-count-eq0-clause-fed : goal.returns-then-count-eq0-clause-fed
 returns-then-count-eq0-clause-fed g c =
     let i = c.feeding.invariant in
-    fed_whole _ _ _ _ _ _ _ i.files i.within c.if-count-eq0.true (omega (arith, i.piece, c.read_at.auto.into)) i.fed c.in-Ok.ensures.bytes
+    fed_whole _ _ _ _ _ _ _ i.files i.within c.if-count-eq0.true (omega (arith, i.chunk, c.read_at.auto.into)) i.fed c.in-Ok.ensures.bytes

@@ -8,7 +8,7 @@ abbrev pub invariant-feeding : goal.invariant-feeding
 invariant-feeding g l = record {
   files : g.S.Shelf.files l.shelf ≡ g.S.Shelf.files l.fn.shelf;
   within : l.at ≤ 536870912;
-  piece : length l.piece ≡ 65536;
+  chunk : length l.chunk ≡ 65536;
   fed : IfSome (g.S.Shelf.files l.fn.shelf) (λ told. IfSome (get told l.name) (λ file. HasFed l.reader (take l.at file)));
   reading : g.S.Shelf.reading l.shelf ≡ g.S.Shelf.reading l.fn.shelf;
   writing : g.S.Shelf.writing l.shelf ≡ g.S.Shelf.writing l.fn.shelf;

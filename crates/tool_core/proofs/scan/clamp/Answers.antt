@@ -1,6 +1,6 @@
 use Rattle.std.proofs.Common.{◌∙◌, ap}
-use Rattle.tool_core.specs.Refusals.{clamped_voice}
-use Rattle.tool_core.proofs.Scanning.{clamped_is}
+use Rattle.command_set.specs.Message.{clamped_voice}
+use Rattle.command_set.proofs.Messages.{clamped_is}
 use Rattle.tool_core.proofs.scan.clamp.Goals as goal
 
 pub returns : goal.returns

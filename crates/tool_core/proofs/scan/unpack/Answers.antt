@@ -1,7 +1,7 @@
 use Rattle.std.proofs.Common.{ℕ, List, ◌≡◌}
 use Rattle.std.specs.Prelude.{IfOk, Result, Ok, Err}
 use Rattle.cartridge.specs.Cartridge.{voices_of, UnpacksAll}
-use Rattle.tool_core.proofs.Scanning.{voices_known}
+use Rattle.command_set.proofs.Messages.{voices_known}
 use Rattle.tool_core.proofs.scan.unpack.Goals as goal
 
 known : {E : Type 0} (payload : List ℕ) (r : Result (List (List ℕ)) E) → IfOk r (UnpacksAll payload) → IfOk r (λ voices. voices ≡ voices_of payload)

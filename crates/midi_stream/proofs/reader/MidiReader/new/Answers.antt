@@ -4,4 +4,4 @@ use Rattle.midi_stream.proofs.reader.MidiReader.new.Goals as goal
 
 pub returns : goal.returns
 unfolding Reads
-returns c = record { closed = inl refl; text = tt }
+returns c = record { closed = inl refl; bytes = tt }

@@ -2,7 +2,7 @@ use Rattle.std.proofs.Common.{◌≡◌, ◌+◌, ◌*◌, ◌++◌, List, ℕ, 
 use Rattle.take_files.specs.Files.{wav_blocks}
 use Rattle.take_files.specs.Playback.{PlaybackView}
 use Rattle.tool_core.proofs.Sounds.{chunk_bytes}
-use Rattle.tool_core.proofs.comparison.render_piece.Goals as goal
+use Rattle.tool_core.proofs.comparison.render_sound_chunk.Goals as goal
 
 pub chunks-preserved : goal.chunks-preserved
 chunks-preserved c =

@@ -1,6 +1,6 @@
 use Rattle.std.proofs.Common.{◌≡◌, ◌≤◌, ◌-◌, ◌+◌, ◌*◌, ◌++◌, length}
 use Rattle.take_files.specs.Files.{wav_blocks}
-use Rattle.tool_core.proofs.comparison.render_piece.Given as goal
+use Rattle.tool_core.proofs.comparison.render_sound_chunk.Given as goal
 
 abbrev pub invariant-chunks : goal.invariant-chunks
 invariant-chunks l = record {

@@ -9,42 +9,42 @@ use Rattle.command_queue.specs.Ends.{SendView, accepted, entry_of}
 use Rattle.port.specs.declared.kept.Kept.{Kept}
 use Rattle.port.specs.declared.kept.Kept.TheVariants as kept
 use Rattle.port.specs.declared.fed.PortStop.TheVariants.{All}
-use Rattle.port.specs.Settling.{Settles, KeepsThis, KeepsNoMessage}
+use Rattle.port.specs.Handling.{IsDoneOrKept, KeepsThis, KeepsNoMessage}
 
-pub sent_settles :
+pub sent_done :
     (curve : Curve) (bytes : List ℕ) (command : CommandData) (keeps : Option Kept) (old new : SendView) → keeps ≡ None → new ≡ accepted old (entry_of old 0 command)
-    → Settles curve bytes (Tells command) keeps old new (record { used = 0; sent = 1; passed_over = 0; refused = 0; stop = All })
-sent_settles curve bytes command keeps old new e n = rw e (record {
+    → IsDoneOrKept curve bytes (Tells command) keeps old new (record { used = 0; sent = 1; passed_over = 0; refused = 0; stop = All })
+sent_done curve bytes command keeps old new e n = rw e (record {
   now = Tells command ∷ [];
   splits = refl;
   handles = record { end_is = n; sent_is = refl; passed_over_is = refl; refused_is = refl };
   stops = tt;
 })
 
-pub passed_settles :
+pub passed_done :
     (curve : Curve) (bytes : List ℕ) (told : Told) (keeps : Option Kept) (end : SendView) → keeps ≡ None → told ≡ PassedOver
-    → Settles curve bytes told keeps end end (record { used = 0; sent = 0; passed_over = 1; refused = 0; stop = All })
-passed_settles curve bytes told keeps end e t = rw (e, t) (record {
+    → IsDoneOrKept curve bytes told keeps end end (record { used = 0; sent = 0; passed_over = 1; refused = 0; stop = All })
+passed_done curve bytes told keeps end e t = rw (e, t) (record {
   now = PassedOver ∷ [];
   splits = refl;
   handles = record { end_is = refl; sent_is = refl; passed_over_is = refl; refused_is = refl };
   stops = tt;
 })
 
-pub overlong_settles :
+pub overlong_done :
     (curve : Curve) (bytes : List ℕ) (told : Told) (keeps : Option Kept) (end : SendView) (count : ℕ) → keeps ≡ None → told ≡ Overlong count
-    → Settles curve bytes told keeps end end (record { used = 0; sent = 0; passed_over = 0; refused = 1; stop = All })
-overlong_settles curve bytes told keeps end count e t = rw (e, t) (record {
+    → IsDoneOrKept curve bytes told keeps end end (record { used = 0; sent = 0; passed_over = 0; refused = 1; stop = All })
+overlong_done curve bytes told keeps end count e t = rw (e, t) (record {
   now = Overlong count ∷ [];
   splits = refl;
   handles = record { end_is = refl; sent_is = refl; passed_over_is = refl; refused_is = refl };
   stops = tt;
 })
 
-pub faulty_settles :
+pub faulty_done :
     (curve : Curve) (bytes : List ℕ) (told : Told) (keeps : Option Kept) (end : SendView) (fault : FrameFault) → keeps ≡ None → told ≡ Faulty fault
-    → Settles curve bytes told keeps end end (record { used = 0; sent = 0; passed_over = 0; refused = 1; stop = All })
-faulty_settles curve bytes told keeps end fault e t = rw (e, t) (record {
+    → IsDoneOrKept curve bytes told keeps end end (record { used = 0; sent = 0; passed_over = 0; refused = 1; stop = All })
+faulty_done curve bytes told keeps end fault e t = rw (e, t) (record {
   now = Faulty fault ∷ [];
   splits = refl;
   handles = record { end_is = refl; sent_is = refl; passed_over_is = refl; refused_is = refl };

@@ -1,19 +1,18 @@
--- What comes of one message at an end of a line.
+-- For private functions and proofs: what comes of one message at an end of a line.
 use Rattle.std.specs.Prelude.{ℕ, ◌≡◌, ◌+◌, ◌≤◌, List, [], ◌∷◌, ◌++◌, length, Option, Some, None}
 use Rattle.midi_stream.specs.declared.message.MidiMessage.{MidiMessage}
 use Rattle.velocity_map.specs.declared.curve.Curve.{Curve}
 use Rattle.command_set.specs.Message.{Told}
-use Rattle.command_queue.specs.Ends.{SendView, WasFull, one_up, others_of}
+use Rattle.command_queue.specs.Ends.{SendView}
 use Rattle.port.specs.declared.kept.Kept.{Kept}
 use Rattle.port.specs.declared.kept.Kept.TheVariants as kept
 use Rattle.port.specs.declared.fed.Fed.{Fed}
-use Rattle.port.specs.declared.fed.PortStop.{PortStop}
-use Rattle.port.specs.declared.fed.PortStop.TheVariants.{All, Full, Memory}
 use Rattle.port.specs.Feeding.{Handles}
 use Rattle.port.specs.Keeping.{told_kept, KeepsAt}
+use Rattle.port.specs.Stopping.{FullOnly, refusals_after}
 
 -- what comes of a message was done or is kept
-pub record Settles (curve : Curve) (bytes : List ℕ) (told : Told) (keeps : Option Kept) (old new : SendView) (fed : Fed) : Type 0 where
+pub record IsDoneOrKept (curve : Curve) (bytes : List ℕ) (told : Told) (keeps : Option Kept) (old new : SendView) (fed : Fed) : Type 0 where
   pub now : List Told
   pub splits : told ∷ [] ≡ now ++ told_kept curve bytes keeps
   pub handles : Handles now old new fed
@@ -30,23 +29,6 @@ abbrev pub KeepsNoMessage : Option Kept → Type 0
 KeepsNoMessage None = Unit {0}
 KeepsNoMessage (Some (kept.Command command)) = Unit {0}
 KeepsNoMessage (Some (kept.Message held)) = ⊥
-
--- no place was left at a moment: the state was legal then with this end's list, and so the places are at most its entries and the quotas of the
--- others
-pub record MetFull (e : SendView) : Type 0 where
-  pub full : WasFull e
-  pub room : e.line.places ≤ length e.list + others_of e
-
-abbrev pub FullOnly : PortStop → SendView → Type 0
-FullOnly All e = Unit {0}
-FullOnly Full e = MetFull e
-FullOnly Memory e = Unit {0}
-
--- how often an end was refused, after a feed that stopped so
-abbrev pub refusals_after : PortStop → ℕ → ℕ
-refusals_after All n = n
-refusals_after Full n = one_up n
-refusals_after Memory n = n
 
 -- so many bytes were used, at most one message was told of, and the end is of its line and number; it stopped at a full line only where that was met
 pub record OneMore (old new : SendView) (used : ℕ) (fed : Fed) : Type 0 where

@@ -1,0 +1,6 @@
+-- Words.
+use Rattle.std.specs.Prelude.{ℕ, Bool, nat_lt, List, length}
+
+-- a word has one byte at least
+abbrev pub is_some_word : List ℕ → Bool
+is_some_word word = nat_lt 0 (length word)
