@@ -6,7 +6,7 @@ use Rattle.plain_text.specs.Number.{number}
 use Rattle.plain_text.specs.Split.{split}
 use Rattle.plain_text.proofs.Cuts.{split_some}
 use Rattle.plain_text.proofs.Numbers.{written}
-use Rattle.command_set.specs.Command.{CommandData, StartsNote, EndsNote, Bends, Controls, PicksProgram, SetsNumber, StoresVoice, IsInRange}
+use Rattle.command_set.specs.Command.{CommandData, StartsNote, EndsNote, Bends, Controls, PicksProgram, SetsParameter, StoresVoice, IsInRange}
 use Rattle.command_set.specs.Words.{words, store_of, two_bytes_of, two_of, three_bytes_of, three_of, numbers_of}
 use Rattle.command_set.proofs.Reading.{one_of, command_of, read_as}
 
@@ -47,7 +47,7 @@ two_bytes_said kind a b d e =
       | inr f ↦ elim (either (bytes_eq kind (codes "program")) _ _ d f) [
         | inl program ↦ kinded kind (codes "program") _ (PicksProgram a b) d program.0 program.1 refl
         | inr g ↦ elim (either (bytes_eq kind (codes "param")) _ _ d g) [
-          | inl param ↦ kinded kind (codes "param") _ (SetsNumber a b) d param.0 param.1 refl
+          | inl param ↦ kinded kind (codes "param") _ (SetsParameter a b) d param.0 param.1 refl
           | inr none ↦ absurd (none_some d none)
         ]
       ]

@@ -13,7 +13,7 @@ use Rattle.cartridge.proofs.Voices.{voices_are}
 use Rattle.plain_text.specs.Number.{number}
 use Rattle.plain_text.specs.Split.{split}
 use Rattle.plain_text.proofs.Numbers.{reads_decimal}
-use Rattle.command_set.specs.Command.{CommandData, StartsNote, EndsNote, Bends, Controls, PicksProgram, SetsNumber, StoresVoice, LoadsVoice, LoadsCartridge, IsInRange}
+use Rattle.command_set.specs.Command.{CommandData, StartsNote, EndsNote, Bends, Controls, PicksProgram, SetsParameter, StoresVoice, LoadsVoice, LoadsCartridge, IsInRange}
 use Rattle.command_set.specs.Text.{text, packed}
 use Rattle.command_set.specs.Unique.{TextsAreUnique}
 use Rattle.command_set.specs.Words.{words, AreWordsOf, AreWordsOfNone, store_of, two_bytes_of, two_of, three_bytes_of, three_of}
@@ -84,7 +84,7 @@ reads (EndsNote channel key) (a, b) = own_two (codes "off") channel key refl (om
 reads (Bends channel value) (a, b) = own_bend channel value (omega arith) b
 reads (Controls channel n value) (a, known, b) = own_three (codes "control") channel n value (omega arith) (omega (arith, known_small n known)) (omega arith)
 reads (PicksProgram channel n) (a, b) = own_two (codes "program") channel n refl (omega arith) (omega arith)
-reads (SetsNumber n value) (a, b) = own_two (codes "param") n value refl (omega arith) (omega (arith, greatest_small n (omega arith)))
+reads (SetsParameter n value) (a, b) = own_two (codes "param") n value refl (omega arith) (omega (arith, greatest_small n (omega arith)))
 reads (StoresVoice slot) a = own_store slot (omega arith)
 reads (LoadsVoice voice) v = own_voice voice v
 reads (LoadsCartridge voices) h = own_cartridge voices h

@@ -13,7 +13,7 @@ use Rattle.voice_record.proofs.Voices.{greatest_small}
 use Rattle.cartridge.specs.Cartridge.{IsCartridge}
 use Rattle.cartridge.proofs.Voices.{all_data}
 use Rattle.plain_text.specs.Split.{split, spaced}
-use Rattle.command_set.specs.Command.{CommandData, StartsNote, EndsNote, Bends, Controls, PicksProgram, SetsNumber, StoresVoice, LoadsVoice, LoadsCartridge, IsKnownControl, IsInRange}
+use Rattle.command_set.specs.Command.{CommandData, StartsNote, EndsNote, Bends, Controls, PicksProgram, SetsParameter, StoresVoice, LoadsVoice, LoadsCartridge, IsKnownControl, IsInRange}
 use Rattle.command_set.specs.Text.{text, packed}
 use Rattle.command_set.specs.Words.{words}
 use Rattle.command_set.proofs.Packs.{packs_all}
@@ -77,7 +77,7 @@ parts_text (Controls channel number value) (a, known, b) =
     (three_whole _ _ _ (number_whole channel (omega arith)) (number_whole number (omega (arith, known_small number known))) (number_whole value (omega arith)))
 parts_text (PicksProgram channel number) (a, b) =
     parts_spaced _ _ (codes_whole 32 (codes "program") refl) (two_whole _ _ (number_whole channel (omega arith)) (number_whole number (omega arith)))
-parts_text (SetsNumber number value) (a, b) =
+parts_text (SetsParameter number value) (a, b) =
     parts_spaced _ _ (codes_whole 32 (codes "param") refl)
     (two_whole _ _ (number_whole number (omega arith)) (number_whole value (omega (arith, greatest_small number (omega arith)))))
 parts_text (StoresVoice slot) a = parts_spaced _ _ (codes_whole 32 (codes "store") refl) (one_whole _ (number_whole slot (omega arith)))

@@ -12,7 +12,7 @@ pub data CommandData : Type 0 where
   Bends : ℕ → ℕ → CommandData
   Controls : ℕ → ℕ → ℕ → CommandData
   PicksProgram : ℕ → ℕ → CommandData
-  SetsNumber : ℕ → ℕ → CommandData
+  SetsParameter : ℕ → ℕ → CommandData
   StoresVoice : ℕ → CommandData
   LoadsVoice : List ℕ → CommandData
   LoadsCartridge : List (List ℕ) → CommandData
@@ -23,7 +23,7 @@ content (NoteOff channel key) = EndsNote channel key
 content (Bend channel value) = Bends channel value
 content (Control channel number value) = Controls channel number value
 content (Program channel number) = PicksProgram channel number
-content (Param number value) = SetsNumber number value
+content (Param number value) = SetsParameter number value
 content (Store slot) = StoresVoice slot
 content (Voice boxed) = LoadsVoice boxed.value
 content (Cartridge boxed) = LoadsCartridge boxed.value
@@ -39,7 +39,7 @@ IsInRange (EndsNote channel key) = (channel ≤ 15) × (key ≤ 127)
 IsInRange (Bends channel value) = (channel ≤ 15) × (value ≤ 16383)
 IsInRange (Controls channel number value) = (channel ≤ 15) × IsKnownControl number × (value ≤ 127)
 IsInRange (PicksProgram channel number) = (channel ≤ 15) × (number ≤ 127)
-IsInRange (SetsNumber number value) = (number ≤ 155) × (value ≤ greatest_value number)
+IsInRange (SetsParameter number value) = (number ≤ 155) × (value ≤ greatest_value number)
 IsInRange (StoresVoice slot) = slot ≤ 31
 IsInRange (LoadsVoice fields) = IsVoice fields
 IsInRange (LoadsCartridge voices) = IsCartridge voices

@@ -14,16 +14,16 @@ use Rattle.midi_stream.specs.declared.message.MidiMessage.TheVariants.{NoteOff, 
 use Rattle.midi_stream.specs.declared.message.MidiMessage.TheVariants.{Bend, SysEx, SysExTooLong}
 use Rattle.velocity_map.specs.declared.curve.Curve.{Curve}
 use Rattle.velocity_map.specs.Curve.{curve_value}
-use Rattle.command_set.specs.Command.{CommandData, StartsNote, EndsNote, Bends, Controls, PicksProgram, SetsNumber, LoadsVoice, LoadsCartridge}
+use Rattle.command_set.specs.Command.{CommandData, StartsNote, EndsNote, Bends, Controls, PicksProgram, SetsParameter, LoadsVoice, LoadsCartridge}
 use Rattle.command_set.specs.declared.message.CommandFault.{CommandFault}
 use Rattle.command_set.specs.declared.message.CommandFault.TheVariants as faults
 
--- what a message tells: a command; or nothing, it is passed over; or it is a SysEx one that has more than 5000 bytes, by their count, or this fault
-pub data Told : Type 0 where
-  Tells : CommandData → Told
-  PassedOver : Told
-  Overlong : ℕ → Told
-  Faulty : FrameFault → Told
+-- the outcome of a message: a command; or nothing, it is passed over; or it is a SysEx one of more than 5000 bytes, by their count, or with this fault
+pub data MessageOutcome : Type 0 where
+  Yields : CommandData → MessageOutcome
+  PassedOver : MessageOutcome
+  Overlong : ℕ → MessageOutcome
+  Faulty : FrameFault → MessageOutcome
 
 -- the controls that act: modulation wheel, hold pedal, all notes off
 abbrev pub acts : ℕ → Bool
@@ -33,13 +33,13 @@ acts number = number == 1 || (number == 64 || number == 123)
 unfoldable pub clamped_voice : List ℕ → List ℕ
 clamped_voice bytes = map (λ number. min (slice_index bytes number % 128) (greatest_value number)) (range_with_len 0 155)
 
--- what a message of the DX7 tells by what it holds
-abbrev pub told_by : Content → Told
-told_by (VoiceDump device payload) = Tells (LoadsVoice (clamped_voice payload))
-told_by (CartridgeDump device payload) = Tells (LoadsCartridge (voices_of payload))
-told_by (ParamChange device number value) = Tells (SetsNumber number value)
-told_by (OtherChange device group number) = PassedOver
-told_by (DumpRequest device) = PassedOver
+-- the outcome of a message of the DX7 by what it holds
+abbrev pub content_outcome : Content → MessageOutcome
+content_outcome (VoiceDump device payload) = Yields (LoadsVoice (clamped_voice payload))
+content_outcome (CartridgeDump device payload) = Yields (LoadsCartridge (voices_of payload))
+content_outcome (ParamChange device number value) = Yields (SetsParameter number value)
+content_outcome (OtherChange device group number) = PassedOver
+content_outcome (DumpRequest device) = PassedOver
 
 -- what holds of the parts of a message that was read: its bytes are as many as its kind has, and a value is one that its parameter can have
 abbrev pub IsSound : Content → Type 0
@@ -50,42 +50,42 @@ IsSound (OtherChange device group number) = Unit {0}
 IsSound (DumpRequest device) = Unit {0}
 
 -- a message of another manufacturer, or of a kind that the DX7 doesn't know, is passed over
-abbrev pub told_by_fault : FrameFault → Told
-told_by_fault NotFramed = Faulty NotFramed
-told_by_fault NotYamaha = PassedOver
-told_by_fault (DataByte place) = Faulty (DataByte place)
-told_by_fault (Short length) = Faulty (Short length)
-told_by_fault (UnknownSubstatus found) = PassedOver
-told_by_fault (UnknownFormat found) = PassedOver
-told_by_fault (CountBytes high low) = Faulty (CountBytes high low)
-told_by_fault (Length found wanted) = Faulty (Length found wanted)
-told_by_fault (Checksum found wanted) = Faulty (Checksum found wanted)
-told_by_fault (ParamValue number value) = Faulty (ParamValue number value)
+abbrev pub fault_outcome : FrameFault → MessageOutcome
+fault_outcome NotFramed = Faulty NotFramed
+fault_outcome NotYamaha = PassedOver
+fault_outcome (DataByte place) = Faulty (DataByte place)
+fault_outcome (Short length) = Faulty (Short length)
+fault_outcome (UnknownSubstatus found) = PassedOver
+fault_outcome (UnknownFormat found) = PassedOver
+fault_outcome (CountBytes high low) = Faulty (CountBytes high low)
+fault_outcome (Length found wanted) = Faulty (Length found wanted)
+fault_outcome (Checksum found wanted) = Faulty (Checksum found wanted)
+fault_outcome (ParamValue number value) = Faulty (ParamValue number value)
 
--- what SysEx bytes tell by their first fault, and by what they hold where they have none
-abbrev pub told_by_bytes : Option FrameFault → Content → Told
-told_by_bytes None held = told_by held
-told_by_bytes (Some fault) held = told_by_fault fault
+-- the outcome of SysEx bytes by their first fault, and by what they hold where they have none
+abbrev pub frame_outcome : Option FrameFault → Content → MessageOutcome
+frame_outcome None held = content_outcome held
+frame_outcome (Some fault) held = fault_outcome fault
 
--- what a message tells, with the bytes of a SysEx one: the velocity of a note-on goes through the curve
-unfoldable pub command_of : MidiMessage → List ℕ → Curve → Told
-command_of (NoteOff channel key) bytes curve = Tells (EndsNote channel key)
-command_of (NoteOn channel key velocity) bytes curve = Tells (StartsNote channel key (curve_value curve velocity))
+-- the outcome of a message, with the bytes of a SysEx one: the velocity of a note-on goes through the curve
+unfoldable pub command_of : MidiMessage → List ℕ → Curve → MessageOutcome
+command_of (NoteOff channel key) bytes curve = Yields (EndsNote channel key)
+command_of (NoteOn channel key velocity) bytes curve = Yields (StartsNote channel key (curve_value curve velocity))
 command_of (KeyPressure channel key value) bytes curve = PassedOver
-command_of (Control channel number value) bytes curve = if acts number then Tells (Controls channel number value) else PassedOver
-command_of (Program channel number) bytes curve = Tells (PicksProgram channel number)
+command_of (Control channel number value) bytes curve = if acts number then Yields (Controls channel number value) else PassedOver
+command_of (Program channel number) bytes curve = Yields (PicksProgram channel number)
 command_of (ChannelPressure channel value) bytes curve = PassedOver
-command_of (Bend channel value) bytes curve = Tells (Bends channel value)
-command_of (SysEx count) bytes curve = told_by_bytes (first_fault bytes) (reading bytes)
+command_of (Bend channel value) bytes curve = Yields (Bends channel value)
+command_of (SysEx count) bytes curve = frame_outcome (first_fault bytes) (reading bytes)
 command_of (SysExTooLong count) bytes curve = Overlong count
 
--- an answer that is no refusal, as what is told
-abbrev pub told : Option CommandData → Told
-told None = PassedOver
-told (Some command) = Tells command
+-- an answer that is no refusal, as the outcome of its message
+abbrev pub answer_outcome : Option CommandData → MessageOutcome
+answer_outcome None = PassedOver
+answer_outcome (Some command) = Yields command
 
--- what is told where a message is refused so; want of memory says nothing of it
-abbrev pub IsRefusal : CommandFault → Told → Type 0
+-- the outcome of a message that is refused so; want of memory says nothing of it
+abbrev pub IsRefusal : CommandFault → MessageOutcome → Type 0
 IsRefusal (faults.TooLong count) said = said ≡ Overlong count
 IsRefusal (faults.Frame fault) said = said ≡ Faulty fault
 IsRefusal faults.Memory said = Unit {0}

@@ -4,7 +4,7 @@ use Rattle.std.specs.List.{range_with_len, flat_map}
 use Rattle.hex.specs.Hex.{encode_lower}
 use Rattle.plain_text.specs.Split.{spaced}
 use Rattle.voice_record.specs.Packing.{row_of}
-use Rattle.command_set.specs.Command.{CommandData, StartsNote, EndsNote, Bends, Controls, PicksProgram, SetsNumber, StoresVoice}
+use Rattle.command_set.specs.Command.{CommandData, StartsNote, EndsNote, Bends, Controls, PicksProgram, SetsParameter, StoresVoice}
 use Rattle.command_set.specs.Command.{LoadsVoice, LoadsCartridge}
 
 -- what a field of a voice adds to a packed byte
@@ -22,7 +22,7 @@ text (EndsNote channel key) = spaced (codes "off") (decimal channel ∷ decimal 
 text (Bends channel value) = spaced (codes "bend") (decimal channel ∷ decimal value ∷ [])
 text (Controls channel number value) = spaced (codes "control") (decimal channel ∷ decimal number ∷ decimal value ∷ [])
 text (PicksProgram channel number) = spaced (codes "program") (decimal channel ∷ decimal number ∷ [])
-text (SetsNumber number value) = spaced (codes "param") (decimal number ∷ decimal value ∷ [])
+text (SetsParameter number value) = spaced (codes "param") (decimal number ∷ decimal value ∷ [])
 text (StoresVoice slot) = spaced (codes "store") (decimal slot ∷ [])
 text (LoadsVoice voice) = spaced (codes "voice") (encode_lower voice ∷ [])
 text (LoadsCartridge voices) = spaced (codes "cartridge") (encode_lower (flat_map packed voices) ∷ [])

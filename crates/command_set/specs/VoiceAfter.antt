@@ -1,6 +1,6 @@
 -- What a command that edits makes of the voice.
 use Rattle.std.specs.Prelude.{ℕ, ◌≡◌, ◌==◌, if◌then◌else◌, List, [], ◌∷◌, slice_set}
-use Rattle.command_set.specs.Command.{CommandData, StartsNote, EndsNote, Bends, Controls, PicksProgram, SetsNumber, StoresVoice}
+use Rattle.command_set.specs.Command.{CommandData, StartsNote, EndsNote, Bends, Controls, PicksProgram, SetsParameter, StoresVoice}
 use Rattle.command_set.specs.Command.{LoadsVoice, LoadsCartridge}
 
 -- The voice after a command that sets a parameter of it or replaces it whole. Number 155 is the operator switch, which is no parameter of the voice.
@@ -11,7 +11,7 @@ voice_after voice (EndsNote channel key) = voice
 voice_after voice (Bends channel value) = voice
 voice_after voice (Controls channel number value) = voice
 voice_after voice (PicksProgram channel number) = voice
-voice_after voice (SetsNumber number value) = if number == 155 then voice else slice_set voice number value
+voice_after voice (SetsParameter number value) = if number == 155 then voice else slice_set voice number value
 voice_after voice (StoresVoice slot) = voice
 voice_after voice (LoadsVoice other) = other
 voice_after voice (LoadsCartridge voices) = voice
@@ -23,7 +23,7 @@ IsEdit (EndsNote channel key) = ⊥
 IsEdit (Bends channel value) = ⊥
 IsEdit (Controls channel number value) = ⊥
 IsEdit (PicksProgram channel number) = ⊥
-IsEdit (SetsNumber number value) = Unit {0}
+IsEdit (SetsParameter number value) = Unit {0}
 IsEdit (StoresVoice slot) = ⊥
 IsEdit (LoadsVoice other) = Unit {0}
 IsEdit (LoadsCartridge voices) = ⊥

@@ -3,7 +3,7 @@ use Rattle.std.specs.Prelude.{ℕ, ◌≡◌, ◌≢◌, List, [], ◌∷◌, co
 use Rattle.std.specs.List.{flat_map}
 use Rattle.hex.specs.Hex.{encode_lower}
 use Rattle.plain_text.specs.Number.{number}
-use Rattle.command_set.specs.Command.{CommandData, StartsNote, EndsNote, Bends, Controls, PicksProgram, SetsNumber, StoresVoice}
+use Rattle.command_set.specs.Command.{CommandData, StartsNote, EndsNote, Bends, Controls, PicksProgram, SetsParameter, StoresVoice}
 use Rattle.command_set.specs.Command.{LoadsVoice, LoadsCartridge, IsInRange}
 use Rattle.command_set.specs.Text.{packed}
 
@@ -14,7 +14,7 @@ words (EndsNote channel key) = codes "off" ∷ decimal channel ∷ decimal key �
 words (Bends channel value) = codes "bend" ∷ decimal channel ∷ decimal value ∷ []
 words (Controls channel number value) = codes "control" ∷ decimal channel ∷ decimal number ∷ decimal value ∷ []
 words (PicksProgram channel number) = codes "program" ∷ decimal channel ∷ decimal number ∷ []
-words (SetsNumber number value) = codes "param" ∷ decimal number ∷ decimal value ∷ []
+words (SetsParameter number value) = codes "param" ∷ decimal number ∷ decimal value ∷ []
 words (StoresVoice slot) = codes "store" ∷ decimal slot ∷ []
 words (LoadsVoice voice) = codes "voice" ∷ encode_lower voice ∷ []
 words (LoadsCartridge voices) = codes "cartridge" ∷ encode_lower (flat_map packed voices) ∷ []
@@ -40,7 +40,7 @@ unfoldable pub two_bytes_of : List ℕ → ℕ → ℕ → Option CommandData
 two_bytes_of kind first second =
     if bytes_eq kind (codes "off") then Some (EndsNote first second)
     else if bytes_eq kind (codes "program") then Some (PicksProgram first second)
-    else if bytes_eq kind (codes "param") then Some (SetsNumber first second)
+    else if bytes_eq kind (codes "param") then Some (SetsParameter first second)
     else None
 
 -- a kind and two words

@@ -8,8 +8,8 @@ ghost use Rattle.sysex_frame.specs.FrameFault.{first_fault};
 ghost use Rattle.sysex_frame.specs.Reading.{reading};
 ghost use Rattle.cartridge.specs.Cartridge.{IsCartridge, voices_of};
 ghost use Rattle.command_set.specs.Command.{Controls, IsInRange, LoadsCartridge, LoadsVoice, content};
-ghost use Rattle.command_set.specs.Message.{IsRefusal, IsSound, PassedOver, Tells, acts, clamped_voice, command_of, told, told_by};
-ghost use Rattle.command_set.specs.Message.{told_by_bytes, told_by_fault};
+ghost use Rattle.command_set.specs.Message.{IsRefusal, IsSound, PassedOver, Yields, acts, answer_outcome, clamped_voice, command_of, content_outcome};
+ghost use Rattle.command_set.specs.Message.{fault_outcome, frame_outcome};
 ghost use Rattle.command_set.specs.declared.message.CommandFault.TheVariants.{Memory};
 
 use crate::command::{Command, is_known_control};
@@ -44,7 +44,7 @@ pub fn from_message(
 ) -> Result<Option<Command>, CommandFault>
     requires range { InRange message }
     requires bytes { length sysex.now ≤ 536870912 }
-    ensures command { IfOk result (λ found. command_of message sysex.now (curve_of map.now) ≡ told (option_map content found)) }
+    ensures command { IfOk result (λ found. command_of message sysex.now (curve_of map.now) ≡ answer_outcome (option_map content found)) }
     ensures refused { IfErr result (λ why. IsRefusal why (command_of message sysex.now (curve_of map.now))) }
     ensures range { IfOk result (λ found. IfSome found (λ command. IsInRange (content command))) }
 {
@@ -76,7 +76,7 @@ pub fn from_message(
 fn control(channel: u8, number: u8, value: u8) -> Option<Command>
     requires channel { channel ≤ 15 }
     requires value { value ≤ 127 }
-    ensures told { told (option_map content result) ≡ (if acts number then Tells (Controls channel number value) else PassedOver) }
+    ensures outcome { answer_outcome (option_map content result) ≡ (if acts number then Yields (Controls channel number value) else PassedOver) }
     ensures range { IfSome result (λ command. IsInRange (content command)) }
 {
     if is_known_control(number) {
@@ -93,8 +93,8 @@ fn control(channel: u8, number: u8, value: u8) -> Option<Command>
 /// The command of a SysEx message.
 fn from_exclusive(alloc: Global, bytes: &[u8]) -> Result<Option<Command>, CommandFault>
     requires { length bytes.now ≤ 536870912 }
-    ensures command { IfOk result (λ found. told_by_bytes (first_fault bytes.now) (reading bytes.now) ≡ told (option_map content found)) }
-    ensures refused { IfErr result (λ why. IsRefusal why (told_by_bytes (first_fault bytes.now) (reading bytes.now))) }
+    ensures command { IfOk result (λ found. frame_outcome (first_fault bytes.now) (reading bytes.now) ≡ answer_outcome (option_map content found)) }
+    ensures refused { IfErr result (λ why. IsRefusal why (frame_outcome (first_fault bytes.now) (reading bytes.now))) }
     ensures range { IfOk result (λ found. IfSome found (λ command. IsInRange (content command))) }
 {
     match read_frame(bytes) {
@@ -106,7 +106,7 @@ fn from_exclusive(alloc: Global, bytes: &[u8]) -> Result<Option<Command>, Comman
 /// The command of a message of the DX7.
 fn from_frame(alloc: Global, frame: Frame<'_>) -> Result<Option<Command>, CommandFault>
     requires { IsSound (content_of frame) }
-    ensures command { IfOk result (λ found. told_by (content_of frame.entry) ≡ told (option_map content found)) }
+    ensures command { IfOk result (λ found. content_outcome (content_of frame.entry) ≡ answer_outcome (option_map content found)) }
     ensures refused { IfErr result (λ why. why ≡ Memory) }
     ensures range { IfOk result (λ found. IfSome found (λ command. IsInRange (content command))) }
 {
@@ -120,8 +120,8 @@ fn from_frame(alloc: Global, frame: Frame<'_>) -> Result<Option<Command>, Comman
 
 /// What comes of a message with this fault.
 fn from_fault(fault: FrameFault) -> Result<Option<Command>, CommandFault>
-    ensures command { IfOk result (λ found. told_by_fault fault ≡ told (option_map content found)) }
-    ensures refused { IfErr result (λ why. IsRefusal why (told_by_fault fault)) }
+    ensures command { IfOk result (λ found. fault_outcome fault ≡ answer_outcome (option_map content found)) }
+    ensures refused { IfErr result (λ why. IsRefusal why (fault_outcome fault)) }
     ensures none { IfOk result (λ found. IsNone found) }
     ensures memory { result ≢ Err Memory }
 {

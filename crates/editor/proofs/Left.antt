@@ -7,7 +7,7 @@ use Rattle.circular_buffer.specs.Buffer.{Buffer, buffer}
 use Rattle.command_set.specs.Command.{CommandData}
 use Rattle.command_set.specs.VoiceAfter.{Turns}
 use Rattle.editor.specs.declared.change.Change.{Change}
-use Rattle.editor.specs.declared.change.Change.TheVariants.{Number, Whole}
+use Rattle.editor.specs.declared.change.Change.TheVariants.{Parameter, Whole}
 use Rattle.editor.specs.Changes.{left_by, other_voice, kind_of, command_of, history_of}
 use Rattle.editor.specs.History.{History, left, acted, answer, step, IsWholeNext, WholeVoice}
 
@@ -31,7 +31,7 @@ acted_by h voice new wanted past future past' future' c e w o p f = rw (← w, �
 
 -- a change is made by its command
 pub turns_by : (voice : List ℕ) (c : Change) → Turns voice (command_of c) (other_voice voice c)
-turns_by voice (Number s) = record {
+turns_by voice (Parameter s) = record {
   edit = tt;
   voice = (let ne : s.number ≢ 155 = omega (arith, s.within.0) in rw ne_eqb refl);
 }

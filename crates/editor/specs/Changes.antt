@@ -1,23 +1,23 @@
 -- The kept changes, and the history that they and the present voice stand for.
 use Rattle.std.specs.Prelude.{ℕ, ◌≡◌, ◌+◌, ◌≤◌, List, [], ◌∷◌, length, slice_set}
 use Rattle.circular_buffer.specs.Buffer.{Buffer}
-use Rattle.command_set.specs.Command.{CommandData, SetsNumber, LoadsVoice}
+use Rattle.command_set.specs.Command.{CommandData, SetsParameter, LoadsVoice}
 use Rattle.editor.specs.declared.change.Change.{Change}
-use Rattle.editor.specs.declared.change.Change.TheVariants.{Number, Whole}
-use Rattle.editor.specs.History.{Kind, OneNumber, WholeVoice, Left, left, History}
+use Rattle.editor.specs.declared.change.Change.TheVariants.{Parameter, Whole}
+use Rattle.editor.specs.History.{Kind, OneParameter, WholeVoice, Left, left, History}
 
 abbrev pub kind_of : Change → Kind
-kind_of (Number s) = OneNumber s.number
+kind_of (Parameter s) = OneParameter s.number
 kind_of (Whole boxed) = WholeVoice
 
 -- the voice on the other side of a change
 abbrev pub other_voice : List ℕ → Change → List ℕ
-other_voice voice (Number s) = slice_set voice s.number s.value
+other_voice voice (Parameter s) = slice_set voice s.number s.value
 other_voice voice (Whole boxed) = boxed.value
 
 -- the command that makes the change
 abbrev pub command_of : Change → CommandData
-command_of (Number s) = SetsNumber s.number s.value
+command_of (Parameter s) = SetsParameter s.number s.value
 command_of (Whole boxed) = LoadsVoice boxed.value
 
 -- the voices that the editor had, each made from the one after it

@@ -1,10 +1,10 @@
 -- The editing history: the voice, what an act, an undo and a redo make of it, and the command that each answers.
 use Rattle.std.specs.Prelude.{ℕ, ◌≡◌, List, [], ◌∷◌, take, slice_index, Option, Some, None, option_map}
-use Rattle.command_set.specs.Command.{CommandData, SetsNumber, LoadsVoice}
+use Rattle.command_set.specs.Command.{CommandData, SetsParameter, LoadsVoice}
 
 -- what an act changes: one parameter, or the whole voice
 pub data Kind : Type 0 where
-  OneNumber : ℕ → Kind
+  OneParameter : ℕ → Kind
   WholeVoice : Kind
 
 -- a voice that the editor had, and the kind of the act between it and the one that the editor had next
@@ -37,7 +37,7 @@ acted h kind voice = record {
 
 -- the command that makes the voice what it has become: the parameter that was changed, or the whole voice
 abbrev pub answer : Kind → List ℕ → CommandData
-answer (OneNumber number) voice = SetsNumber number (slice_index voice number)
+answer (OneParameter number) voice = SetsParameter number (slice_index voice number)
 answer WholeVoice voice = LoadsVoice voice
 
 -- a step from one list to the other: the voice, the two lists, and the command that is answered

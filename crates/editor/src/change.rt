@@ -23,7 +23,7 @@ pub struct Setting {
 #[derive(Drop)]
 pub enum Change {
     /// One parameter gets a value.
-    Number(Setting),
+    Parameter(Setting),
     /// Another voice takes its place.
     Whole(Box<Voice>),
 }
@@ -55,7 +55,7 @@ impl Change {
         ensures memory { OnErr result (kind_of self.now ≡ WholeVoice) }
     {
         match self {
-            Change::Number(Setting { number, value }) => Ok(Command::Param {
+            Change::Parameter(Setting { number, value }) => Ok(Command::Param {
                 number: *number,
                 value: *value,
             }),
@@ -74,7 +74,7 @@ impl Change {
         ensures answer { answer (kind_of self) voice.new ≡ command_of self }
     {
         match self {
-            Change::Number(setting) => Change::Number(set(voice, setting)),
+            Change::Parameter(setting) => Change::Parameter(set(voice, setting)),
             Change::Whole(mut other) => {
                 mem::swap(voice, &mut *other);
                 Change::Whole(other)

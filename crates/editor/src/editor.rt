@@ -2,9 +2,9 @@
 
 ghost use Rattle.std.specs.Prelude.{◌≡◌, ◌≤◌, ◌↔◌, ℕ, [], IsOk, None, IfOk, IfErr, OnOk, OnErr, IfSome, Some, ◌⊎◌, slice_set, ◌<◌};
 ghost use Rattle.voice_record.specs.Voice.{greatest_value};
-ghost use Rattle.command_set.specs.Command.{content, IsInRange, SetsNumber, LoadsVoice};
+ghost use Rattle.command_set.specs.Command.{content, IsInRange, SetsParameter, LoadsVoice};
 ghost use Rattle.command_set.specs.VoiceAfter.{Turns};
-ghost use Rattle.editor.specs.History.{acted, begun, undone, redone, IsWholeNext, OneNumber, WholeVoice};
+ghost use Rattle.editor.specs.History.{acted, begun, undone, redone, IsWholeNext, OneParameter, WholeVoice};
 ghost use Rattle.editor.specs.Names.{first_high, renamed};
 
 use crate::change::{Change, Setting};
@@ -73,8 +73,8 @@ impl Editor {
     pub fn set(&mut self, number: u8, value: u8) -> Result<Command, EditFault>
         requires { number ≤ 154 }
         ensures accepted { IsOk result ↔ (value ≤ greatest_value number) }
-        ensures acted { OnOk result (self.new ≡ acted self.old (OneNumber number) (slice_set self.old.voice number value)) }
-        ensures command { IfOk result (λ command. content command ≡ SetsNumber number value) }
+        ensures acted { OnOk result (self.new ≡ acted self.old (OneParameter number) (slice_set self.old.voice number value)) }
+        ensures command { IfOk result (λ command. content command ≡ SetsParameter number value) }
         ensures follows { IfOk result (λ command. Turns self.old.voice (content command) self.new.voice) }
         ensures range { IfOk result (λ command. IsInRange (content command)) }
         ensures refused { IfErr result (λ fault. fault ≡ EditFault.ValueHigh number value (greatest_value number)) }
@@ -83,7 +83,7 @@ impl Editor {
         let old = self.voice.get(number);
         self.voice.set(number, value)?;
         let setting = Setting { number, value: old };
-        keep(&mut self.past, &mut self.future, Change::Number(setting));
+        keep(&mut self.past, &mut self.future, Change::Parameter(setting));
         Ok(Command::Param { number, value })
     }
 

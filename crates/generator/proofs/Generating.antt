@@ -3,7 +3,7 @@ use Rattle.std.proofs.Common.{◌≡◌, ℕ, ◌+◌, ◌<◌, ◌≤◌, refl,
 use Rattle.std.specs.Prelude.{nat_lt, true, false}
 use Rattle.std.proofs.lemmas.Bool.{lt-ltb, le-ltb, cond-true, cond-false}
 use Rattle.voice_record.specs.Voice.{greatest_value}
-use Rattle.command_set.specs.Command.{StartsNote, EndsNote, SetsNumber}
+use Rattle.command_set.specs.Command.{StartsNote, EndsNote, SetsParameter}
 use Rattle.generator.specs.Lcg.{next, state, below, number_at}
 use Rattle.generator.specs.Generated.{kind, command_at, numbers_at, place, due}
 
@@ -61,7 +61,7 @@ release_is seed p x0 x1 x2 k key at is1 isk high low is2 iskey =
 
 pub algorithm_is : (seed p x0 x1 x2 k number : ℕ) → x0 ≡ state seed (p + 1) → x1 ≡ next x0 → k ≡ below 8 x1 → 7 ≤ k
     → x2 ≡ next x1 → number ≡ below 32 x2
-    → (SetsNumber 134 number ≡ command_at seed p) × (x2 ≡ state seed (p + numbers_at seed p))
+    → (SetsParameter 134 number ≡ command_at seed p) × (x2 ≡ state seed (p + numbers_at seed p))
 unfolding command_at numbers_at
 algorithm_is seed p x0 x1 x2 k number at is1 isk high is2 isnumber =
     let s1 : x1 ≡ state seed (p + 2) = state_on seed (p + 1) (p + 2) x0 x1 at (omega arith) is1 in
@@ -69,7 +69,7 @@ algorithm_is seed p x0 x1 x2 k number at is1 isk high is2 isnumber =
     let same : k ≡ kind seed p = isk ∙ ap (below 8) s1 in
     let first : nat_lt (kind seed p) 4 ≡ false = le-ltb (kind seed p) 4 (omega (arith, same, high)) in
     let second : nat_lt (kind seed p) 7 ≡ false = le-ltb (kind seed p) 7 (omega (arith, same, high)) in (
-      ap (λ (n : ℕ). SetsNumber 134 n) (isnumber ∙ ap (below 32) s2)
+      ap (λ (n : ℕ). SetsParameter 134 n) (isnumber ∙ ap (below 32) s2)
           ∙ sym (cond-false (nat_lt (kind seed p) 7) _ _ second)
           ∙ sym (cond-false (nat_lt (kind seed p) 4) _ _ first),
       s2 ∙ ap (λ (n : ℕ). state seed (p + n)) (sym (cond-false (nat_lt (kind seed p) 4) 4 3 first)),

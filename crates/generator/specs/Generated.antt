@@ -3,7 +3,7 @@ use Rattle.std.specs.Prelude.{ℕ, zero, suc, ◌+◌, ◌*◌, ◌/◌, ◌%◌
 use Rattle.std.specs.Prelude.{pos, ◌+ℤ◌, fold, codes, decimal}
 use Rattle.std.specs.List.{range_with_len, flat_map}
 use Rattle.plain_text.specs.Split.{spaced}
-use Rattle.command_set.specs.Command.{CommandData, StartsNote, EndsNote, SetsNumber}
+use Rattle.command_set.specs.Command.{CommandData, StartsNote, EndsNote, SetsParameter}
 use Rattle.command_set.specs.Entries.{EntryData, LoggedData}
 use Rattle.command_set.specs.Text.{text}
 use Rattle.instrument.specs.Journal.{sound}
@@ -23,7 +23,7 @@ unfoldable pub command_at : ℕ → ℕ → CommandData
 command_at seed place =
     if nat_lt (kind seed place) 4 then StartsNote 0 (36 + number_at seed (place + 3) 60) (1 + number_at seed (place + 4) 127)
     else if nat_lt (kind seed place) 7 then EndsNote 0 (36 + number_at seed (place + 3) 60)
-    else SetsNumber 134 (number_at seed (place + 3) 32)
+    else SetsParameter 134 (number_at seed (place + 3) 32)
 
 -- how many numbers it needs
 unfoldable pub numbers_at : ℕ → ℕ → ℕ

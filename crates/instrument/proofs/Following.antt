@@ -1,7 +1,7 @@
 -- An instrument that carries out only commands that edit has the voice that they make.
 use Rattle.std.proofs.Common.{ℕ, ◌≡◌, List, [], ◌∷◌, true, false, refl, ◌∙◌, cond}
 use Rattle.std.specs.Prelude.{◌==◌, Bool}
-use Rattle.command_set.specs.Command.{CommandData, StartsNote, EndsNote, Bends, Controls, PicksProgram, SetsNumber, StoresVoice, LoadsVoice, LoadsCartridge}
+use Rattle.command_set.specs.Command.{CommandData, StartsNote, EndsNote, Bends, Controls, PicksProgram, SetsParameter, StoresVoice, LoadsVoice, LoadsCartridge}
 use Rattle.command_set.specs.VoiceAfter.{voice_after, IsEdit, TurnsAll}
 use Rattle.instrument.specs.State.{State, apply}
 use Rattle.instrument.specs.Journal.{applied}
@@ -18,7 +18,7 @@ apply_voice s (EndsNote channel key) e = absurd e
 apply_voice s (Bends channel value) e = absurd e
 apply_voice s (Controls channel number value) e = absurd e
 apply_voice s (PicksProgram channel number) e = absurd e
-apply_voice s (SetsNumber number value) e = numbered_voice (number == 155) s value _
+apply_voice s (SetsParameter number value) e = numbered_voice (number == 155) s value _
 apply_voice s (StoresVoice slot) e = absurd e
 apply_voice s (LoadsVoice voice) e = refl
 apply_voice s (LoadsCartridge voices) e = absurd e

@@ -2,7 +2,7 @@
 use Rattle.std.proofs.Common.{ℕ, Option, Some, None, true, false, Result, Ok, Err, IsOk, OnOk, List, set, cond, eqb, subst, ◌≤◌, ◌≢◌, ◌≡◌, refl}
 use Rattle.std.proofs.lemmas.Bool.{ne_eqb}
 use Rattle.voice_record.specs.Voice.{greatest_value}
-use Rattle.command_set.specs.Command.{StartsNote, SetsNumber}
+use Rattle.command_set.specs.Command.{StartsNote, SetsParameter}
 use Rattle.block_rates.specs.declared.lfo.Lfo.{Lfo}
 use Rattle.block_rates.specs.Lfos.{lfo_settings, assigned, key_pressed}
 use Rattle.block_rates.specs.LfoStates.{IsLfo}
@@ -35,11 +35,11 @@ pub none_is : (o : Option ℕ) → ((x : ℕ) → o ≡ Some x → ⊥) → o �
 none_is None h = refl
 none_is (Some x) h = absurd (h x refl)
 
-pub switch_set : (s : State) (number value : ℕ) → number ≡ 155 → apply s (SetsNumber number value) ≡ record s { switch = value }
+pub switch_set : (s : State) (number value : ℕ) → number ≡ 155 → apply s (SetsParameter number value) ≡ record s { switch = value }
 unfolding apply
 switch_set s number value e = rw e refl
 
-pub number_set : (s : State) (number value : ℕ) → number ≢ 155 → apply s (SetsNumber number value) ≡ record s { voice = set s.voice number value }
+pub number_set : (s : State) (number value : ℕ) → number ≢ 155 → apply s (SetsParameter number value) ≡ record s { voice = set s.voice number value }
 unfolding apply
 number_set s number value ne = rw ne_eqb refl
 

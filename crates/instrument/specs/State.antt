@@ -7,7 +7,7 @@ use Rattle.std.specs.Option.{option_map_or}
 use Rattle.voice_record.specs.Voice.{opening_voice}
 use Rattle.cartridge.specs.Cartridge.{voice_at}
 use Rattle.command_set.specs.Command.{CommandData, StartsNote, EndsNote, Bends, Controls, PicksProgram}
-use Rattle.command_set.specs.Command.{SetsNumber, StoresVoice, LoadsVoice, LoadsCartridge}
+use Rattle.command_set.specs.Command.{SetsParameter, StoresVoice, LoadsVoice, LoadsCartridge}
 use Rattle.block_rates.specs.Lfos.{LfoState, opening_lfo, lfo_settings, assigned, key_pressed, lfo_value, lfo_depth}
 use Rattle.note_voice.specs.Modulation.{Modulation}
 use Rattle.note_voice.specs.Note.{NoteData, begun, note_released, after_block, note_sample}
@@ -139,7 +139,7 @@ apply s (EndsNote channel key) = record s { slots = λ i. key_up s.is_pedal_down
 apply s (Bends channel value) = record s { bend = value }
 apply s (Controls channel number value) = controlled s number value
 apply s (PicksProgram channel number) = voiced s (voice_at s.bank (number % 32))
-apply s (SetsNumber number value) = numbered s number value
+apply s (SetsParameter number value) = numbered s number value
 apply s (StoresVoice slot) = record s { bank = slice_set s.bank slot s.voice }
 apply s (LoadsVoice voice) = voiced s voice
 apply s (LoadsCartridge voices) = record s { bank = voices }

@@ -3,7 +3,7 @@
 ghost use Rattle.std.specs.Prelude.{◌≡◌, ◌<◌, ◌≤◌, ◌+◌, ◌%◌, ℕ, Option, IfOk, IfSome};
 ghost use Rattle.voice_record.specs.Voice.{greatest_value};
 ghost use Rattle.cartridge.specs.Cartridge.{voice_at};
-ghost use Rattle.command_set.specs.Command.{IsInRange, StartsNote, EndsNote, SetsNumber, StoresVoice, LoadsCartridge, content};
+ghost use Rattle.command_set.specs.Command.{IsInRange, StartsNote, EndsNote, SetsParameter, StoresVoice, LoadsCartridge, content};
 ghost use Rattle.instrument.specs.State.{State, apply, controlled, free_slot, modulation, opening, passed, pedal, samples, voiced};
 
 use crate::mix::{empty_mix, output};
@@ -198,7 +198,7 @@ impl Instrument {
     fn set_number(&mut self, number: u8, value: u8)
         requires number { number ≤ 155 }
         requires value { value ≤ greatest_value number }
-        ensures { (s : State) → IsIn self.old s → IsIn self.new (apply s (SetsNumber number value)) }
+        ensures { (s : State) → IsIn self.old s → IsIn self.new (apply s (SetsParameter number value)) }
     {
         if number == 155 {
             self.switch = value;

@@ -8,7 +8,7 @@ use Rattle.midi_stream.specs.Messages.{messages, last_sysex}
 use Rattle.midi_stream.specs.Ranges.{InRange}
 use Rattle.midi_stream.specs.Standing.{Answers, HasBytes}
 use Rattle.velocity_map.specs.declared.curve.Curve.TheVariants.{Linear}
-use Rattle.command_set.specs.Message.{Told, Overlong, Faulty, command_of}
+use Rattle.command_set.specs.Message.{MessageOutcome, Overlong, Faulty, command_of}
 use Rattle.script_outcome.specs.declared.fault.Place.TheVariants as place
 use Rattle.script_outcome.specs.declared.fault.ScriptKind.{ScriptKind}
 use Rattle.script_outcome.specs.declared.fault.ScriptKind.TheVariants as kind
@@ -49,17 +49,17 @@ faults_among why es fs xs ys is h = subst (λ (hs : List TrackOutcome). Faults w
 pub come_more : (es fs : List TimedData) (e : TimedData) → fs ≡ es ++ e ∷ [] → all_come fs ≡ all_come es ++ Comes e ∷ []
 come_more es fs e is = ap all_come is ∙ map-append Comes es (e ∷ [])
 
-by_message : (why : ScriptFault) (es : List TimedData) (tick at : ℕ) (wrong : ScriptKind) (t told : Told) → told ≡ t → why ≡ faults.Refused (place.Byte at) wrong
+by_message : (why : ScriptFault) (es : List TimedData) (tick at : ℕ) (wrong : ScriptKind) (t told : MessageOutcome) → told ≡ t → why ≡ faults.Refused (place.Byte at) wrong
     → Faults (faults.Refused (place.Byte at) wrong) (all_come es ++ message_outcomes tick at t) → Faults why (all_come es ++ message_outcomes tick at told)
 by_message why es tick at wrong t told is refused fault =
     subst (λ (f : ScriptFault). Faults f (all_come es ++ message_outcomes tick at told)) (sym refused)
-    (subst (λ (x : Told). Faults (faults.Refused (place.Byte at) wrong) (all_come es ++ message_outcomes tick at x)) (sym is) fault)
+    (subst (λ (x : MessageOutcome). Faults (faults.Refused (place.Byte at) wrong) (all_come es ++ message_outcomes tick at x)) (sym is) fault)
 
-pub fault_overlong : (why : ScriptFault) (es : List TimedData) (tick at count : ℕ) (told : Told) → told ≡ Overlong count → why ≡ faults.Refused (place.Byte at) kind.Long
+pub fault_overlong : (why : ScriptFault) (es : List TimedData) (tick at count : ℕ) (told : MessageOutcome) → told ≡ Overlong count → why ≡ faults.Refused (place.Byte at) kind.Long
     → Faults why (all_come es ++ message_outcomes tick at told)
 fault_overlong why es tick at count told is refused = by_message why es tick at kind.Long (Overlong count) told is refused (fault_here es at kind.Long)
 
-pub fault_faulty : (why : ScriptFault) (es : List TimedData) (tick at : ℕ) (fault : FrameFault) (told : Told) → told ≡ Faulty fault → why ≡ faults.Refused (place.Byte at) (kind.Message fault)
+pub fault_faulty : (why : ScriptFault) (es : List TimedData) (tick at : ℕ) (fault : FrameFault) (told : MessageOutcome) → told ≡ Faulty fault → why ≡ faults.Refused (place.Byte at) (kind.Message fault)
     → Faults why (all_come es ++ message_outcomes tick at told)
 fault_faulty why es tick at fault told is refused = by_message why es tick at (kind.Message fault) (Faulty fault) told is refused (fault_here es at (kind.Message fault))
 

@@ -2,7 +2,7 @@
 use Rattle.std.specs.Prelude.{ℕ, zero, suc, ◌+◌, ◌-◌, Bool, true, false, List, [], ◌∷◌, ◌++◌, length, Option, Some, None, if◌then◌else◌}
 use Rattle.velocity_map.specs.declared.curve.Curve.TheVariants.{Linear}
 use Rattle.command_set.specs.Command.{CommandData}
-use Rattle.command_set.specs.Message.{Told, Tells, PassedOver, Overlong, Faulty, command_of}
+use Rattle.command_set.specs.Message.{MessageOutcome, Yields, PassedOver, Overlong, Faulty, command_of}
 use Rattle.script_outcome.specs.declared.fault.ScriptKind.{ScriptKind}
 use Rattle.script_outcome.specs.declared.fault.ScriptKind.TheVariants as kind
 use Rattle.midi_stream.specs.Ended.{EndedMessage, ended_message}
@@ -60,8 +60,8 @@ pub data TrackOutcome : Type 0 where
   Breaks : ℕ → ScriptKind → TrackOutcome
 
 -- what happens by a message at an event
-abbrev pub message_outcomes : ℕ → ℕ → Told → List TrackOutcome
-message_outcomes tick place (Tells command) = Comes (timed_at tick place (Plays command)) ∷ []
+abbrev pub message_outcomes : ℕ → ℕ → MessageOutcome → List TrackOutcome
+message_outcomes tick place (Yields command) = Comes (timed_at tick place (Plays command)) ∷ []
 message_outcomes tick place PassedOver = []
 message_outcomes tick place (Overlong count) = Breaks place kind.Long ∷ []
 message_outcomes tick place (Faulty fault) = Breaks place (kind.Message fault) ∷ []

@@ -2,5 +2,5 @@
 use Rattle.std.specs.Prelude.{ℕ, Bool, nat_lt, List, length}
 
 -- a word has one byte at least
-abbrev pub is_some_word : List ℕ → Bool
-is_some_word word = nat_lt 0 (length word)
+abbrev pub is_nonempty : List ℕ → Bool
+is_nonempty word = nat_lt 0 (length word)

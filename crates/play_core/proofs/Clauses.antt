@@ -25,7 +25,7 @@ use Rattle.play_core.specs.declared.refusal.Refusal.TheVariants as why
 use Rattle.play_core.specs.Words.{RequestData, requested_by}
 use Rattle.play_core.specs.Limits.{command_limit}
 use Rattle.play_core.specs.Verdict.{Verdict, Lacking, LongFile, LongScripts, Faulty, ManyCommands, ManyBlocks, Plays, IsPlayed, verdict, plans_in, blocks_of_run, places_of_run, nothing, with_script, with_plan, of_plan, of_file, of_blocks, of_scripts}
-use Rattle.play_core.specs.Refused.{IsCaused, IsUnread, Tells}
+use Rattle.play_core.specs.Refused.{IsCaused, IsUnread, AgreesWith}
 use Rattle.play_core.specs.Lines.{refusal_line, refusal_status, report, fault_line}
 use Rattle.play_core.specs.Files.{AreBegun, with_two}
 use Rattle.outside.specs.Snapshot.{Snapshot}
@@ -220,7 +220,7 @@ eight ManyBlocks status is = inr (inl is)
 
 module _ (a : RequestData) (before now : Snapshot) (status : ℕ) where
   refused_answers : (told : Files) → before.files ≡ Some told → ¬ (Rose before.reading now.reading) → (why : Refusal) → status ≡ refusal_status why
-      → IsCaused why a.blocks before.files a.scripts before.reading now.reading → Tells why (verdict a told) → Answers (verdict a told) status
+      → IsCaused why a.blocks before.files a.scripts before.reading now.reading → AgreesWith why (verdict a told) → Answers (verdict a told) status
   refused_answers told is none (why.Unread k) e cause tells =
       rw (lacking_verdict a told k before.reading now.reading (subst (λ (o : Option Files). IsUnread k a.blocks o a.scripts before.reading now.reading) is cause) none) (inl e)
   refused_answers told is none why.LongFile e cause tells = rw tells (inl e)
@@ -231,7 +231,7 @@ module _ (a : RequestData) (before now : Snapshot) (status : ℕ) where
   refused_answers told is none why.Memory e cause tells = eight (verdict a told) status e
 
   judged_of : (told : Files) → before.files ≡ Some told → ¬ (Rose before.reading now.reading) → IsRun a before now status → Answers (verdict a told) status
-  judged_of told is none (inl r) = refused_answers told is none r.why r.status_is r.cause (if_told (λ x. Tells r.why (verdict a x)) before.files told is r.tells)
+  judged_of told is none (inl r) = refused_answers told is none r.why r.status_is r.cause (if_told (λ x. AgreesWith r.why (verdict a x)) before.files told is r.tells)
   judged_of told is none (inr (inl s)) = subst (λ (v : Verdict). Answers v status) (sym (plans_told a before.files told s.plans s.planned is)) (inr (inl s.status_is))
   judged_of told is none (inr (inr d)) = subst (λ (v : Verdict). Answers v status) (sym (plans_told a before.files told d.plans d.planned is))
       (⊎_elim (λ (e : status ≡ 0). inl e) (λ (e : status ≡ 5). inr (inr (inl e))) (left_status (left_of d.plans d.journal) status d.status_is))
@@ -291,9 +291,9 @@ module _ (a : RequestData) (before now : Snapshot) (status : ℕ) where
   fault_of : (words : List (List ℕ)) → requested_by words ≡ Some a → IsRefused a before now status → status ≡ 4
       → (k : ℕ) × (place : Place) × (what : ScriptKind) × Told words before.files (λ b told. verdict b told ≡ Faulty k place what)
       × Says (fault_line k place what) before.written now.written before.faults now.faults
-  fault_of words asks r four = by_why r.why r.status_is (λ told is. if_told (λ x. Tells r.why (verdict a x)) before.files told is r.tells) r.line
+  fault_of words asks r four = by_why r.why r.status_is (λ told is. if_told (λ x. AgreesWith r.why (verdict a x)) before.files told is r.tells) r.line
     where
-      by_why : (why : Refusal) → status ≡ refusal_status why → ((told : Files) → before.files ≡ Some told → Tells why (verdict a told))
+      by_why : (why : Refusal) → status ≡ refusal_status why → ((told : Files) → before.files ≡ Some told → AgreesWith why (verdict a told))
           → Says (refusal_line why a.scripts) before.written now.written before.faults now.faults
           → (k : ℕ) × (place : Place) × (what : ScriptKind) × Told words before.files (λ b told. verdict b told ≡ Faulty k place what)
           × Says (fault_line k place what) before.written now.written before.faults now.faults
@@ -307,9 +307,9 @@ module _ (a : RequestData) (before now : Snapshot) (status : ℕ) where
 
   limit_of : (words : List (List ℕ)) → requested_by words ≡ Some a → IsRefused a before now status → status ≡ 6
       → (v : Verdict) × IsLimit v × Told words before.files (λ b told. verdict b told ≡ v) × Says (limit_line v) before.written now.written before.faults now.faults
-  limit_of words asks r six = by_why r.why r.status_is (λ told is. if_told (λ x. Tells r.why (verdict a x)) before.files told is r.tells) r.line
+  limit_of words asks r six = by_why r.why r.status_is (λ told is. if_told (λ x. AgreesWith r.why (verdict a x)) before.files told is r.tells) r.line
     where
-      by_why : (why : Refusal) → status ≡ refusal_status why → ((told : Files) → before.files ≡ Some told → Tells why (verdict a told))
+      by_why : (why : Refusal) → status ≡ refusal_status why → ((told : Files) → before.files ≡ Some told → AgreesWith why (verdict a told))
           → Says (refusal_line why a.scripts) before.written now.written before.faults now.faults
           → (v : Verdict) × IsLimit v × Told words before.files (λ b told. verdict b told ≡ v) × Says (limit_line v) before.written now.written before.faults now.faults
       by_why (why.Unread k) e tells line = absurd (omega arith)
@@ -322,7 +322,7 @@ module _ (a : RequestData) (before now : Snapshot) (status : ℕ) where
 
   -- a refusal that the told files don't bear out
   refused_complete : (told : Files) (plans : List (List PlannedData)) → before.files ≡ Some told → verdict a told ≡ Plays plans → ¬ (Rose before.reading now.reading)
-      → (why : Refusal) → status ≡ refusal_status why → IsCaused why a.blocks before.files a.scripts before.reading now.reading → Tells why (verdict a told) → status ≡ 8
+      → (why : Refusal) → status ≡ refusal_status why → IsCaused why a.blocks before.files a.scripts before.reading now.reading → AgreesWith why (verdict a told) → status ≡ 8
   refused_complete told plans is right none (why.Unread k) e cause tells =
       let lacks = lacking_verdict a told k before.reading now.reading (subst (λ (o : Option Files). IsUnread k a.blocks o a.scripts before.reading now.reading) is cause) none in absurd (cc)
   refused_complete told plans is right none why.LongFile e cause tells = absurd (cc)
@@ -336,7 +336,7 @@ module _ (a : RequestData) (before now : Snapshot) (status : ℕ) where
       → ¬ (Rose before.reading now.reading) → ¬ (Rose before.writing now.writing) → ¬ (Rose before.faults now.faults)
       → IsOneOf status (0 ∷ 5 ∷ 8 ∷ []) × (many_commands plans ≤ places_of_run a.places plans → IsOneOf status (0 ∷ 8 ∷ []))
   complete_of told plans is right (inl r) reading writing faults =
-      let e = refused_complete told plans is right reading r.why r.status_is r.cause (if_told (λ x. Tells r.why (verdict a x)) before.files told is r.tells) in
+      let e = refused_complete told plans is right reading r.why r.status_is r.cause (if_told (λ x. AgreesWith r.why (verdict a x)) before.files told is r.tells) in
       (inr (inr (inl e)), λ room. inr (inl e))
   complete_of told plans is right (inr (inl s)) reading writing faults = absurd (⊎_elim (λ w. writing w.0) (λ p. faults p.1) s.line)
   complete_of told plans is right (inr (inr d)) reading writing faults =

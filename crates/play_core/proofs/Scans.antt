@@ -19,7 +19,7 @@ use Rattle.play_core.specs.Limits.{block_limit, command_limit, script_limit, scr
 use Rattle.turns.specs.Turns.{many_commands}
 use Rattle.play_core.specs.Verdict.{Verdict, Lacking, LongFile, LongScripts, Faulty, ManyCommands, ManyBlocks, Plays, IsPlayed, nothing, verdict, blocks_of_run, of_blocks, with_script, with_plan, of_plan, of_text, of_file, of_scripts}
 use Rattle.play_core.specs.Words.{RequestData}
-use Rattle.play_core.specs.Refused.{Tells, IsCaused}
+use Rattle.play_core.specs.Refused.{AgreesWith, IsCaused}
 use Rattle.play_core.specs.Scan.{AreBelow, IsTextOf, IsNext, NextTells, NextCause, with_all, AreRead}
 
 pub all_none : (said : Verdict) → with_all [] said ≡ said
@@ -76,7 +76,7 @@ unfolding of_scripts
 reads_whole told blocks names plans t so_far =
     ap (of_scripts told blocks nothing) (sym (append-nil names)) ∙ so_far [] ∙ ap (λ (l : List (List PlannedData)). Plays l) (append-nil plans)
 
-tells_all : (why : Refusal) (plans : List (List PlannedData)) (said : Verdict) → Tells why said → Tells why (with_all plans said)
+tells_all : (why : Refusal) (plans : List (List PlannedData)) (said : Verdict) → AgreesWith why said → AgreesWith why (with_all plans said)
 tells_all (why.Unread number) plans said tells = tt
 tells_all why.LongFile plans said tells = rw tells refl
 tells_all why.LongScripts plans said tells = rw tells refl
@@ -87,8 +87,8 @@ tells_all why.Memory plans said tells = tt
 
 pub tells_whole : (why : Refusal) (told : Files) (blocks : Option ℕ) (names before : List (List ℕ)) (name : List ℕ) (rest : List (List ℕ)) (plans : List (List PlannedData)) (t : Totals)
     → names ≡ before ++ name ∷ rest → AreRead told blocks before plans t
-    → ((after : List ℕ → List PlannedData → Verdict) → Tells why (of_file blocks t name (get told name) after))
-    → Tells why (of_scripts told blocks nothing names)
+    → ((after : List ℕ → List PlannedData → Verdict) → AgreesWith why (of_file blocks t name (get told name) after))
+    → AgreesWith why (of_scripts told blocks nothing names)
 tells_whole why told blocks names before name rest plans t is so_far tells =
     rw (is, so_far (name ∷ rest), next_scripts told blocks t name rest)
     (tells_all why plans _ (tells (λ text one. of_scripts told blocks (with_script t (length text) (length one)) rest)))
@@ -129,12 +129,12 @@ all_read (Some told) blocks names i plans t over so_far =
 
 pub refused_tells : (why : Refusal) (files : Option Files) (blocks : Option ℕ) (names : List (String Global)) (i : ℕ) (name : String Global) (q : List ℕ) (plans : List (List PlannedData)) (t : Totals)
     → i < length names → name ≡ get_or names i name → q ≡ string_bytes name → AreReadOf files blocks names i plans t → NextTells why files blocks q t
-    → IfSome files (λ told. Tells why (of_scripts told blocks nothing (map string_bytes names)))
+    → IfSome files (λ told. AgreesWith why (of_scripts told blocks nothing (map string_bytes names)))
 refused_tells why None blocks names i name q plans t below is text so_far tells = so_far
 refused_tells why (Some told) blocks names i name q plans t below is text so_far tells =
     tells_whole why told blocks (map string_bytes names) (map string_bytes (take i names)) (string_bytes name) (map string_bytes (drop (i + 1) names)) plans t
     (names_split names i name below is) so_far
-    (subst (λ (n : List ℕ). (after : List ℕ → List PlannedData → Verdict) → Tells why (of_file blocks t n (get told n) after)) text tells)
+    (subst (λ (n : List ℕ). (after : List ℕ → List PlannedData → Verdict) → AgreesWith why (of_file blocks t n (get told n) after)) text tells)
 
 good_before : (files : Option Files) (blocks : Option ℕ) (names : List (String Global)) (i : ℕ) (plans : List (List PlannedData)) (t : Totals)
     → AreReadOf files blocks names i plans t → IfSome files (λ told. IsPlayed (of_scripts told blocks nothing (take i (map string_bytes names))))
@@ -170,7 +170,7 @@ below_pushed (Some b) plans one all last = All-append (λ (l : List PlannedData)
 
 -- what decides of a run with its number of blocks
 
-tells_blocks : (why : Refusal) (blocks : Option ℕ) (said : Verdict) → Tells why said → Tells why (of_blocks blocks said)
+tells_blocks : (why : Refusal) (blocks : Option ℕ) (said : Verdict) → AgreesWith why said → AgreesWith why (of_blocks blocks said)
 tells_blocks (why.Unread number) blocks said tells = tt
 tells_blocks why.LongFile blocks said tells = rw tells refl
 tells_blocks why.LongScripts blocks said tells = rw tells refl
@@ -180,7 +180,7 @@ tells_blocks why.ManyBlocks blocks said tells = rw tells refl
 tells_blocks why.Memory blocks said tells = tt
 
 pub tells_verdict : (why : Refusal) (a : RequestData) (files : Option Files)
-    → IfSome files (λ told. Tells why (of_scripts told a.blocks nothing a.scripts)) → IfSome files (λ told. Tells why (verdict a told))
+    → IfSome files (λ told. AgreesWith why (of_scripts told a.blocks nothing a.scripts)) → IfSome files (λ told. AgreesWith why (verdict a told))
 unfolding verdict
 tells_verdict why a None tells = tt
 tells_verdict why a (Some told) tells = tells_blocks why a.blocks (of_scripts told a.blocks nothing a.scripts) tells

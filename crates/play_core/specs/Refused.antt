@@ -6,15 +6,15 @@ use Rattle.play_core.specs.declared.refusal.Refusal.{Refusal}
 use Rattle.play_core.specs.declared.refusal.Refusal.TheVariants as why
 use Rattle.play_core.specs.Verdict.{Verdict, LongFile, LongScripts, Faulty, ManyCommands, ManyBlocks, nothing, of_scripts, IsPlayed}
 
--- the refusal tells this verdict, where it tells one
-abbrev pub Tells : Refusal → Verdict → Type 0
-Tells (why.Unread number) said = Unit {0}
-Tells why.LongFile said = said ≡ LongFile
-Tells why.LongScripts said = said ≡ LongScripts
-Tells (why.Fault number place what) said = said ≡ Faulty number place what
-Tells why.ManyCommands said = said ≡ ManyCommands
-Tells why.ManyBlocks said = said ≡ ManyBlocks
-Tells why.Memory said = Unit {0}
+-- the verdict that a refusal comes from; a read that failed and want of memory come from none
+abbrev pub AgreesWith : Refusal → Verdict → Type 0
+AgreesWith (why.Unread number) said = Unit {0}
+AgreesWith why.LongFile said = said ≡ LongFile
+AgreesWith why.LongScripts said = said ≡ LongScripts
+AgreesWith (why.Fault number place what) said = said ≡ Faulty number place what
+AgreesWith why.ManyCommands said = said ≡ ManyCommands
+AgreesWith why.ManyBlocks said = said ≡ ManyBlocks
+AgreesWith why.Memory said = Unit {0}
 
 -- the refusal is not that a script was not read
 abbrev pub IsOfContent : Refusal → Type 0

@@ -13,7 +13,7 @@ use Rattle.play_core.specs.declared.refusal.Refusal.{Refusal}
 use Rattle.play_core.specs.Words.{RequestData}
 use Rattle.turns.specs.Turns.{many_commands}
 use Rattle.play_core.specs.Verdict.{Plays, verdict, blocks_of_run, places_of_run}
-use Rattle.play_core.specs.Refused.{IsCaused, Tells}
+use Rattle.play_core.specs.Refused.{IsCaused, AgreesWith}
 use Rattle.play_core.specs.Lines.{refusal_line, refusal_status, report}
 use Rattle.play_core.specs.Files.{AreBegun, with_two}
 
@@ -24,7 +24,7 @@ pub record IsRefused (a : RequestData) (before now : Snapshot) (status : ℕ) : 
   pub files : now.files ≡ before.files
   pub writing : now.writing ≡ before.writing
   pub cause : IsCaused why a.blocks before.files a.scripts before.reading now.reading
-  pub tells : IfSome before.files (λ told. Tells why (verdict a told))
+  pub tells : IfSome before.files (λ told. AgreesWith why (verdict a told))
   pub line : Says (refusal_line why a.scripts) before.written now.written before.faults now.faults
 
 -- the plans of all scripts, where the files are told

@@ -11,7 +11,7 @@ use Rattle.play_core.specs.declared.refusal.Refusal.{Refusal}
 use Rattle.play_core.specs.declared.refusal.Refusal.TheVariants as why
 use Rattle.play_core.specs.Limits.{command_limit, script_limit, scripts_limit}
 use Rattle.play_core.specs.Verdict.{Verdict, Lacking, LongFile, LongScripts, Faulty, ManyCommands, ManyBlocks, Plays, nothing, with_script, of_file, of_scripts}
-use Rattle.play_core.specs.Refused.{Tells}
+use Rattle.play_core.specs.Refused.{AgreesWith}
 
 -- each command of a plan is due below this block
 abbrev pub AreBelow : ℕ → List PlannedData → Type 0
@@ -48,7 +48,7 @@ AreRead told blocks names plans t =
 -- what a refusal of the next script tells, whatever comes after it
 abbrev pub NextTells : Refusal → Option Files → Option ℕ → List ℕ → Totals → Type 0
 NextTells why files blocks name t =
-    IfSome files (λ told. (after : List ℕ → List PlannedData → Verdict) → Tells why (of_file blocks t name (get told name) after))
+    IfSome files (λ told. (after : List ℕ → List PlannedData → Verdict) → AgreesWith why (of_file blocks t name (get told name) after))
 
 -- why the next script, which has this number, was refused
 abbrev pub NextCause : Refusal → ℕ → Option Files → List ℕ → ℕ → ℕ → Type 0

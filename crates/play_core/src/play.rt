@@ -3,7 +3,7 @@ ghost use Rattle.std.specs.Prelude.{◌≡◌, ◌≢◌, ◌⊎◌, ◌≤◌, 
 ghost use Rattle.play_core.specs.Words.{IsRequest, request_data};
 ghost use Rattle.play_core.specs.Limits.{block_limit, command_limit};
 ghost use Rattle.play_core.specs.Verdict.{verdict};
-ghost use Rattle.play_core.specs.Refused.{IsCaused, IsWithin, Tells};
+ghost use Rattle.play_core.specs.Refused.{IsCaused, IsWithin, AgreesWith};
 ghost use Rattle.outside.specs.Snapshot.{snapshot};
 ghost use Rattle.play_core.specs.Run.{HavePlans, HasReported, IsPlayedRun, IsRun};
 ghost use Rattle.play_core.specs.Headline.{WasPlayed};
@@ -66,7 +66,7 @@ fn prepare<S: Shelf>(
     ensures stage { IfOk result (λ stage. IsStage request.entry.blocks request.entry.places (plans_of stage.players.items) stage) }
     ensures plans { IfOk result (λ stage. HavePlans (request_data request.entry) (S.files shelf.old) (plans_of stage.players.items)) }
     ensures kept { OnOk result (S.reading shelf.new ≡ S.reading shelf.old) }
-    ensures tells { IfErr result (λ why. IfSome (S.files shelf.old) (λ told. Tells why (verdict (request_data request.entry) told))) }
+    ensures tells { IfErr result (λ why. IfSome (S.files shelf.old) (λ told. AgreesWith why (verdict (request_data request.entry) told))) }
     ensures cause { IfErr result (λ why. IsCaused why request.entry.blocks (S.files shelf.old) (map string_bytes request.entry.scripts.now)
         (S.reading shelf.old) (S.reading shelf.new)) }
     ensures few { IfOk result (λ stage. many_commands (plans_of stage.players.items) ≤ command_limit) }

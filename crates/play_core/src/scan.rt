@@ -8,7 +8,7 @@ ghost use Rattle.script_read.specs.Plan.{plan};
 ghost use Rattle.play_core.specs.Limits.{command_limit, script_limit, scripts_limit};
 ghost use Rattle.turns.specs.Turns.{many_commands};
 ghost use Rattle.play_core.specs.Verdict.{Verdict, nothing, of_text, of_scripts, Plays};
-ghost use Rattle.play_core.specs.Refused.{IsCaused, IsOfContent, Tells};
+ghost use Rattle.play_core.specs.Refused.{IsCaused, IsOfContent, AgreesWith};
 ghost use Rattle.play_core.specs.Scan.{IsNext, NextCause, NextTells, AreBelow};
 
 use crate::refusal::Refusal;
@@ -43,7 +43,7 @@ pub(crate) fn read_scripts<S: Shelf>(
     ensures below { IfOk result (λ scripts. IfSome blocks (λ b. All (λ one. AreBelow b one) scripts.items)) }
     ensures kept { OnOk result (S.reading shelf.new ≡ S.reading shelf.old) }
     ensures tells { IfErr result (λ why. IfSome (S.files shelf.old) (λ told.
-        Tells why (of_scripts told blocks nothing (map string_bytes names.now)))) }
+        AgreesWith why (of_scripts told blocks nothing (map string_bytes names.now)))) }
     ensures cause { IfErr result (λ why. IsCaused why blocks (S.files shelf.old) (map string_bytes names.now)
         (S.reading shelf.old) (S.reading shelf.new)) }
     ensures files { S.files shelf.new ≡ S.files shelf.old }
@@ -130,7 +130,7 @@ fn judge_text(
     ensures fits { IfOk result (λ script. totals.bytes + length text.now ≤ scripts_limit) }
     ensures few { IfOk result (λ script. totals.commands + length script ≤ command_limit) }
     ensures below { IfOk result (λ script. IfSome blocks (λ b. AreBelow b script)) }
-    ensures tells { IfErr result (λ why. (after : List PlannedData → Verdict) → Tells why (of_text blocks totals text.now after)) }
+    ensures tells { IfErr result (λ why. (after : List PlannedData → Verdict) → AgreesWith why (of_text blocks totals text.now after)) }
     ensures content { IfErr result (λ why. IsOfContent why) }
 {
     let bytes = totals.bytes + text.len() as u64;

@@ -6,7 +6,7 @@ use Rattle.std.specs.Prelude.{cond}
 use Rattle.midi_stream.specs.declared.reader.MidiReader.{MidiReader}
 use Rattle.velocity_map.specs.declared.curve.Curve.{Curve}
 use Rattle.command_set.specs.Command.{CommandData}
-use Rattle.command_set.specs.Message.{Told, Tells, PassedOver, Overlong, Faulty}
+use Rattle.command_set.specs.Message.{MessageOutcome, Yields, PassedOver, Overlong, Faulty}
 use Rattle.command_queue.specs.Ends.{SendView, accepted, entry_of}
 use Rattle.port.specs.declared.fed.Fed.{Fed}
 use Rattle.port.specs.declared.kept.Kept.{Kept}
@@ -18,9 +18,9 @@ use Rattle.port.specs.Keeping.{HasUsed, KeepsAt}
 use Rattle.port.specs.Handling.{OneMore}
 use Rattle.port.specs.Stopping.{FullOnly, refusals_after}
 
-commands_in-append : (xs ys : List Told) → commands_in (xs ++ ys) ≡ commands_in xs ++ commands_in ys
+commands_in-append : (xs ys : List MessageOutcome) → commands_in (xs ++ ys) ≡ commands_in xs ++ commands_in ys
 commands_in-append [] ys = refl
-commands_in-append (Tells command ∷ xs) ys = ap (λ (cs : List CommandData). command ∷ cs) (commands_in-append xs ys)
+commands_in-append (Yields command ∷ xs) ys = ap (λ (cs : List CommandData). command ∷ cs) (commands_in-append xs ys)
 commands_in-append (PassedOver ∷ xs) ys = commands_in-append xs ys
 commands_in-append (Overlong count ∷ xs) ys = commands_in-append xs ys
 commands_in-append (Faulty fault ∷ xs) ys = commands_in-append xs ys
@@ -29,11 +29,11 @@ all_accepted-append : (e : SendView) (xs ys : List CommandData) → all_accepted
 all_accepted-append e [] ys = refl
 all_accepted-append e (x ∷ xs) ys = all_accepted-append (accepted e (entry_of e 0 x)) xs ys
 
-count_by-append : (p : Told → Bool) (xs ys : List Told) → count_by p (xs ++ ys) ≡ count_by p xs + count_by p ys
+count_by-append : (p : MessageOutcome → Bool) (xs ys : List MessageOutcome) → count_by p (xs ++ ys) ≡ count_by p xs + count_by p ys
 count_by-append p xs ys = sum_by-append (λ t. cond (p t) 1 0) xs ys
 
 -- one feed that did not stop, and then another
-pub handles_more : (now later : List Told) (old between new : SendView) (one two both : Fed) → one.stop ≡ All → Handles now old between one → Handles later between new two
+pub handles_more : (now later : List MessageOutcome) (old between new : SendView) (one two both : Fed) → one.stop ≡ All → Handles now old between one → Handles later between new two
     → both.stop ≡ two.stop → both.sent ≡ one.sent + two.sent → both.passed_over ≡ one.passed_over + two.passed_over → both.refused ≡ one.refused + two.refused
     → Handles (now ++ later) old new both
 handles_more now later old between new one two both all h k stop sent passed refused =
@@ -58,8 +58,8 @@ pub record Reached (was reader : MidiReader) (was_curve curve : Curve) (was_kept
   pub few : fed.sent + fed.passed_over + fed.refused ≤ index + 1
   pub refusals : new.refusals ≡ refusals_after fed.stop old.refusals
   pub received :
-      (done : List Told) (stream : List ℕ) → HasUsed was was_curve was_kept done stream
-      → (now : List Told) × (HasUsed reader curve keeps (done ++ now) (stream ++ take index bytes) × Handles now old new fed)
+      (done : List MessageOutcome) (stream : List ℕ) → HasUsed was was_curve was_kept done stream
+      → (now : List MessageOutcome) × (HasUsed reader curve keeps (done ++ now) (stream ++ take index bytes) × Handles now old new fed)
 
 -- it did not stop
 pub record GoesOn (keeps : Option Kept) (fed : Fed) : Type 0 where
@@ -85,7 +85,7 @@ full_by keeps fed end g = rw g.stop tt
 pub reached_first :
     (was reader : MidiReader) (was_curve curve : Curve) (was_kept keeps : Option Kept) (bytes : List ℕ) (old new : SendView) (fed : Fed)
     → OneMore old new 0 fed
-    → ((done : List Told) (stream : List ℕ) → HasUsed was was_curve was_kept done stream → (now : List Told) × (HasUsed reader curve keeps (done ++ now) stream × Handles now old new fed))
+    → ((done : List MessageOutcome) (stream : List ℕ) → HasUsed was was_curve was_kept done stream → (now : List MessageOutcome) × (HasUsed reader curve keeps (done ++ now) stream × Handles now old new fed))
     → Reached was reader was_curve curve was_kept keeps bytes 0 old new fed
 reached_first was reader was_curve curve was_kept keeps bytes old new fed one received = record {
   used = one.used_is;
@@ -103,7 +103,7 @@ pub reached_more :
     → fed.stop ≡ All → Reached was reader was_curve curve was_kept keeps bytes index old new fed
     → take (index + 1) bytes ≡ take index bytes ++ byte ∷ []
     → OneMore new last 1 two
-    → ((done : List Told) (stream : List ℕ) → HasUsed reader curve keeps done stream → (now : List Told) × (HasUsed later later_curve later_kept (done ++ now) (stream ++ byte ∷ []) × Handles now new last two))
+    → ((done : List MessageOutcome) (stream : List ℕ) → HasUsed reader curve keeps done stream → (now : List MessageOutcome) × (HasUsed later later_curve later_kept (done ++ now) (stream ++ byte ∷ []) × Handles now new last two))
     → both ≡ record { used = fed.used + two.used; sent = fed.sent + two.sent; passed_over = fed.passed_over + two.passed_over; refused = fed.refused + two.refused; stop = two.stop }
     → Reached was later was_curve later_curve was_kept later_kept bytes (index + 1) old last both
 reached_more was reader later was_curve curve later_curve was_kept keeps later_kept bytes index byte old new last fed two both stop r taken one received b = record {
@@ -134,8 +134,8 @@ reached_more was reader later was_curve curve later_curve was_kept keeps later_k
 pub received_to :
     (was reader : MidiReader) (was_curve curve : Curve) (was_kept keeps : Option Kept) (bytes : List ℕ) (index : ℕ) (old new : SendView) (fed : Fed)
     → Reached was reader was_curve curve was_kept keeps bytes index old new fed
-    → (done : List Told) (stream : List ℕ) → HasUsed was was_curve was_kept done stream
-    → (now : List Told) × (HasUsed reader curve keeps (done ++ now) (stream ++ take fed.used bytes) × Handles now old new fed)
+    → (done : List MessageOutcome) (stream : List ℕ) → HasUsed was was_curve was_kept done stream
+    → (now : List MessageOutcome) × (HasUsed reader curve keeps (done ++ now) (stream ++ take fed.used bytes) × Handles now old new fed)
 received_to was reader was_curve curve was_kept keeps bytes index old new fed r done stream u =
-    let P : ℕ → Type 0 = λ n. (now : List Told) × (HasUsed reader curve keeps (done ++ now) (stream ++ take n bytes) × Handles now old new fed) in
+    let P : ℕ → Type 0 = λ n. (now : List MessageOutcome) × (HasUsed reader curve keeps (done ++ now) (stream ++ take n bytes) × Handles now old new fed) in
     subst P (sym r.used) (r.received done stream u)

@@ -4,7 +4,7 @@ use Rattle.midi_stream.specs.declared.message.MidiMessage.{MidiMessage}
 use Rattle.sysex_frame.specs.declared.frame.FrameFault.{FrameFault}
 use Rattle.velocity_map.specs.declared.curve.Curve.{Curve}
 use Rattle.command_set.specs.Command.{CommandData}
-use Rattle.command_set.specs.Message.{Told, Tells, PassedOver, Overlong, Faulty}
+use Rattle.command_set.specs.Message.{MessageOutcome, Yields, PassedOver, Overlong, Faulty}
 use Rattle.command_queue.specs.Ends.{SendView, accepted, entry_of}
 use Rattle.port.specs.declared.kept.Kept.{Kept}
 use Rattle.port.specs.declared.kept.Kept.TheVariants as kept
@@ -13,18 +13,18 @@ use Rattle.port.specs.Handling.{IsDoneOrKept, KeepsThis, KeepsNoMessage}
 
 pub sent_done :
     (curve : Curve) (bytes : List ℕ) (command : CommandData) (keeps : Option Kept) (old new : SendView) → keeps ≡ None → new ≡ accepted old (entry_of old 0 command)
-    → IsDoneOrKept curve bytes (Tells command) keeps old new (record { used = 0; sent = 1; passed_over = 0; refused = 0; stop = All })
+    → IsDoneOrKept curve bytes (Yields command) keeps old new (record { used = 0; sent = 1; passed_over = 0; refused = 0; stop = All })
 sent_done curve bytes command keeps old new e n = rw e (record {
-  now = Tells command ∷ [];
+  now = Yields command ∷ [];
   splits = refl;
   handles = record { end_is = n; sent_is = refl; passed_over_is = refl; refused_is = refl };
   stops = tt;
 })
 
 pub passed_done :
-    (curve : Curve) (bytes : List ℕ) (told : Told) (keeps : Option Kept) (end : SendView) → keeps ≡ None → told ≡ PassedOver
-    → IsDoneOrKept curve bytes told keeps end end (record { used = 0; sent = 0; passed_over = 1; refused = 0; stop = All })
-passed_done curve bytes told keeps end e t = rw (e, t) (record {
+    (curve : Curve) (bytes : List ℕ) (outcome : MessageOutcome) (keeps : Option Kept) (end : SendView) → keeps ≡ None → outcome ≡ PassedOver
+    → IsDoneOrKept curve bytes outcome keeps end end (record { used = 0; sent = 0; passed_over = 1; refused = 0; stop = All })
+passed_done curve bytes outcome keeps end e t = rw (e, t) (record {
   now = PassedOver ∷ [];
   splits = refl;
   handles = record { end_is = refl; sent_is = refl; passed_over_is = refl; refused_is = refl };
@@ -32,9 +32,9 @@ passed_done curve bytes told keeps end e t = rw (e, t) (record {
 })
 
 pub overlong_done :
-    (curve : Curve) (bytes : List ℕ) (told : Told) (keeps : Option Kept) (end : SendView) (count : ℕ) → keeps ≡ None → told ≡ Overlong count
-    → IsDoneOrKept curve bytes told keeps end end (record { used = 0; sent = 0; passed_over = 0; refused = 1; stop = All })
-overlong_done curve bytes told keeps end count e t = rw (e, t) (record {
+    (curve : Curve) (bytes : List ℕ) (outcome : MessageOutcome) (keeps : Option Kept) (end : SendView) (count : ℕ) → keeps ≡ None → outcome ≡ Overlong count
+    → IsDoneOrKept curve bytes outcome keeps end end (record { used = 0; sent = 0; passed_over = 0; refused = 1; stop = All })
+overlong_done curve bytes outcome keeps end count e t = rw (e, t) (record {
   now = Overlong count ∷ [];
   splits = refl;
   handles = record { end_is = refl; sent_is = refl; passed_over_is = refl; refused_is = refl };
@@ -42,9 +42,9 @@ overlong_done curve bytes told keeps end count e t = rw (e, t) (record {
 })
 
 pub faulty_done :
-    (curve : Curve) (bytes : List ℕ) (told : Told) (keeps : Option Kept) (end : SendView) (fault : FrameFault) → keeps ≡ None → told ≡ Faulty fault
-    → IsDoneOrKept curve bytes told keeps end end (record { used = 0; sent = 0; passed_over = 0; refused = 1; stop = All })
-faulty_done curve bytes told keeps end fault e t = rw (e, t) (record {
+    (curve : Curve) (bytes : List ℕ) (outcome : MessageOutcome) (keeps : Option Kept) (end : SendView) (fault : FrameFault) → keeps ≡ None → outcome ≡ Faulty fault
+    → IsDoneOrKept curve bytes outcome keeps end end (record { used = 0; sent = 0; passed_over = 0; refused = 1; stop = All })
+faulty_done curve bytes outcome keeps end fault e t = rw (e, t) (record {
   now = Faulty fault ∷ [];
   splits = refl;
   handles = record { end_is = refl; sent_is = refl; passed_over_is = refl; refused_is = refl };

@@ -2,7 +2,7 @@
 use Rattle.std.specs.Prelude.{◌≡◌, List, [], ◌∷◌, length}
 use Rattle.std.specs.List.{count_by}
 use Rattle.command_set.specs.Command.{CommandData}
-use Rattle.command_set.specs.Message.{Told}
+use Rattle.command_set.specs.Message.{MessageOutcome}
 use Rattle.command_queue.specs.Ends.{SendView, accepted, refused, entry_of}
 use Rattle.port.specs.declared.fed.Fed.{Fed}
 use Rattle.port.specs.declared.fed.PortStop.{PortStop}
@@ -21,7 +21,7 @@ stopped Full e = refused e
 stopped Memory e = e
 
 -- Of what comes of the messages, in order, the commands were accepted, and the others counted.
-pub record Handles (now : List Told) (old new : SendView) (fed : Fed) : Type 0 where
+pub record Handles (now : List MessageOutcome) (old new : SendView) (fed : Fed) : Type 0 where
   pub end_is : new ≡ stopped fed.stop (all_accepted old (commands_in now))
   pub sent_is : fed.sent ≡ length (commands_in now)
   pub passed_over_is : fed.passed_over ≡ count_by is_passed_over now

@@ -6,18 +6,18 @@ use Rattle.midi_stream.specs.Messages.{messages, last_sysex}
 use Rattle.midi_stream.specs.Standing.{HasBytes}
 use Rattle.midi_stream.specs.Reading.{Reads}
 use Rattle.velocity_map.specs.declared.curve.Curve.{Curve}
-use Rattle.command_set.specs.Message.{Told, Tells, command_of}
+use Rattle.command_set.specs.Message.{MessageOutcome, Yields, command_of}
 use Rattle.port.specs.declared.kept.Kept.{Kept}
 use Rattle.port.specs.declared.kept.Kept.TheVariants as kept
 use Rattle.port.specs.declared.fed.PortStop.{PortStop}
 use Rattle.port.specs.declared.fed.PortStop.TheVariants.{All, Full, Memory}
 use Rattle.port.specs.Outcomes.{exclusive_of, ended_messages, outcomes}
 
--- what is told by what a port keeps, with the bytes of the last system exclusive message
-abbrev pub told_kept : Curve → List ℕ → Option Kept → List Told
-told_kept curve bytes None = []
-told_kept curve bytes (Some (kept.Command command)) = Tells command ∷ []
-told_kept curve bytes (Some (kept.Message message)) = command_of message bytes curve ∷ []
+-- the outcome of what a port keeps, with the bytes of the last system exclusive message
+abbrev pub kept_outcomes : Curve → List ℕ → Option Kept → List MessageOutcome
+kept_outcomes curve bytes None = []
+kept_outcomes curve bytes (Some (kept.Command command)) = Yields command ∷ []
+kept_outcomes curve bytes (Some (kept.Message message)) = command_of message bytes curve ∷ []
 
 -- the last message of a stream, with the bytes that the stream ends with
 pub record IsLast (message : MidiMessage) (stream : List ℕ) : Type 0 where
@@ -44,8 +44,8 @@ KeepsAt Memory (Some (kept.Message message)) = Unit {0}
 
 -- A port with this reader and this curve has used the bytes of the stream: what comes of its messages was done, but for what is kept.
 -- The messages with their bytes are the messages of the stream.
-pub record HasUsed (reader : MidiReader) (curve : Curve) (keeps : Option Kept) (done : List Told) (stream : List ℕ) : Type 0 where
+pub record HasUsed (reader : MidiReader) (curve : Curve) (keeps : Option Kept) (done : List MessageOutcome) (stream : List ℕ) : Type 0 where
   pub reads : Reads reader stream
   pub received : map (λ h. h.message) (ended_messages stream) ≡ messages stream
-  pub tells : outcomes curve stream ≡ done ++ told_kept curve (exclusive_of stream) keeps
+  pub tells : outcomes curve stream ≡ done ++ kept_outcomes curve (exclusive_of stream) keeps
   pub last : KeepsLast keeps stream

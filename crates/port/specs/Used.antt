@@ -2,7 +2,7 @@
 use Rattle.std.specs.Prelude.{ℕ, ◌≡◌, List, ◌++◌, None}
 use Rattle.velocity_map.specs.declared.curve.Curve.{Curve}
 use Rattle.velocity_map.specs.Map.{curve_of}
-use Rattle.command_set.specs.Message.{Told}
+use Rattle.command_set.specs.Message.{MessageOutcome}
 use Rattle.command_queue.specs.Ends.{SendView}
 use Rattle.port.specs.declared.port.Port.{Port}
 use Rattle.port.specs.declared.fed.Fed.{Fed}
@@ -15,7 +15,7 @@ abbrev pub port_curve : {g : _} {f : _} {m : _} → Port g f m → Curve
 port_curve port = curve_of port.map
 
 -- the port has used the bytes of the stream, and what comes of their messages was done, but for what is kept
-abbrev pub Used : {g : _} {f : _} {m : _} → Port g f m → List Told → List ℕ → Type 0
+abbrev pub Used : {g : _} {f : _} {m : _} → Port g f m → List MessageOutcome → List ℕ → Type 0
 Used port done stream = HasUsed port.reader (port_curve port) port.kept done stream
 
 -- nothing is kept
@@ -27,5 +27,5 @@ abbrev pub KeepsAs : {g : _} {f : _} {m : _} → Port g f m → PortStop → Typ
 KeepsAs port stop = KeepsAt stop port.kept
 
 -- the port has used the bytes of the stream, and more was done of what comes of their messages
-abbrev pub Receives : {g : _} {f : _} {m : _} → Port g f m → List Told → List ℕ → SendView → SendView → Fed → Type 0
-Receives port done stream old new fed = (now : List Told) × (Used port (done ++ now) stream × Handles now old new fed)
+abbrev pub Receives : {g : _} {f : _} {m : _} → Port g f m → List MessageOutcome → List ℕ → SendView → SendView → Fed → Type 0
+Receives port done stream old new fed = (now : List MessageOutcome) × (Used port (done ++ now) stream × Handles now old new fed)

@@ -5,7 +5,7 @@ ghost use Rattle.midi_stream.specs.Ranges.{InRange};
 ghost use Rattle.velocity_map.specs.declared.curve.Curve.{Curve};
 ghost use Rattle.velocity_map.specs.Map.{curve_of};
 ghost use Rattle.command_set.specs.Command.{IsInRange, content};
-ghost use Rattle.command_set.specs.Message.{Told, Tells, command_of};
+ghost use Rattle.command_set.specs.Message.{MessageOutcome, Yields, command_of};
 ghost use Rattle.command_queue.specs.Ends.{quota_of};
 ghost use Rattle.port.specs.Ranges.{SendsInRange};
 ghost use Rattle.port.specs.Handling.{IsDoneOrKept, KeepsThis, KeepsNoMessage, OneMore};
@@ -31,7 +31,7 @@ pub(crate) fn send<R: Wait>(
     requires quota { length end.old.list < quota_of end.old }
     requires command { IsInRange (content command) }
     requires clear { kept.old ≡ None }
-    ensures done { (curve : Curve) (bytes : List ℕ) → IsDoneOrKept curve bytes (Tells (content command)) kept.new end.old end.new result }
+    ensures done { (curve : Curve) (bytes : List ℕ) → IsDoneOrKept curve bytes (Yields (content command)) kept.new end.old end.new result }
     ensures keeps { KeepsNoMessage kept.new }
     ensures one { OneMore end.old end.new 0 result }
     ensures ranges { SendsInRange end.old end.new }

@@ -3,7 +3,7 @@
 ghost use Rattle.std.specs.Prelude.{ℕ, List, ◌≡◌, ◌≢◌, ◌+◌, ◌-◌, ◌<◌, ◌≤◌, ◌⊎◌, [], ◌∷◌, ◌++◌, None, take, length};
 ghost use Rattle.std.specs.Prelude.{slice_index, IfOk, IfErr};
 ghost use Rattle.velocity_map.specs.Map.{curve_of};
-ghost use Rattle.command_set.specs.Message.{Told};
+ghost use Rattle.command_set.specs.Message.{MessageOutcome};
 ghost use Rattle.command_queue.specs.Ends.{quota_of};
 ghost use Rattle.port.specs.Feeding.{Handles};
 ghost use Rattle.port.specs.Keeping.{KeepsAt};
@@ -51,7 +51,8 @@ impl Port {
     fn retry<R: Wait>(&mut self, rt: &R, alloc: Global, line: &Line, end: &mut SendEnd) -> Fed
         requires line { end.old.line ≡ line.now }
         requires quota { length end.old.list < quota_of end.old }
-        ensures received { (done : List Told) (stream : List ℕ) → Used self.old done stream → Receives self.new done stream end.old end.new result }
+        ensures received { (done : List MessageOutcome) (stream : List ℕ) → Used self.old done stream
+            → Receives self.new done stream end.old end.new result }
         ensures curve { port_curve self.new ≡ port_curve self.old }
         ensures keeps { KeepsAs self.new result.stop }
         ensures one { OneMore end.old end.new 0 result }
@@ -91,7 +92,7 @@ impl Port {
         requires line { end.old.line ≡ line.now }
         requires quota { length end.old.list < quota_of end.old }
         requires clear { IsClear self.old }
-        ensures received { (done : List Told) (stream : List ℕ) → Used self.old done stream
+        ensures received { (done : List MessageOutcome) (stream : List ℕ) → Used self.old done stream
             → Receives self.new done (stream ++ byte ∷ []) end.old end.new result }
         ensures curve { port_curve self.new ≡ port_curve self.old }
         ensures keeps { KeepsAs self.new result.stop }
@@ -126,7 +127,7 @@ impl Port {
     ) -> Fed
         requires line { end.old.line ≡ line.now }
         requires quota { length end.old.list + length bytes.now + 1 ≤ quota_of end.old }
-        ensures fed { (done : List Told) (stream : List ℕ) → Used self.old done stream
+        ensures fed { (done : List MessageOutcome) (stream : List ℕ) → Used self.old done stream
             → Receives self.new done (stream ++ take result.used bytes.now) end.old end.new result }
         ensures ranges { SendsInRange end.old end.new }
         ensures curve { port_curve self.new ≡ port_curve self.old }

@@ -4,7 +4,7 @@ use Rattle.std.proofs.Common.{inl, inr, ap, arith}
 use Rattle.std.proofs.Math.Bridge.{le_prop}
 use Rattle.std.proofs.Math.Nat.{ℕ_set}
 use Rattle.command_set.specs.Command.{CommandData, IsInRange, IsKnownControl, StartsNote, EndsNote, Bends, Controls, PicksProgram}
-use Rattle.command_set.specs.Command.{SetsNumber, StoresVoice, LoadsVoice, LoadsCartridge}
+use Rattle.command_set.specs.Command.{SetsParameter, StoresVoice, LoadsVoice, LoadsCartridge}
 
 one_of_two : {A B : Type 0} → IsProp A → IsProp B → (A → B → ⊥) → IsProp (A ⊎ B)
 one_of_two p q apart (inl a) (inl b) = ap inl (p a b)
@@ -30,7 +30,7 @@ in_range_once (EndsNote channel key) = hlevel le_prop
 in_range_once (Bends channel value) = hlevel le_prop
 in_range_once (Controls channel number value) = hlevel (le_prop, known_once)
 in_range_once (PicksProgram channel number) = hlevel le_prop
-in_range_once (SetsNumber number value) = hlevel le_prop
+in_range_once (SetsParameter number value) = hlevel le_prop
 in_range_once (StoresVoice slot) = hlevel le_prop
 in_range_once (LoadsVoice fields) = hlevel (le_prop, ℕ_set)
 in_range_once (LoadsCartridge voices) = hlevel (le_prop, ℕ_set)

@@ -2,7 +2,7 @@
 use Rattle.std.proofs.Common.{◌≡◌, ℕ, ◌<◌, List, [], ◌∷◌, ◌++◌, zero, suc, length, false, arith, leb-false}
 use Rattle.std.specs.Prelude.{All, Option, Some, None, nat_le, slice_index_or}
 use Rattle.velocity_map.specs.declared.curve.Curve.{Curve}
-use Rattle.command_set.specs.Message.{Told, Tells, PassedOver, Overlong, Faulty, command_of}
+use Rattle.command_set.specs.Message.{MessageOutcome, Yields, PassedOver, Overlong, Faulty, command_of}
 use Rattle.script_plan.specs.Plan.{PlannedData}
 use Rattle.script_outcome.specs.declared.fault.Place.{Place}
 use Rattle.midi_stream.specs.Ended.{EndedMessage, ended_message}
@@ -19,8 +19,8 @@ both_early blocks [] ys a b = b
 both_early blocks (Gives c ∷ xs) ys a b = (a.0, both_early blocks xs ys a.1 b)
 both_early blocks (Fails at why ∷ xs) ys a b = both_early blocks xs ys a b
 
-pub message_early : (blocks block : ℕ) (at : Place) (told : Told) → block < blocks → AllEarly blocks (message_outcomes at block told)
-message_early blocks block at (Tells command) below = (below, tt)
+pub message_early : (blocks block : ℕ) (at : Place) (told : MessageOutcome) → block < blocks → AllEarly blocks (message_outcomes at block told)
+message_early blocks block at (Yields command) below = (below, tt)
 message_early blocks block at PassedOver below = tt
 message_early blocks block at (Overlong count) below = tt
 message_early blocks block at (Faulty fault) below = tt

@@ -9,7 +9,7 @@ use Rattle.script_outcome.specs.declared.fault.ScriptFault.{ScriptFault}
 use Rattle.script_outcome.specs.declared.fault.ScriptFault.TheVariants as faults
 use Rattle.script_outcome.specs.declared.fault.ScriptKind.TheVariants as kind
 use Rattle.sysex_frame.specs.declared.frame.FrameFault.{FrameFault}
-use Rattle.command_set.specs.Message.{Told, Overlong, Faulty}
+use Rattle.command_set.specs.Message.{MessageOutcome, Overlong, Faulty}
 use Rattle.std.specs.Prelude.{Result, Ok, Err, OnOk, IfOk, IfErr, OnErr}
 use Rattle.script_outcome.specs.Outcomes.{Outcome, Gives, Fails, message_outcomes}
 use Rattle.script_outcome.specs.Plan.{Plan, Commands, Refused, TooMany, given, verdict, plan_of}
@@ -93,15 +93,15 @@ last_due_more least [] c = refl
 last_due_more least (d ∷ cs) c = last_due_more d.due cs c
 
 -- a message that is refused
-pub stops_overlong : (room : ℕ) (cs : List PlannedData) (at : Place) (block count : ℕ) (told : Told) (more : List Outcome) → length cs ≤ room → told ≡ Overlong count
+pub stops_overlong : (room : ℕ) (cs : List PlannedData) (at : Place) (block count : ℕ) (told : MessageOutcome) (more : List Outcome) → length cs ≤ room → told ≡ Overlong count
     → plan_of room (all_given cs ++ message_outcomes at block told ++ more) ≡ Refused at kind.Long
 stops_overlong room cs at block count told more few is =
-    subst (λ (t : Told). plan_of room (all_given cs ++ message_outcomes at block t ++ more) ≡ Refused at kind.Long) (sym is) (fails room cs at kind.Long more few)
+    subst (λ (t : MessageOutcome). plan_of room (all_given cs ++ message_outcomes at block t ++ more) ≡ Refused at kind.Long) (sym is) (fails room cs at kind.Long more few)
 
-pub stops_faulty : (room : ℕ) (cs : List PlannedData) (at : Place) (block : ℕ) (fault : FrameFault) (told : Told) (more : List Outcome) → length cs ≤ room → told ≡ Faulty fault
+pub stops_faulty : (room : ℕ) (cs : List PlannedData) (at : Place) (block : ℕ) (fault : FrameFault) (told : MessageOutcome) (more : List Outcome) → length cs ≤ room → told ≡ Faulty fault
     → plan_of room (all_given cs ++ message_outcomes at block told ++ more) ≡ Refused at (kind.Message fault)
 stops_faulty room cs at block fault told more few is =
-    subst (λ (t : Told). plan_of room (all_given cs ++ message_outcomes at block t ++ more) ≡ Refused at (kind.Message fault)) (sym is) (fails room cs at (kind.Message fault) more few)
+    subst (λ (t : MessageOutcome). plan_of room (all_given cs ++ message_outcomes at block t ++ more) ≡ Refused at (kind.Message fault)) (sym is) (fails room cs at (kind.Message fault) more few)
 
 -- what an answer says, handed on
 pub on_ok_more : {T E : Type 0} {P Q : Type 0} (r : Result T E) → OnOk r P → (P → Q) → OnOk r Q

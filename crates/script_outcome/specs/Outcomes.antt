@@ -1,7 +1,7 @@
 -- What comes of a script: commands and faults, in reading order.
 use Rattle.std.specs.Prelude.{ℕ, nat_le, Bool, false, List, [], ◌∷◌, ◌++◌, Option, Some, None}
 use Rattle.velocity_map.specs.declared.curve.Curve.{Curve}
-use Rattle.command_set.specs.Message.{Told, Tells, PassedOver, Overlong, Faulty, command_of}
+use Rattle.command_set.specs.Message.{MessageOutcome, Yields, PassedOver, Overlong, Faulty, command_of}
 use Rattle.script_plan.specs.Plan.{PlannedData, planned_at}
 use Rattle.script_outcome.specs.declared.fault.Place.{Place}
 use Rattle.script_outcome.specs.declared.fault.ScriptKind.{ScriptKind}
@@ -14,8 +14,8 @@ pub data Outcome : Type 0 where
   Fails : Place → ScriptKind → Outcome
 
 -- what comes of a message
-abbrev pub message_outcomes : Place → ℕ → Told → List Outcome
-message_outcomes at block (Tells command) = Gives (planned_at block command) ∷ []
+abbrev pub message_outcomes : Place → ℕ → MessageOutcome → List Outcome
+message_outcomes at block (Yields command) = Gives (planned_at block command) ∷ []
 message_outcomes at block PassedOver = []
 message_outcomes at block (Overlong count) = Fails at kind.Long ∷ []
 message_outcomes at block (Faulty fault) = Fails at (kind.Message fault) ∷ []

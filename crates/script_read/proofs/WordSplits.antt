@@ -5,24 +5,24 @@ use Rattle.std.specs.Prelude.{◌==◌, filter, take, drop}
 use Rattle.std.proofs.Math.Seq.{drop-length, take-nil}
 use Rattle.std.specs.List.{join_with_byte}
 use Rattle.plain_text.specs.Split.{split}
-use Rattle.plain_text.specs.Words.{is_some_word}
+use Rattle.plain_text.specs.Words.{is_nonempty}
 use Rattle.script_read.specs.Words.{after_word, text_after, words_of}
 
 pub word_first : (line word after : List ℕ) → split 32 line ≡ word ∷ split 32 after → 0 < length word → words_of line ≡ word ∷ words_of after
 unfolding words_of
-word_first line word after e some = ap (filter is_some_word) e ∙ rw (lt-ltb 0 (length word) some) refl
+word_first line word after e some = ap (filter is_nonempty) e ∙ rw (lt-ltb 0 (length word) some) refl
 
 pub word_skipped : (line after : List ℕ) (word : List ℕ) → split 32 line ≡ word ∷ split 32 after → length word ≡ 0 → words_of line ≡ words_of after
 unfolding words_of
-word_skipped line after word e none = ap (filter is_some_word) e ∙ rw none refl
+word_skipped line after word e none = ap (filter is_nonempty) e ∙ rw none refl
 
 pub word_last : (line : List ℕ) → split 32 line ≡ line ∷ [] → 0 < length line → words_of line ≡ line ∷ []
 unfolding words_of
-word_last line e some = ap (filter is_some_word) e ∙ rw (lt-ltb 0 (length line) some) refl
+word_last line e some = ap (filter is_nonempty) e ∙ rw (lt-ltb 0 (length line) some) refl
 
 pub word_none : (line : List ℕ) → split 32 line ≡ line ∷ [] → length line ≡ 0 → words_of line ≡ []
 unfolding words_of
-word_none line e none = ap (filter is_some_word) e ∙ rw none refl
+word_none line e none = ap (filter is_nonempty) e ∙ rw none refl
 
 -- a line without bytes has no words
 pub none_of_empty : words_of [] ≡ []

@@ -2,7 +2,7 @@
 use Rattle.std.specs.Prelude.{ℕ, ◌^◌, ◌-◌, ◌&&◌, Bool, nat_le, nat_lt, List, [], ◌∷◌, ◌++◌, codes, bytes_eq, length, map}
 use Rattle.std.specs.Prelude.{replicate, Option, Some, None, option_map, option_and_then, if◌then◌else◌}
 use Rattle.std.specs.List.{list_all}
-use Rattle.command_set.specs.Command.{CommandData, StartsNote, EndsNote, Bends, Controls, PicksProgram, SetsNumber, StoresVoice}
+use Rattle.command_set.specs.Command.{CommandData, StartsNote, EndsNote, Bends, Controls, PicksProgram, SetsParameter, StoresVoice}
 use Rattle.command_set.specs.Command.{LoadsVoice, LoadsCartridge}
 use Rattle.script_read.specs.Words.{number_to, text_after, words_of}
 use Rattle.script_read.specs.Grammar.{parsed_voice}
@@ -48,7 +48,7 @@ voice_taken (EndsNote channel key) = None
 voice_taken (Bends channel value) = None
 voice_taken (Controls channel number value) = None
 voice_taken (PicksProgram channel number) = None
-voice_taken (SetsNumber number value) = None
+voice_taken (SetsParameter number value) = None
 voice_taken (StoresVoice slot) = None
 voice_taken (LoadsVoice voice) = Some voice
 voice_taken (LoadsCartridge voices) = None

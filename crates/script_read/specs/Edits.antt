@@ -1,9 +1,9 @@
 -- What comes of the lines of an `edit 1` script: commands and faults, by the editing history before each line.
 use Rattle.std.specs.Prelude.{ℕ, ◌+◌, nat_le, List, [], ◌∷◌, ◌++◌, length, slice_set, Option, Some, None, if◌then◌else◌}
 use Rattle.voice_record.specs.Voice.{greatest_value, opening_voice}
-use Rattle.command_set.specs.Command.{CommandData, SetsNumber, StoresVoice, LoadsVoice}
+use Rattle.command_set.specs.Command.{CommandData, SetsParameter, StoresVoice, LoadsVoice}
 use Rattle.script_plan.specs.Plan.{planned_at}
-use Rattle.editor.specs.History.{History, OneNumber, WholeVoice, acted, begun, redone, undone}
+use Rattle.editor.specs.History.{History, OneParameter, WholeVoice, acted, begun, redone, undone}
 use Rattle.editor.specs.Names.{renamed}
 use Rattle.script_outcome.specs.declared.fault.Place.{Place}
 use Rattle.script_outcome.specs.declared.fault.Place.TheVariants as place
@@ -27,7 +27,7 @@ stepped why (Some found) = Becomes found.0 found.1
 unfoldable pub answered : History → Request → Answered
 answered h (Sets number value) =
     if nat_le value (greatest_value number)
-    then Becomes (acted h (OneNumber number) (slice_set h.voice number value)) (SetsNumber number value)
+    then Becomes (acted h (OneParameter number) (slice_set h.voice number value)) (SetsParameter number value)
     else Refuses kind.Value
 answered h Undoes = stepped kind.Undo (undone h)
 answered h Redoes = stepped kind.Redo (redone h)

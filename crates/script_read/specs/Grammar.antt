@@ -6,7 +6,7 @@ use Rattle.hex.specs.Hex.{decode_of, encode_lower}
 use Rattle.hex.specs.declared.error.FromHexError.{FromHexError}
 use Rattle.voice_record.specs.Voice.{greatest_value}
 use Rattle.cartridge.specs.Cartridge.{voices_of}
-use Rattle.command_set.specs.Command.{CommandData, StartsNote, EndsNote, Bends, Controls, PicksProgram, SetsNumber, StoresVoice}
+use Rattle.command_set.specs.Command.{CommandData, StartsNote, EndsNote, Bends, Controls, PicksProgram, SetsParameter, StoresVoice}
 use Rattle.command_set.specs.Command.{LoadsVoice, LoadsCartridge}
 use Rattle.command_set.specs.Text.{packed}
 use Rattle.command_set.specs.Message.{acts, clamped_voice}
@@ -51,7 +51,7 @@ both f None second = None
 -- a parameter of the voice or the operator switch, and a value up to its greatest
 abbrev pub parsed_param : List ℕ → Option ℕ → Option CommandData
 parsed_param value None = None
-parsed_param value (Some number) = option_map (SetsNumber number) (number_to (greatest_value number) value)
+parsed_param value (Some number) = option_map (SetsParameter number) (number_to (greatest_value number) value)
 
 -- a kind and two words
 unfoldable pub parsed_two : List ℕ → List ℕ → List ℕ → Option CommandData

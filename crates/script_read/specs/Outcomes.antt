@@ -4,7 +4,7 @@ use Rattle.midi_stream.specs.Messages.{is_unfinished}
 use Rattle.velocity_map.specs.declared.curve.Curve.{Curve}
 use Rattle.velocity_map.specs.declared.curve.Curve.TheVariants.{Linear}
 use Rattle.velocity_map.specs.Curve.{curve_value}
-use Rattle.command_set.specs.Command.{CommandData, StartsNote, EndsNote, Bends, Controls, PicksProgram, SetsNumber, StoresVoice}
+use Rattle.command_set.specs.Command.{CommandData, StartsNote, EndsNote, Bends, Controls, PicksProgram, SetsParameter, StoresVoice}
 use Rattle.command_set.specs.Command.{LoadsVoice, LoadsCartridge}
 use Rattle.script_plan.specs.Plan.{planned_at}
 use Rattle.script_outcome.specs.declared.fault.Place.{Place}
@@ -60,7 +60,7 @@ curved curve (EndsNote channel key) = EndsNote channel key
 curved curve (Bends channel value) = Bends channel value
 curved curve (Controls channel number value) = Controls channel number value
 curved curve (PicksProgram channel number) = PicksProgram channel number
-curved curve (SetsNumber number value) = SetsNumber number value
+curved curve (SetsParameter number value) = SetsParameter number value
 curved curve (StoresVoice slot) = StoresVoice slot
 curved curve (LoadsVoice voice) = LoadsVoice voice
 curved curve (LoadsCartridge voices) = LoadsCartridge voices

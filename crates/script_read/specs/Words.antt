@@ -7,7 +7,7 @@ use Rattle.std.specs.Str.Parse.{digits_value}
 use Rattle.std.specs.Result.{result_ok}
 use Rattle.hex.specs.Hex.{decode_of}
 use Rattle.plain_text.specs.Split.{split}
-use Rattle.plain_text.specs.Words.{is_some_word}
+use Rattle.plain_text.specs.Words.{is_nonempty}
 
 -- a line without a carriage return at its end
 abbrev pub without_return : List ℕ → List ℕ
@@ -25,12 +25,12 @@ lines_of text = ended (split 10 text)
 
 -- the words of a line, which one or more spaces part; spaces at its ends don't count
 unfoldable pub words_of : List ℕ → List (List ℕ)
-words_of line = filter is_some_word (split 32 line)
+words_of line = filter is_nonempty (split 32 line)
 
 -- of the parts of a line, those after its first word
 abbrev pub after_word : List (List ℕ) → List (List ℕ)
 after_word [] = []
-after_word (part ∷ more) = if is_some_word part then more else after_word more
+after_word (part ∷ more) = if is_nonempty part then more else after_word more
 
 -- what stands after the first word of a line and one space
 unfoldable pub text_after : List ℕ → List ℕ

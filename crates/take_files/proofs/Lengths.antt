@@ -8,7 +8,7 @@ use Rattle.hex.specs.Hex.{encode_lower, lower_digits}
 use Rattle.hex.proofs.HexLemmas.{length-encode_with}
 use Rattle.voice_record.proofs.Voices.{greatest_small}
 use Rattle.plain_text.specs.Split.{spaced}
-use Rattle.command_set.specs.Command.{CommandData, StartsNote, EndsNote, Bends, Controls, PicksProgram, SetsNumber, StoresVoice, LoadsVoice, LoadsCartridge, IsInRange}
+use Rattle.command_set.specs.Command.{CommandData, StartsNote, EndsNote, Bends, Controls, PicksProgram, SetsParameter, StoresVoice, LoadsVoice, LoadsCartridge, IsInRange}
 use Rattle.command_set.specs.Entries.{LoggedData}
 use Rattle.command_set.specs.Text.{text, packed, share}
 use Rattle.command_set.proofs.Words.{known_small}
@@ -54,7 +54,7 @@ text_short (Controls channel number value) (a, known, b) =
     omega (arith, h)
 text_short (PicksProgram channel number) (a, b) =
     let h = two_short (codes "program") channel number (omega arith) (omega arith) (omega arith) in omega (arith, h)
-text_short (SetsNumber number value) (a, b) =
+text_short (SetsParameter number value) (a, b) =
     let h = two_short (codes "param") number value (omega arith) (omega arith) (omega (arith, greatest_small number (omega arith))) in omega (arith, h)
 text_short (StoresVoice slot) a =
     let h = one_short (codes "store") (decimal slot) 5 10 (omega arith) (number_short slot (omega arith)) in omega (arith, h)

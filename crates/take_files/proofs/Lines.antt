@@ -15,7 +15,7 @@ use Rattle.voice_record.proofs.Every.{every, every_at}
 use Rattle.voice_record.proofs.Voices.{greatest_small}
 use Rattle.plain_text.specs.Split.{split, spaced}
 use Rattle.plain_text.proofs.Cuts.{split_some}
-use Rattle.command_set.specs.Command.{CommandData, StartsNote, EndsNote, Bends, Controls, PicksProgram, SetsNumber, StoresVoice, LoadsVoice, LoadsCartridge, IsInRange}
+use Rattle.command_set.specs.Command.{CommandData, StartsNote, EndsNote, Bends, Controls, PicksProgram, SetsParameter, StoresVoice, LoadsVoice, LoadsCartridge, IsInRange}
 use Rattle.command_set.specs.Entries.{LoggedData}
 use Rattle.command_set.specs.Text.{text, packed}
 use Rattle.command_set.proofs.WordBytes.{HasNo, codes_whole, decimal_whole, hex_whole, own}
@@ -111,7 +111,7 @@ text_whole (Controls channel number value) (a, known, b) =
     three_whole (codes "control") channel number value (codes_whole 10 (codes "control") refl) (omega arith) (omega (arith, known_small number known)) (omega arith)
 text_whole (PicksProgram channel number) (a, b) =
     two_whole (codes "program") channel number (codes_whole 10 (codes "program") refl) (omega arith) (omega arith)
-text_whole (SetsNumber number value) (a, b) =
+text_whole (SetsParameter number value) (a, b) =
     two_whole (codes "param") number value (codes_whole 10 (codes "param") refl) (omega arith) (omega (arith, greatest_small number (omega arith)))
 text_whole (StoresVoice slot) a = one_whole (codes "store") (decimal slot) (codes_whole 10 (codes "store") refl) (number_whole slot (omega arith))
 text_whole (LoadsVoice voice) v = one_whole (codes "voice") (encode_lower voice) (codes_whole 10 (codes "voice") refl) (hex_whole 10 voice (omega arith) (voice_bytes voice v))

@@ -21,7 +21,7 @@ use Rattle.tool_core.specs.Inputs.{Input, Kind, Midi, AnOrder, ASound, IsVerdict
 use Rattle.tool_core.specs.Orders.{IsOrderVerdict, IsRefusedFor, sound_verdict}
 use Rattle.tool_core.specs.Effects.{Effect, HasEffect, comparison, reads}
 use Rattle.tool_core.specs.Failures.{Fails, FailsAt, status_of, line_of}
-use Rattle.tool_core.specs.Outcomes.{WasDone, IsDone, IsUnread, IsUnwritten, IsRefused, IsPastLimit, IsOutOfMemory, AnswersBy, IsComplete, Tells, statuses_of}
+use Rattle.tool_core.specs.Outcomes.{WasDone, IsDone, IsUnread, IsUnwritten, IsRefused, IsPastLimit, IsOutOfMemory, AnswersBy, IsComplete, SaysLine, statuses_of}
 use Rattle.tool_core.specs.Endings.{Finishes, Ends}
 
 -- ---- one verdict decides
@@ -226,29 +226,29 @@ module _ (request : RequestData) (s : ℕ) (b n : Snapshot) where
   pub seven_clause : Ends request s b n → s ≡ 7 → IsVerify request
   seven_clause ends is = let d = done_clause ends (inr is) in seven_verify request b.files d.effect d.does (sym d.status_is ∙ is)
 
-  unread_of : (f : Failure) (name : List ℕ) → Fails f (reads request) b.files name b.reading n.reading → s ≡ status_of f → Tells (line_of f name) b n → s ≡ 2 → IsUnread request b n
+  unread_of : (f : Failure) (name : List ℕ) → Fails f (reads request) b.files name b.reading n.reading → s ≡ status_of f → SaysLine (line_of f name) b n → s ≡ 2 → IsUnread request b n
   unread_of failure.Unread name fails is line q =
-      record { one = fails.one; reached = fails.reached; cause = fails.reason; line = subst (λ (l : List ℕ). Tells (cannot_read l) b n) fails.named line }
+      record { one = fails.one; reached = fails.reached; cause = fails.reason; line = subst (λ (l : List ℕ). SaysLine (cannot_read l) b n) fails.named line }
   unread_of failure.TooLarge name fails is line q = absurd (omega (arith, is, q))
   unread_of failure.TooMany name fails is line q = absurd (omega (arith, is, q))
   unread_of (failure.Refused r) name fails is line q = absurd (omega (arith, is, q))
   unread_of failure.Memory name fails is line q = absurd (omega (arith, is, q))
 
-  refused_of : (f : Failure) (name : List ℕ) → Fails f (reads request) b.files name b.reading n.reading → s ≡ status_of f → Tells (line_of f name) b n → s ≡ 4 → IsRefused request b n
+  refused_of : (f : Failure) (name : List ℕ) → Fails f (reads request) b.files name b.reading n.reading → s ≡ status_of f → SaysLine (line_of f name) b n → s ≡ 4 → IsRefused request b n
   refused_of failure.Unread name fails is line q = absurd (omega (arith, is, q))
   refused_of failure.TooLarge name fails is line q = absurd (omega (arith, is, q))
   refused_of failure.TooMany name fails is line q = absurd (omega (arith, is, q))
   refused_of (failure.Refused r) name fails is line q = record { one = fails.one; reached = fails.reached; why = r; refused = fails.reason.1; line = line }
   refused_of failure.Memory name fails is line q = absurd (omega (arith, is, q))
 
-  limit_of : (f : Failure) (name : List ℕ) → Fails f (reads request) b.files name b.reading n.reading → s ≡ status_of f → Tells (line_of f name) b n → s ≡ 6 → IsPastLimit request b n
+  limit_of : (f : Failure) (name : List ℕ) → Fails f (reads request) b.files name b.reading n.reading → s ≡ status_of f → SaysLine (line_of f name) b n → s ≡ 6 → IsPastLimit request b n
   limit_of failure.Unread name fails is line q = absurd (omega (arith, is, q))
   limit_of failure.TooLarge name fails is line q = record { one = fails.one; reached = fails.reached; limit = inl (fails.reason.1, line) }
   limit_of failure.TooMany name fails is line q = record { one = fails.one; reached = fails.reached; limit = inr (fails.reason.1, line) }
   limit_of (failure.Refused r) name fails is line q = absurd (omega (arith, is, q))
   limit_of failure.Memory name fails is line q = absurd (omega (arith, is, q))
 
-  memory_of : (f : Failure) (name : List ℕ) → s ≡ status_of f → Tells (line_of f name) b n → s ≡ 8 → IsOutOfMemory b n
+  memory_of : (f : Failure) (name : List ℕ) → s ≡ status_of f → SaysLine (line_of f name) b n → s ≡ 8 → IsOutOfMemory b n
   memory_of failure.Unread name is line q = absurd (omega (arith, is, q))
   memory_of failure.TooLarge name is line q = absurd (omega (arith, is, q))
   memory_of failure.TooMany name is line q = absurd (omega (arith, is, q))

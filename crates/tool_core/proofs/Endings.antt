@@ -16,7 +16,7 @@ use Rattle.tool_core.specs.Inputs.{Input, Kind, input, AreGood, IsJudged}
 use Rattle.tool_core.specs.Effects.{Effect, HasEffect, Output, prints, writes, written, reads, scripts_of, cartridge_of, picked}
 use Rattle.tool_core.specs.Lines.{bench_line, check_report, list_report, ok_line, scripts_line}
 use Rattle.tool_core.specs.Failures.{IsReason, Fails, FailsAt, status_of, line_of}
-use Rattle.tool_core.specs.Outcomes.{HasGood, BeginsOut, Tells}
+use Rattle.tool_core.specs.Outcomes.{HasGood, BeginsOut, SaysLine}
 use Rattle.tool_core.specs.Scripts.{FailsWriting}
 use Rattle.tool_core.specs.Endings.{Puts, Finishes, Ends}
 use Rattle.tool_core.proofs.Meanings.{unless_reason}
@@ -56,7 +56,7 @@ first_begun (Some told) now name text is = is
 
 -- one whose file could not be written
 pub unwritten_ends : (name text : List ℕ) (status : ℕ) (before now : Snapshot) → now.reading ≡ before.reading → status ≡ 3 → (Rose before.writing now.writing ⊎ ⊥)
-    → IfSome before.files (λ told. BeginsOut told now.files name text) → Tells (cannot_write name) before now → Finishes (writes name text) status before now
+    → IfSome before.files (λ told. BeginsOut told now.files name text) → SaysLine (cannot_write name) before now → Finishes (writes name text) status before now
 unwritten_ends name text status before now reading is cause begun line = record {
   reading = reading;
   ends = inr (
@@ -90,7 +90,7 @@ performs request status before now effect good does finishes = inl (record { goo
 
 pub refuses : (request : RequestData) (why : Failure) (name : List ℕ) (status : ℕ) (before now : Snapshot)
     → Fails why (reads request) before.files name before.reading now.reading
-    → status ≡ status_of why → Tells (line_of why name) before now → now.files ≡ before.files → now.writing ≡ before.writing
+    → status ≡ status_of why → SaysLine (line_of why name) before now → now.files ≡ before.files → now.writing ≡ before.writing
     → Ends request status before now
 refuses request why name status before now fails is line files writing =
     inr (record { why = why; name = name; fails = fails; status_is = is; line = line; files = files; writing = writing })
@@ -164,7 +164,7 @@ gen_does files seed scripts commands count total outputs same counted summed =
 
 -- one of several files that could not be written
 pub several_unwritten : (effect : Effect) (at : ℕ) (status : ℕ) (before now : Snapshot) (name : List ℕ) → now.reading ≡ before.reading → status ≡ 3 → (Rose before.writing now.writing ⊎ ⊥)
-    → (fails : FailsWriting at effect.writes before.files now.files) → name ≡ fails.file.name → Tells (cannot_write name) before now → Finishes effect status before now
+    → (fails : FailsWriting at effect.writes before.files now.files) → name ≡ fails.file.name → SaysLine (cannot_write name) before now → Finishes effect status before now
 several_unwritten effect at status before now name reading is cause fails named line = record {
   reading = reading;
   ends = inr (
@@ -176,7 +176,7 @@ several_unwritten effect at status before now name reading is cause fails named 
       place = fails.place;
       cause = elim cause [ inl rose ↦ rose | inr never ↦ absurd never ];
       begun = fails.begun;
-      line = subst (λ (n : List ℕ). Tells (cannot_write n) before now) named line;
+      line = subst (λ (n : List ℕ). SaysLine (cannot_write n) before now) named line;
     }),
   );
 }

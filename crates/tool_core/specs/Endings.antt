@@ -10,7 +10,7 @@ use Rattle.tool_core.specs.Words.{RequestData}
 use Rattle.tool_core.specs.Effects.{Effect, HasEffect, reads, written}
 use Rattle.tool_core.specs.Verdicts.{TooLarge, judged}
 use Rattle.tool_core.specs.Failures.{Means, Fails, status_of, line_of}
-use Rattle.tool_core.specs.Outcomes.{HasGood, FailsFile, FailsReport, Tells}
+use Rattle.tool_core.specs.Outcomes.{HasGood, FailsFile, FailsReport, SaysLine}
 
 -- why a file of at most so many bytes was not read, with the count of reading faults before and after: of its bytes only their count is judged
 abbrev pub IsReadFailure : Failure → ℕ → Option Files → List ℕ → ℕ → ℕ → Type 0
@@ -58,7 +58,7 @@ pub record Refuses (request : RequestData) (status : ℕ) (before now : Snapshot
   pub name : List ℕ
   pub fails : Fails why (reads request) before.files name before.reading now.reading
   pub status_is : status ≡ status_of why
-  pub line : Tells (line_of why name) before now
+  pub line : SaysLine (line_of why name) before now
   pub files : now.files ≡ before.files
   pub writing : now.writing ≡ before.writing
 

@@ -13,8 +13,9 @@ use Rattle.tool_core.specs.Inputs.{Input, AreGood, Decides, IsJudged, Reaches}
 use Rattle.tool_core.specs.Effects.{Effect, HasEffect, Output, reads, written}
 use Rattle.tool_core.specs.Lines.{refusal_line}
 
-abbrev pub Tells : List ℕ → Snapshot → Snapshot → Type 0
-Tells line before now = Says line before.written now.written before.faults now.faults
+-- the line was put on the output, or that failed and a prefix of it was
+abbrev pub SaysLine : List ℕ → Snapshot → Snapshot → Type 0
+SaysLine line before now = Says line before.written now.written before.faults now.faults
 
 -- all files that the command reads are good
 abbrev pub HasGood : RequestData → Option Files → Type 0
@@ -38,7 +39,7 @@ pub record IsUnread (request : RequestData) (before now : Snapshot) : Type 0 whe
   pub one : Input
   pub reached : Reaches (reads request) before.files one
   pub cause : Rose before.reading now.reading ⊎ Lacks before.files one.name
-  pub line : Tells (cannot_read one.name) before now
+  pub line : SaysLine (cannot_read one.name) before now
 
 -- a file is as before or a prefix of its whole bytes, and all others are as before
 pub record BeginsOut (before : Files) (now : Option Files) (name text : List ℕ) : Type 0 where
@@ -53,7 +54,7 @@ pub record FailsFile (effect : Effect) (before now : Snapshot) : Type 0 where
   pub place : effect.writes ≡ earlier ++ file ∷ later
   pub cause : Rose before.writing now.writing
   pub begun : IfSome before.files (λ told. BeginsOut (written earlier told) now.files file.name file.text)
-  pub line : Tells (cannot_write file.name) before now
+  pub line : SaysLine (cannot_write file.name) before now
 
 -- 3, of the report: The output failed and it was counted. All files are written, and no more than a prefix of the text was put.
 pub record FailsReport (effect : Effect) (before now : Snapshot) : Type 0 where
@@ -74,18 +75,18 @@ pub record IsRefused (request : RequestData) (before now : Snapshot) : Type 0 wh
   pub reached : Reaches (reads request) before.files one
   pub why : Refusal
   pub refused : IfSome before.files (λ told. IsJudged one told (Refused why))
-  pub line : Tells (refusal_line why) before now
+  pub line : SaysLine (refusal_line why) before now
 
 -- 6: It has too many bytes, or too many entries, and all files before it are good.
 pub record IsPastLimit (request : RequestData) (before now : Snapshot) : Type 0 where
   pub one : Input
   pub reached : Reaches (reads request) before.files one
-  pub limit : (IfSome before.files (λ told. IsJudged one told TooLarge) × Tells limit_file before now)
-      ⊎ (IfSome before.files (λ told. IsJudged one told TooMany) × Tells limit_commands before now)
+  pub limit : (IfSome before.files (λ told. IsJudged one told TooLarge) × SaysLine limit_file before now)
+      ⊎ (IfSome before.files (λ told. IsJudged one told TooMany) × SaysLine limit_commands before now)
 
 -- 8: Memory was wanting.
 abbrev pub IsOutOfMemory : Snapshot → Snapshot → Type 0
-IsOutOfMemory before now = Tells out_of_memory before now
+IsOutOfMemory before now = SaysLine out_of_memory before now
 
 -- the statuses of a verdict, want of memory among them
 abbrev pub statuses_of : Verdict → List ℕ

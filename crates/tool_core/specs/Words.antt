@@ -5,7 +5,7 @@ use Rattle.std.specs.List.{list_all}
 use Rattle.tool_core.specs.declared.words.Request.{Request}
 use Rattle.tool_core.specs.declared.words.Request.TheVariants as request
 use Rattle.plain_text.specs.Number.{number}
-use Rattle.plain_text.specs.Words.{is_some_word}
+use Rattle.plain_text.specs.Words.{is_nonempty}
 
 -- what is requested: `check FILE`, `list FILE`, `pick FILE SLOT OUT`, `pack OUT FILE...`, `replay ORDER OUT`, `verify ORDER WAV`,
 -- `gen SEED SCRIPTS COMMANDS` or `bench SEED BLOCKS`
@@ -57,7 +57,7 @@ is_bench word = bytes_eq word (codes "bench")
 
 -- no name is empty, and a name that is read differs from the one that is written
 abbrev pub is_read : List ℕ → List ℕ → Bool
-is_read out name = is_some_word name && not (bytes_eq name out)
+is_read out name = is_nonempty name && not (bytes_eq name out)
 
 abbrev pub are_read : List ℕ → List (List ℕ) → Bool
 are_read out names = list_all (λ name. is_read out name) names
@@ -65,13 +65,13 @@ are_read out names = list_all (λ name. is_read out name) names
 -- FILE
 abbrev pub file_of_words : List (List ℕ) → Option (List ℕ)
 file_of_words [] = None
-file_of_words (file ∷ []) = if is_some_word file then Some file else None
+file_of_words (file ∷ []) = if is_nonempty file then Some file else None
 file_of_words (file ∷ next ∷ later) = None
 
 -- FILE SLOT OUT
 abbrev pub pick_of : List ℕ → List ℕ → List ℕ → Option RequestData
 pick_of file slot out =
-    if is_some_word out && is_read out file then option_map (λ n. Pick file n out) (number 0 31 slot) else None
+    if is_nonempty out && is_read out file then option_map (λ n. Pick file n out) (number 0 31 slot) else None
 
 abbrev pub pick_of_words : List (List ℕ) → Option RequestData
 pick_of_words (file ∷ slot ∷ out ∷ []) = pick_of file slot out
@@ -81,16 +81,16 @@ pick_of_words words = None
 abbrev pub pack_of_words : List (List ℕ) → Option RequestData
 pack_of_words [] = None
 pack_of_words (out ∷ files) =
-    if is_some_word out && (nat_lt 0 (length files) && (nat_le (length files) 32 && are_read out files)) then Some (Pack out files) else None
+    if is_nonempty out && (nat_lt 0 (length files) && (nat_le (length files) 32 && are_read out files)) then Some (Pack out files) else None
 
 -- ORDER OUT
 abbrev pub replay_of_words : List (List ℕ) → Option RequestData
-replay_of_words (order ∷ out ∷ []) = if is_some_word out && is_read out order then Some (Replay order out) else None
+replay_of_words (order ∷ out ∷ []) = if is_nonempty out && is_read out order then Some (Replay order out) else None
 replay_of_words words = None
 
 -- ORDER WAV; the two may be one file
 abbrev pub verify_of_words : List (List ℕ) → Option RequestData
-verify_of_words (order ∷ sound ∷ []) = if is_some_word order && is_some_word sound then Some (Verify order sound) else None
+verify_of_words (order ∷ sound ∷ []) = if is_nonempty order && is_nonempty sound then Some (Verify order sound) else None
 verify_of_words words = None
 
 -- SEED, a number of 64 bits

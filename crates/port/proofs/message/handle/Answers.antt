@@ -1,6 +1,6 @@
 use Rattle.std.proofs.Common.{◌∙◌, ap, refl}
 use Rattle.command_set.specs.Command.{content}
-use Rattle.command_set.specs.Message.{told}
+use Rattle.command_set.specs.Message.{answer_outcome}
 use Rattle.std.specs.Prelude.{option_map}
 use Rattle.port.proofs.Handled.{passed_done, overlong_done, faulty_done, this_if_none}
 use Rattle.port.proofs.Sending.{sends_same}
@@ -8,7 +8,7 @@ use Rattle.port.proofs.message.handle.Goals as goal
 
 pub returns-in-Ok-None-clause-done : goal.returns-in-Ok-None-clause-done
 returns-in-Ok-None-clause-done g c =
-    passed_done _ _ _ _ _ c.requires.clear (c.in-Ok-None.ensures.command ∙ ap (λ found. told (option_map content found)) c.in-Ok-None.field-0-is)
+    passed_done _ _ _ _ _ c.requires.clear (c.in-Ok-None.ensures.command ∙ ap (λ found. answer_outcome (option_map content found)) c.in-Ok-None.field-0-is)
 
 pub returns-in-Ok-Some-clause-message : goal.returns-in-Ok-Some-clause-message
 returns-in-Ok-Some-clause-message g c = this_if_none _ c.args.message c.send.ensures.keeps
