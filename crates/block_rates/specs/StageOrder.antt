@@ -1,4 +1,4 @@
--- For private functions and proofs: what it is to be in one of four stages.
+-- The order of the four stages, and what it is to be at one of them.
 use Rattle.std.specs.Prelude.{◌≡◌, ◌≤◌, ℕ, ◌+◌, List, [], ◌∷◌, Option, Some, None}
 use Rattle.block_rates.specs.declared.stage.Stage.{Stage}
 use Rattle.block_rates.specs.declared.stage.Stage.TheVariants.{First, Second, Third, Fourth}
