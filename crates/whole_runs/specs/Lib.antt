@@ -1,0 +1,2 @@
+-- What these modules define stands under Rattle.whole_runs.specs.
+pub mod Verified

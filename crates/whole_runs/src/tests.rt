@@ -3,6 +3,7 @@
 ghost use Rattle.std.specs.Prelude.{◌≡◌, ◌<◌, length};
 ghost use Rattle.command_queue.specs.Ends.{AreEnds};
 
+use crate::play_then_verify;
 use cartridge::Cartridge;
 use command_queue::{Line, SendEnd};
 use command_set::Command;
@@ -137,30 +138,32 @@ fn one_script_is_verified<R: Threads + Wait + Sync + Abort>(
         (
             "o.wav o.txt 100 - a.txt",
             b"midi 1\n0 on 0 69 100\n50 off 0 69\n",
-            b"ok blocks 100 commands 2\n",
+            b"ok blocks 100 commands 2\nsame\n",
         ),
         (
             "o.wav o.txt 10 1 a.txt",
             b"midi 1\n0 on 0 60 100\n0 on 0 64 100\n0 on 0 67 100\n",
-            b"ok blocks 10 commands 3\n",
+            b"ok blocks 10 commands 3\nsame\n",
         ),
     ];
     for (words, script, line) in cases {
         let mut shelf = MemShelf::new(alloc, &[])?;
         shelf.put_file(alloc, "a.txt", script)?;
         let words = words_of(alloc, words)?;
+        let check = words_of(alloc, "verify o.txt o.wav")?;
         let mut out = MemOut::new(alloc, &[])?;
-        let status = play_main(rt, alloc, &words, &mut shelf, &mut out, &NoGate, maps);
+        let (status, verified) = play_then_verify(
+            rt, alloc, &words, &check, &mut shelf, &mut out, &NoGate, maps,
+        );
         assert_eq!(rt; status, 0);
+        assert!(rt; verified == Some(0));
         assert_eq!(rt; out.bytes(), line);
-        assert!(rt; is_verified(alloc, &mut shelf)?);
         let mut sound = Vec::from_slice(alloc, shelf.file("o.wav").unwrap_or(b""))?;
         let last = sound.pop().unwrap_or(0);
         sound.push(last ^ 1)?;
         shelf.put_file(alloc, "o.wav", &sound)?;
-        let words = words_of(alloc, "verify o.txt o.wav")?;
         let mut told = MemOut::new(alloc, &[])?;
-        assert_eq!(rt; tool_main(alloc, &words, &mut shelf, &mut told), 7);
+        assert_eq!(rt; tool_main(alloc, &check, &mut shelf, &mut told), 7);
         let line = format!(in alloc; "differs at {}\n", sound.len().saturating_sub(1))?;
         assert_eq!(rt; told.bytes(), line.as_bytes());
     }
