@@ -13,7 +13,7 @@ use Rattle.port.specs.Stopping.{FullOnly, refusals_after}
 
 -- what comes of a message was done or is kept
 pub record IsDoneOrKept (curve : Curve) (bytes : List ℕ) (outcome : MessageOutcome) (keeps : Option Kept) (old new : SendView) (fed : Fed)
-  : Type 0 where
+    : Type 0 where
   pub now : List MessageOutcome
   pub splits : outcome ∷ [] ≡ now ++ kept_outcomes curve bytes keeps
   pub handles : Handles now old new fed
