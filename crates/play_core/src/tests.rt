@@ -12,7 +12,7 @@ use std::rt::Files;
 use std::sync::Wait;
 use std::sync::atomic::{AtomicU64, Ordering};
 use std::test::Fail;
-use std::thread::Threads;
+use std::thread::{self, Threads};
 use velocity_map::{Curve, MapSet, VelocityMap};
 
 /// One map for each curve.
@@ -563,6 +563,7 @@ impl Gate for Meeting {
                     self.met.fetch_add(1, Ordering::SeqCst);
                     break;
                 }
+                thread::yield_now();
             }
         }
     }
@@ -585,6 +586,7 @@ impl Gate for AfterScript {
                 if self.turns.load(Ordering::SeqCst) >= wanted {
                     break;
                 }
+                thread::yield_now();
             }
         }
     }

@@ -14,7 +14,7 @@ use std::alloc::Global;
 use std::sync::Wait;
 use std::sync::atomic::{AtomicU64, Ordering};
 use std::test::*;
-use std::thread::Threads;
+use std::thread::{self, Threads};
 
 // The taking half waits in each turn until script 0 has sent.
 #[derive(Drop)]
@@ -31,6 +31,7 @@ impl Gate for AfterScript {
                 if self.turns.load(Ordering::SeqCst) >= wanted {
                     break;
                 }
+                thread::yield_now();
             }
         }
     }
