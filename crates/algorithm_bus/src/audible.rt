@@ -127,7 +127,8 @@ pub(crate) fn has_inaudible(algorithm: u8, ops: &[OpBlock; 6]) -> bool
 /// Whether an operator that is heard sounds.
 pub(crate) fn has_audible_carrier(algorithm: u8, ops: &[OpBlock; 6]) -> bool
     requires { algorithm ≤ 31 }
-    ensures { result ≡ false → (o : ℕ) → 1 ≤ o → o ≤ 6 → is_carrier algorithm o ≡ true → silent (op_of ops.now o) ≡ true }
+    ensures silent { result ≡ false → (o : ℕ) → 1 ≤ o → o ≤ 6 → is_carrier algorithm o ≡ true → silent (op_of ops.now o) ≡ true }
+    ensures sounding { result ≡ true → (o : ℕ) × (1 ≤ o) × (o ≤ 6) × (is_carrier algorithm o ≡ true) × (silent (op_of ops.now o) ≡ false) }
 {
     for k in 0..6u8 {
         if is_carrier(algorithm, k + 1) && !is_silent(&ops[k as usize]) {

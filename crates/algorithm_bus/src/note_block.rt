@@ -1,5 +1,5 @@
 //! A block of a note, which is run alone or with others.
-ghost use Rattle.std.specs.Prelude.{◌≡◌, ◌≤◌, ℕ, pos, false};
+ghost use Rattle.std.specs.Prelude.{◌≡◌, ◌≤◌, ℕ, pos, true, false};
 ghost use Rattle.operator_kernel.specs.Operator.{feedback_state_of};
 ghost use Rattle.algorithm_bus.specs.Buses.{HaveGains};
 
@@ -26,7 +26,7 @@ pub struct NoteBlock {
 impl NoteBlock {
     ghost use Rattle.algorithm_bus.specs.Signals.{feedback_state_left, note_output};
     ghost use Rattle.algorithm_bus.specs.Buses.{IsBus};
-    ghost use Rattle.algorithm_bus.specs.NoteBlocks.{block_patch};
+    ghost use Rattle.algorithm_bus.specs.NoteBlocks.{HasSoundingCarrier, KeepsPatch, block_patch};
 
     /// A block of no note.
     pub fn silent() -> NoteBlock
@@ -46,16 +46,18 @@ impl NoteBlock {
         }
     }
 
-    /// Whether a carrier sounds. Where none does all samples are 0.
+    /// Whether a carrier sounds, that is, isn't silent. Where none does all samples are 0.
     pub fn is_audible(&self) -> bool
-        ensures { result ≡ false → (j : ℕ) → note_output (block_patch self.now) j ≡ pos 0 }
+        ensures silent { result ≡ false → (j : ℕ) → note_output (block_patch self.now) j ≡ pos 0 }
+        ensures sounding { result ≡ true → HasSoundingCarrier self.now }
     {
         has_audible_carrier(self.algorithm, &self.ops)
     }
 
     /// Runs the operator with feedback alone, where nothing is heard of the note: the feedback state becomes its last two samples.
     pub fn pass_inaudible(&mut self, tables: &Tables)
-        ensures { feedback_state_of self.new.feedback_state ≡ feedback_state_left (block_patch self.old) }
+        ensures kept { KeepsPatch self.old self.new }
+        ensures feedback_state { feedback_state_of self.new.feedback_state ≡ feedback_state_left (block_patch self.old) }
     {
         let ops = self.ops;
         let _ = feed_back(
@@ -69,6 +71,7 @@ impl NoteBlock {
 
     /// The same as `run_note`: `out` becomes the sum of the carriers, and the feedback state the last two samples of the operator with feedback.
     pub fn run(&mut self, tables: &Tables, out: &mut [i32; 64])
+        ensures kept { KeepsPatch self.old self.new }
         ensures out { IsBus (note_output (block_patch self.old)) out.new }
         ensures feedback_state { feedback_state_of self.new.feedback_state ≡ feedback_state_left (block_patch self.old) }
     {
@@ -99,6 +102,10 @@ impl NoteBlock {
             × (fourth.old.algorithm ≡ first.old.algorithm) }
         requires feedback { (second.old.feedback ≡ first.old.feedback) × (third.old.feedback ≡ first.old.feedback)
             × (fourth.old.feedback ≡ first.old.feedback) }
+        ensures kept0 { KeepsPatch first.old first.new }
+        ensures kept1 { KeepsPatch second.old second.new }
+        ensures kept2 { KeepsPatch third.old third.new }
+        ensures kept3 { KeepsPatch fourth.old fourth.new }
         ensures out0 { IsBus (note_output (block_patch first.old)) out0.new }
         ensures out1 { IsBus (note_output (block_patch second.old)) out1.new }
         ensures out2 { IsBus (note_output (block_patch third.old)) out2.new }
@@ -159,6 +166,14 @@ impl NoteBlock {
             × (fourth.old.feedback ≡ first.old.feedback) }
         requires high_feedback { (fifth.old.feedback ≡ first.old.feedback) × (sixth.old.feedback ≡ first.old.feedback)
             × (seventh.old.feedback ≡ first.old.feedback) × (eighth.old.feedback ≡ first.old.feedback) }
+        ensures kept0 { KeepsPatch first.old first.new }
+        ensures kept1 { KeepsPatch second.old second.new }
+        ensures kept2 { KeepsPatch third.old third.new }
+        ensures kept3 { KeepsPatch fourth.old fourth.new }
+        ensures kept4 { KeepsPatch fifth.old fifth.new }
+        ensures kept5 { KeepsPatch sixth.old sixth.new }
+        ensures kept6 { KeepsPatch seventh.old seventh.new }
+        ensures kept7 { KeepsPatch eighth.old eighth.new }
         ensures out0 { IsBus (note_output (block_patch first.old)) out0.new }
         ensures out1 { IsBus (note_output (block_patch second.old)) out1.new }
         ensures out2 { IsBus (note_output (block_patch third.old)) out2.new }
