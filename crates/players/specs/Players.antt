@@ -73,3 +73,19 @@ AllTurned t ps qs = (k : ℕ) (d : PlayerView) → k < length ps → Turned t (s
 -- no command that is left of any player is due at a turn
 abbrev pub NoneIsDue : ℕ → List PlayerView → Type 0
 NoneIsDue t players = All (λ p. AllFrom (t + 1) (due_blocks p.left)) players
+
+-- the player at this place has a command that is due at a turn
+abbrev pub IsDueAt : ℕ → List PlayerView → ℕ → Type 0
+IsDueAt t players k = (k < length players) × ((d : PlayerView) → FirstBelow (t + 1) (due_blocks (slice_index_or players k d).left))
+
+abbrev pub SomeIsDue : ℕ → List PlayerView → Type 0
+SomeIsDue t players = (k : ℕ) × IsDueAt t players k
+
+-- no player from this place on has one
+abbrev pub NoneIsDueFrom : ℕ → List PlayerView → ℕ → Type 0
+NoneIsDueFrom t players k =
+    (i : ℕ) (d : PlayerView) → k ≤ i → i < length players → AllFrom (t + 1) (due_blocks (slice_index_or players i d).left)
+
+-- the last player that has one is at this place; or none has one, and it is 0
+abbrev pub IsLastDue : ℕ → List PlayerView → ℕ → Type 0
+IsLastDue t players k = (IsDueAt t players k × NoneIsDueFrom t players (k + 1)) ⊎ ((k ≡ 0) × NoneIsDueFrom t players 0)

@@ -1,6 +1,6 @@
 //! One turn of all players, beside each other.
-ghost use Rattle.std.specs.Prelude.{◌≡◌, ◌<◌, ◌≤◌, MatchBool, length};
-ghost use Rattle.players.specs.Players.{AreReady, AllTurned, NoneIsDue};
+ghost use Rattle.std.specs.Prelude.{◌<◌, ◌≤◌, MatchBool, length};
+ghost use Rattle.players.specs.Players.{AreReady, AllTurned, IsLastDue, NoneIsDue, SomeIsDue};
 
 use crate::player::Player;
 use command_queue::Line;
@@ -10,7 +10,7 @@ use std::thread::{Threads, join_mut};
 
 /// Whether some of the players have a command that is due at a turn.
 pub fn are_due(players: &[Player], turn: u32) -> bool
-    ensures { MatchBool result (length players.now ≡ length players.now) (NoneIsDue turn players.now) }
+    ensures { MatchBool result (SomeIsDue turn players.now) (NoneIsDue turn players.now) }
 {
     for player in players {
         if player.is_due(turn) {
@@ -22,7 +22,8 @@ pub fn are_due(players: &[Player], turn: u32) -> bool
 
 /// Where the last player stands that has a command that is due at a turn, and 0 where none has. What a turn does doesn't rest on it.
 pub fn last_due(players: &[Player], turn: u32) -> usize
-    ensures { result ≤ length players.now }
+    ensures within { result ≤ length players.now }
+    ensures last { IsLastDue turn players.now result }
 {
     let mut rest = players.len();
     while rest > 0 {
