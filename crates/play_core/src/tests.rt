@@ -571,7 +571,7 @@ impl Gate for Meeting {
     fn done(&self, _actor: u32) {}
 }
 
-/// The taking half waits until the script had its turn.
+/// The taking half waits until the script had its turn, for a while: it has none where nothing is due.
 #[derive(Drop)]
 struct AfterScript {
     turns: AtomicU64,
@@ -582,7 +582,7 @@ impl Gate for AfterScript {
     fn pass(&self, actor: u32) {
         if actor == 1 {
             let wanted = self.passes.fetch_add(1, Ordering::SeqCst).wrapping_add(1);
-            for _ in 0..10_000_000u64 {
+            for _ in 0..100_000u64 {
                 if self.turns.load(Ordering::SeqCst) >= wanted {
                     break;
                 }
