@@ -582,11 +582,10 @@ impl Gate for AfterScript {
     fn pass(&self, actor: u32) {
         if actor == 1 {
             let wanted = self.passes.fetch_add(1, Ordering::SeqCst).wrapping_add(1);
-            for _ in 0..100_000u64 {
+            for _ in 0..1_000_000u64 {
                 if self.turns.load(Ordering::SeqCst) >= wanted {
                     break;
                 }
-                thread::yield_now();
             }
         }
     }
