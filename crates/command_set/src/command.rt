@@ -7,6 +7,15 @@ ghost use Rattle.command_set.specs.Message.{acts};
 use cartridge::Cartridge;
 use voice_record::{Voice, greatest};
 
+/// The control number of the modulation wheel.
+pub const MODULATION_WHEEL: u8 = 1;
+
+/// The control number of the hold pedal.
+pub const HOLD_PEDAL: u8 = 64;
+
+/// The control number of "all notes off".
+pub const ALL_NOTES_OFF: u8 = 123;
+
 /// What the instrument is told to do between two blocks. Channels are 0 to 15, keys, controls' values and programs 0 to 127.
 #[derive(Drop)]
 pub enum Command {
@@ -70,5 +79,5 @@ pub fn is_known_control(number: u8) -> bool
     ensures known { IsTrue result ↔ IsKnownControl number }
     ensures value { result ≡ acts number }
 {
-    number == 1 || number == 64 || number == 123
+    number == MODULATION_WHEEL || number == HOLD_PEDAL || number == ALL_NOTES_OFF
 }

@@ -9,7 +9,7 @@ mod read_bytes;
 mod read_numbers;
 mod text;
 
-pub use command::{Command, is_known_control};
+pub use command::{ALL_NOTES_OFF, Command, HOLD_PEDAL, MODULATION_WHEEL, is_known_control};
 pub use entry::{Entry, Logged};
 pub use message::{CommandFault, from_message};
 pub use plain_text::LineText;

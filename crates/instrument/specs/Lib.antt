@@ -5,3 +5,4 @@ pub mod Journal
 pub mod Logging
 pub mod Running
 pub mod Instrument
+pub mod Limits

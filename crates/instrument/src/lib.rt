@@ -8,6 +8,9 @@ mod modulation;
 mod slot;
 mod slots;
 
+/// The most blocks that a run has: a little more than 25 minutes.
+pub const BLOCK_LIMIT: u32 = 1_048_576;
+
 pub use dx_tables::Engine;
 pub use instrument::Instrument;
 

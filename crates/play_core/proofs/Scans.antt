@@ -15,7 +15,8 @@ use Rattle.script_read.specs.Plan.{plan}
 use Rattle.play_core.specs.declared.totals.Totals.{Totals}
 use Rattle.play_core.specs.declared.refusal.Refusal.{Refusal}
 use Rattle.play_core.specs.declared.refusal.Refusal.TheVariants as why
-use Rattle.play_core.specs.Limits.{block_limit, command_limit, script_limit, scripts_limit}
+use Rattle.instrument.specs.Limits.{block_limit}
+use Rattle.play_core.specs.Limits.{command_limit, script_limit, scripts_limit}
 use Rattle.turns.specs.Turns.{many_commands}
 use Rattle.play_core.specs.Verdict.{Verdict, Lacking, LongFile, LongScripts, Faulty, ManyCommands, ManyBlocks, Plays, IsPlayed, nothing, verdict, blocks_of_run, of_blocks, with_script, with_plan, of_plan, of_text, of_file, of_scripts}
 use Rattle.play_core.specs.Words.{RequestData}

@@ -8,12 +8,9 @@ script_limit = 16777216
 abbrev pub scripts_limit : ℕ
 scripts_limit = 67108864
 
--- the most commands of a run, the most blocks, and the most places of the line
+-- the most commands of a run, and the most places of the line
 abbrev pub command_limit : ℕ
 command_limit = 1000000
-
-abbrev pub block_limit : ℕ
-block_limit = 1048576
 
 abbrev pub place_limit : ℕ
 place_limit = 1000000

@@ -4,7 +4,7 @@ use Rattle.lateness.specs.Late.{AllBelow}
 use Rattle.script_plan.specs.Plan.{PlannedData, due_blocks}
 use Rattle.turns.specs.Turns.{AreFresh, IsFreshRenderer, plans_of, many_commands}
 use Rattle.play_core.specs.declared.stage.Stage.{Stage}
-use Rattle.play_core.specs.Limits.{block_limit}
+use Rattle.instrument.specs.Limits.{block_limit}
 use Rattle.play_core.specs.Verdict.{blocks_of_run, places_of_run}
 
 -- each command of each script is due below the number of blocks

@@ -10,7 +10,8 @@ use Rattle.script_outcome.specs.Plan.{Plan, Commands, Refused, TooMany}
 use Rattle.script_read.specs.Plan.{plan}
 use Rattle.turns.specs.Turns.{many_commands}
 use Rattle.play_core.specs.declared.totals.Totals.{Totals}
-use Rattle.play_core.specs.Limits.{script_limit, scripts_limit, command_limit, block_limit}
+use Rattle.instrument.specs.Limits.{block_limit}
+use Rattle.play_core.specs.Limits.{script_limit, scripts_limit, command_limit}
 use Rattle.play_core.specs.Words.{RequestData}
 
 -- What decides of a run: there is no file of this name; a script or all together have too many bytes; the script with this number has a

@@ -3,7 +3,8 @@ use Rattle.std.specs.Prelude.{◌≢◌, ℕ, ◌≤◌, List, [], ◌∷◌, Op
 use Rattle.std.specs.List.{list_all}
 use Rattle.play_core.specs.declared.words.Request.{Request}
 use Rattle.plain_text.specs.Number.{number}
-use Rattle.play_core.specs.Limits.{block_limit, place_limit}
+use Rattle.instrument.specs.Limits.{block_limit}
+use Rattle.play_core.specs.Limits.{place_limit}
 
 -- What is asked for: the two files to write, the number of blocks and of places, or none of its own where the word is `-`, and the scripts to
 -- read.

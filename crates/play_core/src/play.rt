@@ -1,7 +1,8 @@
 //! A run: the scripts are read, all is made ready, both files are begun, all turns are played, and the report is put.
 ghost use Rattle.std.specs.Prelude.{◌≡◌, ◌≢◌, ◌⊎◌, ◌≤◌, ◌<◌, ◌-◌, ◌==◌, IfSome, IfOk, IfErr, OnOk, length, map, option_map, string_bytes, if◌then◌else◌};
 ghost use Rattle.play_core.specs.Words.{IsRequest, request_data};
-ghost use Rattle.play_core.specs.Limits.{block_limit, command_limit};
+ghost use Rattle.instrument.specs.Limits.{block_limit};
+ghost use Rattle.play_core.specs.Limits.{command_limit};
 ghost use Rattle.play_core.specs.Verdict.{verdict};
 ghost use Rattle.play_core.specs.Refused.{IsCaused, IsWithin, AgreesWith};
 ghost use Rattle.outside.specs.Snapshot.{snapshot};

@@ -1,6 +1,7 @@
 //! All that a run needs, made before a file is touched.
 ghost use Rattle.std.specs.Prelude.{◌≡◌, ◌+◌, ◌<◌, ◌≤◌, ℕ, Option, All, IfOk, IfSome, IfNone, max, length, map, sum, vec_len, vec_capacity, slice_index};
-ghost use Rattle.play_core.specs.Limits.{block_limit, command_limit};
+ghost use Rattle.instrument.specs.Limits.{block_limit};
+ghost use Rattle.play_core.specs.Limits.{command_limit};
 ghost use Rattle.turns.specs.Turns.{many_commands};
 ghost use Rattle.play_core.specs.Verdict.{blocks_of_run, greatest_due, places_of_run};
 ghost use Rattle.play_core.specs.Stage.{IsStage, AreInTime};

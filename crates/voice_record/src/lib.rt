@@ -4,6 +4,7 @@
 
 mod limits;
 mod packing;
+pub mod parameter;
 mod voice;
 
 pub use limits::greatest;

@@ -3,11 +3,7 @@
 ghost use Rattle.std.specs.Prelude.{◌≡◌, ◌≤◌};
 ghost use Rattle.voice_record.specs.Voice.{greatest_value};
 
-/// How many parameters an operator has.
-pub(crate) const OPERATOR_FIELDS: u8 = 21;
-
-/// The first parameter after the six operators.
-pub(crate) const COMMON: u8 = 126;
+use crate::parameter::{OPERATOR_FIELDS, PITCH_RATES};
 
 const OPERATOR_GREATEST: [u8; 21] = [
     99, 99, 99, 99, 99, 99, 99, 99, 99, 99, 99, 3, 3, 7, 3, 7, 99, 1, 31, 99, 14,
@@ -24,9 +20,9 @@ pub const fn greatest(number: u8) -> u8
     ensures value { result ≡ greatest_value number }
     ensures small { result ≤ 127 }
 {
-    if number < COMMON {
+    if number < PITCH_RATES {
         OPERATOR_GREATEST[(number % OPERATOR_FIELDS) as usize]
     } else {
-        COMMON_GREATEST[(number - COMMON) as usize]
+        COMMON_GREATEST[(number - PITCH_RATES) as usize]
     }
 }

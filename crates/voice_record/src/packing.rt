@@ -4,7 +4,8 @@ ghost use Rattle.std.specs.Prelude.{ℕ, ◌≡◌, ◌+◌, ◌*◌, ◌^◌, �
 ghost use Rattle.voice_record.specs.Voice.{IsVoice};
 ghost use Rattle.voice_record.specs.Packing.{bits_of, row_of, Packs, Unpacks};
 
-use crate::limits::{COMMON, OPERATOR_FIELDS, greatest};
+use crate::limits::greatest;
+use crate::parameter::{OPERATOR_FIELDS, PITCH_RATES};
 
 /// How many packed bytes an operator has.
 const OPERATOR_BYTES: u8 = 17;
@@ -84,7 +85,7 @@ fn place_of(field: u8) -> Place
     ensures inside { result.byte < 128 }
     ensures end { result.shift + result.width ≤ 7 }
 {
-    if field < COMMON {
+    if field < PITCH_RATES {
         let (byte, shift, width) = OPERATOR_ROWS[(field % OPERATOR_FIELDS) as usize];
         Place {
             byte: OPERATOR_BYTES * (field / OPERATOR_FIELDS) + byte,
@@ -92,7 +93,7 @@ fn place_of(field: u8) -> Place
             width,
         }
     } else {
-        let (byte, shift, width) = COMMON_ROWS[(field - COMMON) as usize];
+        let (byte, shift, width) = COMMON_ROWS[(field - PITCH_RATES) as usize];
         Place { byte, shift, width }
     }
 }

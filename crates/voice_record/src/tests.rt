@@ -1,6 +1,6 @@
 //! Known voices and packed bytes.
 
-use crate::limits::OPERATOR_FIELDS;
+use crate::parameter::OPERATOR_FIELDS;
 use crate::{ValueHigh, Voice, greatest};
 use hex::FromHex;
 use std::test::Fail;

@@ -3,7 +3,7 @@ use Rattle.std.specs.Prelude.{IfSome}
 use Rattle.std.proofs.lemmas.List.{length-map}
 use Rattle.script_plan.specs.Plan.{PlannedData}
 use Rattle.play_core.specs.Words.{request_data}
-use Rattle.play_core.specs.Limits.{block_limit}
+use Rattle.instrument.specs.Limits.{block_limit}
 use Rattle.play_core.specs.Verdict.{Plays, blocks_of_run, verdict}
 use Rattle.play_core.proofs.Scans.{tells_verdict, many_blocks, few_blocks}
 use Rattle.play_core.proofs.play.prepare.Goals as goal

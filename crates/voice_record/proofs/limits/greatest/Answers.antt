@@ -4,16 +4,16 @@ use Rattle.voice_record.specs.Voice.{greatest_value}
 use Rattle.voice_record.proofs.Voices.{greatest_small}
 use Rattle.voice_record.proofs.limits.greatest.Goals as goal
 
-pub returns-then-number-lt-COMMON-clause-value : goal.returns-then-number-lt-COMMON-clause-value
+pub returns-then-number-lt-PITCH_RATES-clause-value : goal.returns-then-number-lt-PITCH_RATES-clause-value
 unfolding greatest_value
-returns-then-number-lt-COMMON-clause-value c = search rules
+returns-then-number-lt-PITCH_RATES-clause-value c = search rules
 
-pub returns-else-number-lt-COMMON-clause-value : goal.returns-else-number-lt-COMMON-clause-value
+pub returns-else-number-lt-PITCH_RATES-clause-value : goal.returns-else-number-lt-PITCH_RATES-clause-value
 unfolding greatest_value
-returns-else-number-lt-COMMON-clause-value c = search rules
+returns-else-number-lt-PITCH_RATES-clause-value c = search rules
 
-pub returns-then-number-lt-COMMON-clause-small : goal.returns-then-number-lt-COMMON-clause-small
-returns-then-number-lt-COMMON-clause-small c = rw (← returns-then-number-lt-COMMON-clause-value c) at (greatest_small c.args.number (omega arith))
+pub returns-then-number-lt-PITCH_RATES-clause-small : goal.returns-then-number-lt-PITCH_RATES-clause-small
+returns-then-number-lt-PITCH_RATES-clause-small c = rw (← returns-then-number-lt-PITCH_RATES-clause-value c) at (greatest_small c.args.number (omega arith))
 
-pub returns-else-number-lt-COMMON-clause-small : goal.returns-else-number-lt-COMMON-clause-small
-returns-else-number-lt-COMMON-clause-small c = rw (← returns-else-number-lt-COMMON-clause-value c) at (greatest_small c.args.number (omega arith))
+pub returns-else-number-lt-PITCH_RATES-clause-small : goal.returns-else-number-lt-PITCH_RATES-clause-small
+returns-else-number-lt-PITCH_RATES-clause-small c = rw (← returns-else-number-lt-PITCH_RATES-clause-value c) at (greatest_small c.args.number (omega arith))

@@ -30,34 +30,34 @@ common n l small =
     )
 
 pub overflow_add-result : goal.overflow_add-result
-overflow_add-result c = let h = (operator c.args.field c.if-field-lt-COMMON.true).3 in omega (arith, h)
+overflow_add-result c = let h = (operator c.args.field c.if-field-lt-PITCH_RATES.true).3 in omega (arith, h)
 
-pub returns-then-field-lt-COMMON-clause-byte : goal.returns-then-field-lt-COMMON-clause-byte
-returns-then-field-lt-COMMON-clause-byte c = (operator c.args.field c.if-field-lt-COMMON.true).0
+pub returns-then-field-lt-PITCH_RATES-clause-byte : goal.returns-then-field-lt-PITCH_RATES-clause-byte
+returns-then-field-lt-PITCH_RATES-clause-byte c = (operator c.args.field c.if-field-lt-PITCH_RATES.true).0
 
-pub returns-then-field-lt-COMMON-clause-shift : goal.returns-then-field-lt-COMMON-clause-shift
-returns-then-field-lt-COMMON-clause-shift c = (operator c.args.field c.if-field-lt-COMMON.true).1
+pub returns-then-field-lt-PITCH_RATES-clause-shift : goal.returns-then-field-lt-PITCH_RATES-clause-shift
+returns-then-field-lt-PITCH_RATES-clause-shift c = (operator c.args.field c.if-field-lt-PITCH_RATES.true).1
 
-pub returns-then-field-lt-COMMON-clause-width : goal.returns-then-field-lt-COMMON-clause-width
-returns-then-field-lt-COMMON-clause-width c = (operator c.args.field c.if-field-lt-COMMON.true).2
+pub returns-then-field-lt-PITCH_RATES-clause-width : goal.returns-then-field-lt-PITCH_RATES-clause-width
+returns-then-field-lt-PITCH_RATES-clause-width c = (operator c.args.field c.if-field-lt-PITCH_RATES.true).2
 
-pub returns-then-field-lt-COMMON-clause-inside : goal.returns-then-field-lt-COMMON-clause-inside
-returns-then-field-lt-COMMON-clause-inside c = (operator c.args.field c.if-field-lt-COMMON.true).3
+pub returns-then-field-lt-PITCH_RATES-clause-inside : goal.returns-then-field-lt-PITCH_RATES-clause-inside
+returns-then-field-lt-PITCH_RATES-clause-inside c = (operator c.args.field c.if-field-lt-PITCH_RATES.true).3
 
-pub returns-then-field-lt-COMMON-clause-end : goal.returns-then-field-lt-COMMON-clause-end
-returns-then-field-lt-COMMON-clause-end c = (operator c.args.field c.if-field-lt-COMMON.true).4
+pub returns-then-field-lt-PITCH_RATES-clause-end : goal.returns-then-field-lt-PITCH_RATES-clause-end
+returns-then-field-lt-PITCH_RATES-clause-end c = (operator c.args.field c.if-field-lt-PITCH_RATES.true).4
 
-pub returns-else-field-lt-COMMON-clause-byte : goal.returns-else-field-lt-COMMON-clause-byte
-returns-else-field-lt-COMMON-clause-byte c = (common c.args.field c.if-field-lt-COMMON.false (omega arith)).0
+pub returns-else-field-lt-PITCH_RATES-clause-byte : goal.returns-else-field-lt-PITCH_RATES-clause-byte
+returns-else-field-lt-PITCH_RATES-clause-byte c = (common c.args.field c.if-field-lt-PITCH_RATES.false (omega arith)).0
 
-pub returns-else-field-lt-COMMON-clause-shift : goal.returns-else-field-lt-COMMON-clause-shift
-returns-else-field-lt-COMMON-clause-shift c = (common c.args.field c.if-field-lt-COMMON.false (omega arith)).1
+pub returns-else-field-lt-PITCH_RATES-clause-shift : goal.returns-else-field-lt-PITCH_RATES-clause-shift
+returns-else-field-lt-PITCH_RATES-clause-shift c = (common c.args.field c.if-field-lt-PITCH_RATES.false (omega arith)).1
 
-pub returns-else-field-lt-COMMON-clause-width : goal.returns-else-field-lt-COMMON-clause-width
-returns-else-field-lt-COMMON-clause-width c = (common c.args.field c.if-field-lt-COMMON.false (omega arith)).2
+pub returns-else-field-lt-PITCH_RATES-clause-width : goal.returns-else-field-lt-PITCH_RATES-clause-width
+returns-else-field-lt-PITCH_RATES-clause-width c = (common c.args.field c.if-field-lt-PITCH_RATES.false (omega arith)).2
 
-pub returns-else-field-lt-COMMON-clause-inside : goal.returns-else-field-lt-COMMON-clause-inside
-returns-else-field-lt-COMMON-clause-inside c = (common c.args.field c.if-field-lt-COMMON.false (omega arith)).3
+pub returns-else-field-lt-PITCH_RATES-clause-inside : goal.returns-else-field-lt-PITCH_RATES-clause-inside
+returns-else-field-lt-PITCH_RATES-clause-inside c = (common c.args.field c.if-field-lt-PITCH_RATES.false (omega arith)).3
 
-pub returns-else-field-lt-COMMON-clause-end : goal.returns-else-field-lt-COMMON-clause-end
-returns-else-field-lt-COMMON-clause-end c = (common c.args.field c.if-field-lt-COMMON.false (omega arith)).4
+pub returns-else-field-lt-PITCH_RATES-clause-end : goal.returns-else-field-lt-PITCH_RATES-clause-end
+returns-else-field-lt-PITCH_RATES-clause-end c = (common c.args.field c.if-field-lt-PITCH_RATES.false (omega arith)).4
