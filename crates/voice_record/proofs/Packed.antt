@@ -9,7 +9,7 @@ use Rattle.std.proofs.Math.Nat.{add-mul-mod_self_right, pow-le-pow_right, mul-le
 use Rattle.std.proofs.Math.Pow.{mod-mod-pow}
 use Rattle.voice_record.specs.Voice.{IsVoice}
 use Rattle.voice_record.specs.Packing.{row_of, bits_of, Unpacks, Packs, IsUsed}
-use Rattle.voice_record.proofs.Rows.{fill, stacked, places_of, fill_same, fill_other, below_fill, used_below}
+use Rattle.voice_record.proofs.Rows.{fill, stacked, bit_fields_of, fill_same, fill_other, below_fill, used_below}
 
 -- what is put above the bits of a field leaves them
 keeps_low : (x f s shift width : ℕ) → shift + width ≤ s → (x + f * 2 ^ s) / 2 ^ shift % 2 ^ width ≡ x / 2 ^ shift % 2 ^ width
@@ -41,7 +41,7 @@ pub record IsFilled (fields bytes : List ℕ) (n : ℕ) : Type 0 where
   pub below : (byte : ℕ) → get_or bytes byte 0 < 2 ^ fill n byte
 
 field_small : (fields : List ℕ) (n : ℕ) → IsVoice fields → n < 155 → get_or fields n 0 < 2 ^ (row_of n).width
-field_small fields n v l = omega (arith, v.within n l, (places_of n l).fits)
+field_small fields n v l = omega (arith, v.within n l, (bit_fields_of n l).fits)
 
 -- there is room for the next field
 pub room : (fields bytes : List ℕ) (n : ℕ) → IsFilled fields bytes n → n < 155 → get_or bytes (row_of n).byte 0 < 2 ^ (row_of n).shift
@@ -54,7 +54,7 @@ pub filled_more :
 filled_more fields bytes n value v l h is =
     let f = field_small fields n v l in
     let x = room fields bytes n h l in
-    let there : (row_of n).byte < length bytes = rw (h.count) ((places_of n l).byte) in
+    let there : (row_of n).byte < length bytes = rw (h.count) ((bit_fields_of n l).byte) in
     record {
       count = length-set bytes (row_of n).byte value ∙ h.count;
       rows = λ k below.
@@ -67,7 +67,8 @@ filled_more fields bytes n value v l h is =
                       let kept = keeps_low (get_or bytes (row_of n).byte 0) (get_or fields n 0) (row_of n).shift (row_of k).shift (row_of k).width under in
                       let read : get_or (set bytes (row_of n).byte value) (row_of k).byte 0 ≡ value =
                       subst (λ b. get_or (set bytes (row_of n).byte value) b 0 ≡ value) (sym same) (get_or-set_same bytes (row_of n).byte value 0 there) in
-                      rw read (rw is (kept ∙ subst (λ b. get_or bytes b 0 / 2 ^ (row_of k).shift % 2 ^ (row_of k).width ≡ get_or fields k 0) same (h.rows k earlier))))
+                      rw read (rw is (kept ∙ subst (λ b. get_or bytes b 0 / 2 ^ (row_of k).shift % 2 ^ (row_of k).width ≡ get_or fields k 0) same
+                      (h.rows k earlier))))
                   | inr other ↦ rw get_or-set_other (h.rows k earlier)
                 ])
           ];
@@ -130,11 +131,13 @@ bit_of_field n shift width bit a b =
     ap (λ m. m % 2) (sym moved) ∙ (sym one ∙ ap (λ m. m % 2) (sym whole))
 
 -- the same voice has the same used bits in each of its packed forms
-same_used : (fields p q : List ℕ) (byte bit : ℕ) → Packs fields p → Packs fields q → IsUsed byte bit → bit_at (get_or p byte 0) bit ≡ bit_at (get_or q byte 0) bit
+same_used : (fields p q : List ℕ) (byte bit : ℕ) → Packs fields p → Packs fields q → IsUsed byte bit
+    → bit_at (get_or p byte 0) bit ≡ bit_at (get_or q byte 0) bit
 same_used fields p q byte bit a b (k, small, at, low, high) =
     let fact : (x : List ℕ) → Packs fields x → bit_at (get_or x byte 0) bit ≡ bit_at (get_or fields k 0) (bit - (row_of k).shift) =
     λ x h. subst (λ y. bit_at (get_or x y 0) bit ≡ bit_at (get_or fields k 0) (bit - (row_of k).shift)) at
-    (bit_of_field (get_or x (row_of k).byte 0) (row_of k).shift (row_of k).width bit low high ∙ ap (λ m. bit_at m (bit - (row_of k).shift)) (packed_bits fields x k h small)) in
+    (bit_of_field (get_or x (row_of k).byte 0) (row_of k).shift (row_of k).width bit low high
+    ∙ ap (λ m. bit_at m (bit - (row_of k).shift)) (packed_bits fields x k h small)) in
     fact p a ∙ sym (fact q b)
 
 -- a bit is used or not
@@ -142,7 +145,11 @@ used_or_not : (byte bit : ℕ) → IsUsed byte bit ⊎ ¬ IsUsed byte bit
 used_or_not byte bit =
     elim (cases_lt bit (fill 155 byte)) [
       | inl a ↦ inl (used_below 155 byte bit (omega arith) a)
-      | inr b ↦ inr (λ (k, small, at, low, high). absurd (omega (arith, subst (λ y. (row_of k).shift + (row_of k).width ≤ fill 155 y) at (below_fill 155 k (omega arith) small))))
+      | inr b ↦ inr (λ (k, small, at, low, high). absurd (omega (
+        arith,
+        subst (λ y.
+            (row_of k).shift + (row_of k).width ≤ fill 155 y) at (below_fill 155 k (omega arith) small),
+      )))
     ]
 
 -- each voice has one packed form
@@ -165,7 +172,7 @@ zeros_at (suc n) (suc byte) = zeros_at n byte
 -- a field fits its byte
 pub fits_byte : (fields : List ℕ) (n : ℕ) → IsVoice fields → n < 155 → get_or fields n 0 * 2 ^ (row_of n).shift < 128
 fits_byte fields n v l =
-    let p = places_of n l in
+    let p = bit_fields_of n l in
     let below = shl_below (get_or fields n 0) (row_of n).width (row_of n).shift (field_small fields n v l) in
     let small : (row_of n).width + (row_of n).shift ≤ 7 = omega (arith, p.end) in
     let top : 2 ^ ((row_of n).width + (row_of n).shift) ≤ 2 ^ 7 = pow-le-pow_right (lit< tt) small in
