@@ -7,7 +7,7 @@ use Rattle.dx_tables.proofs.Loops.{set_more}
 use Rattle.operator_kernel.specs.declared.OpBlock.{OpBlock}
 use Rattle.operator_kernel.specs.Operator.{HasGains, silent, sample_at, feedback_sample}
 use Rattle.algorithm_bus.specs.Algorithms.{modulates, is_carrier, feedback_operator}
-use Rattle.algorithm_bus.specs.Signals.{Patch, sum_of, input_of, is_fed_back, own_sample, signals_of, note_output}
+use Rattle.algorithm_bus.specs.Signals.{BlockInput, sum_of, input_of, is_fed_back, own_sample, signals_of, note_output}
 use Rattle.algorithm_bus.specs.Buses.{HaveGains, IsBus, op_of, no_operator}
 use Rattle.algorithm_bus.specs.Audible.{AreClosed, IsCovered, if_kept, is_kept, muted}
 use Rattle.algorithm_bus.proofs.Panel.{fed_back_within, goes_down}
@@ -22,7 +22,7 @@ silent_sample : (op : OpBlock) (j : ℕ) (x : ℤ) → silent op ≡ true → sa
 unfolding sample_at
 silent_sample op j x e = rw e refl
 
-pub own_silent : (p : Patch) (o : ℕ) (f : ℕ → ℤ) (j : ℕ) → silent (p.op o) ≡ true → own_sample p o f j ≡ pos 0
+pub own_silent : (p : BlockInput) (o : ℕ) (f : ℕ → ℤ) (j : ℕ) → silent (p.op o) ≡ true → own_sample p o f j ≡ pos 0
 unfolding own_sample
 own_silent p o f j e = zero_by _ _ _ (silent_sample _ j _ e) (silent_sample _ j _ e)
 
@@ -39,8 +39,8 @@ sum_alike chosen y y' (suc k) j h =
     ap (λ z. z +ℤ cond (chosen (6 - k)) (y (6 - k) j) (pos 0)) before
     ∙ ap (λ z. sum_of chosen y' k j +ℤ z) (alike_by (chosen (6 - k)) _ _ (h k (omega arith)))
 
--- two patches that differ in the operators alone, of which those are muted that are not kept
-pub record AreMuted (p q : Patch) (kept : ℕ → Bool) : Type 0 where
+-- two block inputs that differ in the operators alone, of which those are muted that are not kept
+pub record AreMuted (p q : BlockInput) (kept : ℕ → Bool) : Type 0 where
   pub algorithm_is : q.algorithm ≡ p.algorithm
   pub feedback_is : q.feedback ≡ p.feedback
   pub feedback_state_is : q.feedback_state ≡ p.feedback_state
@@ -51,19 +51,19 @@ still_silent true op e = e
 still_silent false op e = refl
 
 -- an operator that is kept has the same samples under the same input
-own_kept : (p q : Patch) (o : ℕ) (f : ℕ → ℤ) (j : ℕ) → q.algorithm ≡ p.algorithm → q.feedback ≡ p.feedback → q.feedback_state ≡ p.feedback_state → q.op o ≡ p.op o → own_sample q o f j ≡ own_sample p o f j
+own_kept : (p q : BlockInput) (o : ℕ) (f : ℕ → ℤ) (j : ℕ) → q.algorithm ≡ p.algorithm → q.feedback ≡ p.feedback → q.feedback_state ≡ p.feedback_state → q.op o ≡ p.op o → own_sample q o f j ≡ own_sample p o f j
 unfolding own_sample
 own_kept p q o f j a b m e = rw (a, b, m, e) refl
 
 -- what is heard of an operator, where that of the operators above is as it was
-input_same : (p q : Patch) (kept : ℕ → Bool) (k j : ℕ) → q.algorithm ≡ p.algorithm
+input_same : (p q : BlockInput) (kept : ℕ → Bool) (k j : ℕ) → q.algorithm ≡ p.algorithm
     → ((i : ℕ) → i < k → modulates p.algorithm (6 - i) (6 - k) ≡ true → signals_of q k (6 - i) j ≡ signals_of p k (6 - i) j)
     → input_of q (signals_of q k) k (6 - k) j ≡ input_of p (signals_of p k) k (6 - k) j
 input_same p q kept k j a h =
     ap (λ n. wrap (sum_of (λ m. modulates n m (6 - k)) (signals_of q k) k j)) a
     ∙ ap wrap (sum_alike (λ m. modulates p.algorithm m (6 - k)) (signals_of q k) (signals_of p k) k j h)
 
-module _ (p q : Patch) (kept : ℕ → Bool) (m : AreMuted p q kept)
+module _ (p q : BlockInput) (kept : ℕ → Bool) (m : AreMuted p q kept)
     (closed : (o to : ℕ) → 1 ≤ o → o ≤ 6 → 1 ≤ to → to ≤ 6 → modulates p.algorithm o to ≡ true → kept to ≡ true → IsCovered (kept o) (p.op o)) where
   -- the k-th operator from the top
   own_covered : (k j : ℕ) → k < 6 → ((i : ℕ) → i < k → IsCovered (kept (6 - i)) (p.op (6 - i)) → signals_of q k (6 - i) j ≡ signals_of p k (6 - i) j)
@@ -175,7 +175,7 @@ muted_next n ops few kept op len lt m h = record {
 }
 
 -- all six of them make the same output
-pub few_output : (a : ℕ) (ops few : List OpBlock) (kept : List Bool) (n : ℕ) → 6 ≤ n → AreClosed a ops 6 kept → AreMutedUpTo n ops few kept → (p : Patch) → p.algorithm ≡ a → p.op ≡ op_of ops → (j : ℕ) → note_output (record p { op = op_of few }) j ≡ note_output p j
+pub few_output : (a : ℕ) (ops few : List OpBlock) (kept : List Bool) (n : ℕ) → 6 ≤ n → AreClosed a ops 6 kept → AreMutedUpTo n ops few kept → (p : BlockInput) → p.algorithm ≡ a → p.op ≡ op_of ops → (j : ℕ) → note_output (record p { op = op_of few }) j ≡ note_output p j
 few_output a ops few kept n le c m p ea eo j =
     let at : (o : ℕ) → p.op o ≡ op_of ops o = λ o. ap (λ f. f o) eo in
     let cover : (o : ℕ) → IsCovered (is_kept kept o) (op_of ops o) → IsCovered (is_kept kept o) (p.op o) = λ o h. rw (at o) h in
@@ -231,7 +231,7 @@ sum_none chosen y (suc k) j h =
     ap (λ z. z +ℤ cond (chosen (6 - k)) (y (6 - k) j) (pos 0)) (sum_none chosen y k j (λ i lt. h i (omega arith)))
     ∙ ap (λ z. pos 0 +ℤ z) (alike_by (chosen (6 - k)) (y (6 - k) j) (pos 0) (h k (omega arith)) ∙ zero_by (chosen (6 - k)) (pos 0) (pos 0) refl refl)
 
-pub no_output : (p : Patch) → p.algorithm ≤ 31 → ((o : ℕ) → 1 ≤ o → o ≤ 6 → is_carrier p.algorithm o ≡ true → silent (p.op o) ≡ true) → (j : ℕ) → note_output p j ≡ pos 0
+pub no_output : (p : BlockInput) → p.algorithm ≤ 31 → ((o : ℕ) → 1 ≤ o → o ≤ 6 → is_carrier p.algorithm o ≡ true → silent (p.op o) ≡ true) → (j : ℕ) → note_output p j ≡ pos 0
 unfolding note_output
 no_output p la h j =
     ap wrap (sum_none (is_carrier p.algorithm) (signals_of p 6) 6 j (λ i lt e.
