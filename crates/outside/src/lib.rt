@@ -1,8 +1,9 @@
-//! What a program meets outside: a shelf of files by name, and an output. Each counts its faults.
+//! What a program meets outside: a shelf of files by name, an output, and a gate. Shelf and output count their faults.
 #![tactic(auto)]
 
 mod copy;
 mod disk;
+mod failed_names;
 mod failures;
 mod gate;
 mod held;
