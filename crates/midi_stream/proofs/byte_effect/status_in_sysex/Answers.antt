@@ -5,8 +5,8 @@ use Rattle.midi_stream.specs.declared.state.ParserState.TheVariants.{InSysEx}
 use Rattle.midi_stream.specs.Segments.{last_segment}
 use Rattle.midi_stream.specs.Messages.{messages_of}
 use Rattle.midi_stream.specs.Standing.{HasBytes}
-use Rattle.midi_stream.proofs.Steps.{stands_end, answer_end, count_at_end, answer_none, bytes_at_end, length_at_end}
-use Rattle.midi_stream.proofs.step.status_in_sysex.Goals as goal
+use Rattle.midi_stream.proofs.ByteEffects.{stands_end, answer_end, count_at_end, answer_none, bytes_at_end, length_at_end}
+use Rattle.midi_stream.proofs.byte_effect.status_in_sysex.Goals as goal
 
 pub returns-then-byte-eq247 : goal.returns-then-byte-eq247
 returns-then-byte-eq247 c = record {

@@ -3,8 +3,8 @@ use Rattle.std.proofs.lemmas.Bool.{lt-ltb}
 use Rattle.midi_stream.specs.declared.message.MidiMessage.{MidiMessage}
 use Rattle.midi_stream.specs.Growth.{extended}
 use Rattle.midi_stream.specs.Messages.{messages_of, sysex_at_end}
-use Rattle.midi_stream.proofs.Steps.{running_one, answer_one, half_first, answer_first, unused_begun}
-use Rattle.midi_stream.proofs.step.first_data.Goals as goal
+use Rattle.midi_stream.proofs.ByteEffects.{running_one, answer_one, half_first, answer_first, unused_begun}
+use Rattle.midi_stream.proofs.byte_effect.first_data.Goals as goal
 
 pub returns-then-has_one_data_byte-clause-begun : goal.returns-then-has_one_data_byte-clause-begun
 returns-then-has_one_data_byte-clause-begun c =

@@ -9,8 +9,8 @@ use Rattle.midi_stream.specs.declared.state.ParserState.TheVariants.{Between, Be
 use Rattle.midi_stream.specs.Segments.{Segment, last_segment}
 use Rattle.midi_stream.specs.Growth.{grown, extended, begun, with_status}
 use Rattle.midi_stream.specs.Messages.{message_of_one, message_of_two, has_one_data_byte, by_twos, after_twos, channel_messages, unused_data, sysex_message, segment_messages, messages_of, ended_by, sysex_at_end}
-use Rattle.midi_stream.specs.declared.step.Step.{Step}
-use Rattle.midi_stream.specs.Steps.{Advances}
+use Rattle.midi_stream.specs.declared.byte_effect.ByteEffect.{ByteEffect}
+use Rattle.midi_stream.specs.ByteEffects.{Advances}
 use Rattle.midi_stream.specs.Standing.{Answers, HasBytes, IsBetween, IsChannel, IsBareStatus, IsRunning, IsHalf, IsSysEx, EndsNone, StandsAt, kept_with}
 use Rattle.midi_stream.proofs.Ends.{last_status, same_status, last_extended, end_extended, end_status, answer_data, answer_status}
 use Rattle.midi_stream.proofs.Groups.{first_of_two, second_of_two, one_more, not_empty, channel_segment}
@@ -230,14 +230,14 @@ length_at_end count more kept segment h e =
     let l : length (240 ∷ segment.data_bytes ++ 247 ∷ []) ≡ length (240 ∷ segment.data_bytes) + 1 = length-append (240 ∷ segment.data_bytes) (247 ∷ []) in
     omega arith
 
--- a step stays one where the segments grow alike
+-- an effect stays one where the segments grow alike
 pub advances_by :
-    (f g : List Segment → ℕ → List Segment) (before : ParserState) (b : ℕ) (step : Step) → ((parts : List Segment) → f parts b ≡ g parts b)
-    → Advances before b f step → Advances before b g step
-advances_by f g before b step e a = record {
-  stands = λ kept parts h. subst (λ (now : List Segment). StandsAt step.state (kept_with before kept b) now) (e parts) (a.stands kept parts h);
-  answer = λ kept parts h. subst (λ (now : List Segment). Answers step.message (messages_of parts) (messages_of now)) (e parts) (a.answer kept parts h);
-  bytes = λ kept parts h. subst (λ (now : List Segment). IfSome step.message (λ message. HasBytes message (sysex_at_end now))) (e parts) (a.bytes kept parts h);
+    (f g : List Segment → ℕ → List Segment) (before : ParserState) (b : ℕ) (effect : ByteEffect) → ((parts : List Segment) → f parts b ≡ g parts b)
+    → Advances before b f effect → Advances before b g effect
+advances_by f g before b effect e a = record {
+  stands = λ kept parts h. subst (λ (now : List Segment). StandsAt effect.state (kept_with before kept b) now) (e parts) (a.stands kept parts h);
+  answer = λ kept parts h. subst (λ (now : List Segment). Answers effect.message (messages_of parts) (messages_of now)) (e parts) (a.answer kept parts h);
+  bytes = λ kept parts h. subst (λ (now : List Segment). IfSome effect.message (λ message. HasBytes message (sysex_at_end now))) (e parts) (a.bytes kept parts h);
   range = a.range;
   holds = a.holds;
 }

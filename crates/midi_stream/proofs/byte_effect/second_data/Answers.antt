@@ -2,8 +2,8 @@ use Rattle.std.proofs.Common.{◌∷◌, [], ◌++◌, refl, ap, sym, ◌∙◌}
 use Rattle.midi_stream.specs.declared.message.MidiMessage.{MidiMessage}
 use Rattle.midi_stream.specs.Growth.{extended}
 use Rattle.midi_stream.specs.Messages.{messages_of, sysex_at_end}
-use Rattle.midi_stream.proofs.Steps.{running_second, answer_second}
-use Rattle.midi_stream.proofs.step.second_data.Goals as goal
+use Rattle.midi_stream.proofs.ByteEffects.{running_second, answer_second}
+use Rattle.midi_stream.proofs.byte_effect.second_data.Goals as goal
 
 pub returns : goal.returns
 returns c = record {

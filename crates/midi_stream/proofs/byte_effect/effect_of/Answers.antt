@@ -1,8 +1,8 @@
 use Rattle.std.proofs.Common.{sym}
 use Rattle.std.proofs.lemmas.Bool.{lt-ltb, le-ltb}
 use Rattle.midi_stream.specs.Growth.{extended, with_status, with_byte}
-use Rattle.midi_stream.proofs.Steps.{advances_by}
-use Rattle.midi_stream.proofs.step.next_step.Goals as goal
+use Rattle.midi_stream.proofs.ByteEffects.{advances_by}
+use Rattle.midi_stream.proofs.byte_effect.effect_of.Goals as goal
 
 pub returns-then-byte-lt128 : goal.returns-then-byte-lt128
 returns-then-byte-lt128 c =

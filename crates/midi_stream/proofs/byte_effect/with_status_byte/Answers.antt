@@ -1,9 +1,9 @@
 use Rattle.std.proofs.Common.{sym, subst}
 use Rattle.midi_stream.specs.declared.state.ParserState.{ParserState}
 use Rattle.midi_stream.specs.Growth.{with_status}
-use Rattle.midi_stream.specs.Steps.{Advances}
-use Rattle.midi_stream.proofs.Steps.{outside_none, answer_none}
-use Rattle.midi_stream.proofs.step.with_status_byte.Goals as goal
+use Rattle.midi_stream.specs.ByteEffects.{Advances}
+use Rattle.midi_stream.proofs.ByteEffects.{outside_none, answer_none}
+use Rattle.midi_stream.proofs.byte_effect.with_status_byte.Goals as goal
 
 pub returns-in-InSysEx : goal.returns-in-InSysEx
 returns-in-InSysEx c = subst (λ (s : ParserState). Advances s c.args.byte with_status c.status_in_sysex.result) (sym c.in-InSysEx.is) c.status_in_sysex.ensures

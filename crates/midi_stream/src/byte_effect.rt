@@ -8,7 +8,7 @@ ghost use Rattle.midi_stream.specs.ParserState.{holds_data};
 ghost use Rattle.midi_stream.specs.declared.state.ParserState.{ParserState};
 ghost use Rattle.midi_stream.specs.Ranges.{InRange};
 ghost use Rattle.midi_stream.specs.Standing.{StandsAt, EndsNone, HasBytes, kept_with};
-ghost use Rattle.midi_stream.specs.Steps.{Advances};
+ghost use Rattle.midi_stream.specs.ByteEffects.{Advances};
 
 use crate::channel::{has_one_data_byte, message_of_one, message_of_two};
 use crate::message::MidiMessage;
@@ -16,24 +16,24 @@ use crate::state::ParserState;
 
 /// Where a stream stands after a byte, and the message that ended with it.
 #[derive(Clone, Copy, Debug, Drop)]
-pub struct Step {
+pub struct ByteEffect {
     pub state: ParserState,
     pub message: Option<MidiMessage>,
 }
 
 /// A data byte after whole messages of a channel status.
-fn first_data(status: u8, byte: u8) -> Step
+fn first_data(status: u8, byte: u8) -> ByteEffect
     requires { byte < 128 }
     ensures begun { Advances (ParserState.Begun status) byte extended result }
     ensures running { Advances (ParserState.Running status) byte extended result }
 {
     if has_one_data_byte(status) {
-        Step {
+        ByteEffect {
             state: ParserState::Running { status },
             message: Some(message_of_one(status, byte)),
         }
     } else {
-        Step {
+        ByteEffect {
             state: ParserState::Half {
                 status,
                 first: byte,
@@ -44,31 +44,31 @@ fn first_data(status: u8, byte: u8) -> Step
 }
 
 /// A data byte after the first of two.
-fn second_data(status: u8, first: u8, byte: u8) -> Step
+fn second_data(status: u8, first: u8, byte: u8) -> ByteEffect
     requires first { first < 128 }
     requires byte { byte < 128 }
     ensures { Advances (ParserState.Half status first) byte extended result }
 {
-    Step {
+    ByteEffect {
         state: ParserState::Running { status },
         message: Some(message_of_two(status, first, byte)),
     }
 }
 
 /// What a data byte does.
-pub fn with_data(state: ParserState, byte: u8) -> Step
+pub fn with_data(state: ParserState, byte: u8) -> ByteEffect
     requires byte { byte < 128 }
     requires holds { holds_data state ≡ true }
     ensures { Advances state byte extended result }
 {
     match state {
-        ParserState::Between => Step {
+        ParserState::Between => ByteEffect {
             state,
             message: None,
         },
         ParserState::Begun { status } | ParserState::Running { status } => first_data(status, byte),
         ParserState::Half { status, first } => second_data(status, first, byte),
-        ParserState::InSysEx { count } => Step {
+        ParserState::InSysEx { count } => ByteEffect {
             state: ParserState::InSysEx {
                 count: count.saturating_add(1),
             },
@@ -108,18 +108,18 @@ fn sysex_message(count: u32) -> MidiMessage
 }
 
 /// What a status byte does in a SysEx message.
-fn status_in_sysex(count: u32, byte: u8) -> Step
+fn status_in_sysex(count: u32, byte: u8) -> ByteEffect
     requires low { 128 ≤ byte }
     requires high { byte < 248 }
     ensures { Advances (ParserState.InSysEx count) byte with_status result }
 {
     if byte == 0xF7 {
-        Step {
+        ByteEffect {
             state: ParserState::Between,
             message: Some(sysex_message(count.saturating_add(1))),
         }
     } else {
-        Step {
+        ByteEffect {
             state: state_after(byte),
             message: None,
         }
@@ -127,14 +127,14 @@ fn status_in_sysex(count: u32, byte: u8) -> Step
 }
 
 /// What a status byte does that is not a real-time byte.
-pub fn with_status_byte(state: ParserState, byte: u8) -> Step
+pub fn with_status_byte(state: ParserState, byte: u8) -> ByteEffect
     requires low { 128 ≤ byte }
     requires high { byte < 248 }
     ensures { Advances state byte with_status result }
 {
     match state {
         ParserState::InSysEx { count } => status_in_sysex(count, byte),
-        _ => Step {
+        _ => ByteEffect {
             state: state_after(byte),
             message: None,
         },
@@ -142,7 +142,7 @@ pub fn with_status_byte(state: ParserState, byte: u8) -> Step
 }
 
 /// What a byte does that is not a real-time byte.
-pub fn next_step(state: ParserState, byte: u8) -> Step
+pub fn effect_of(state: ParserState, byte: u8) -> ByteEffect
     requires byte { byte < 248 }
     requires holds { holds_data state ≡ true }
     ensures { Advances state byte with_byte result }

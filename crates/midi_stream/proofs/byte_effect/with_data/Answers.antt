@@ -1,9 +1,9 @@
 use Rattle.std.proofs.Common.{inl, inr, refl, sym, subst}
 use Rattle.midi_stream.specs.declared.state.ParserState.{ParserState}
 use Rattle.midi_stream.specs.Growth.{extended}
-use Rattle.midi_stream.specs.Steps.{Advances}
-use Rattle.midi_stream.proofs.Steps.{stands_between_data, answer_between_data, stands_sysex_data, answer_sysex_data}
-use Rattle.midi_stream.proofs.step.with_data.Goals as goal
+use Rattle.midi_stream.specs.ByteEffects.{Advances}
+use Rattle.midi_stream.proofs.ByteEffects.{stands_between_data, answer_between_data, stands_sysex_data, answer_sysex_data}
+use Rattle.midi_stream.proofs.byte_effect.with_data.Goals as goal
 
 pub returns-in-Between : goal.returns-in-Between
 returns-in-Between c = record {
