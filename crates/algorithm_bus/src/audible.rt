@@ -2,7 +2,7 @@
 ghost use Rattle.std.specs.Prelude.{ℕ, ◌≡◌, ◌≤◌, ◌-◌, ◌+◌, true, false, Some};
 ghost use Rattle.operator_kernel.specs.Operator.{HasGains, silent};
 ghost use Rattle.algorithm_bus.specs.Algorithms.{modulates, is_carrier, feedback_operator};
-ghost use Rattle.algorithm_bus.specs.Signals.{Patch, is_fed_back, note_output};
+ghost use Rattle.algorithm_bus.specs.Signals.{BlockInput, is_fed_back, note_output};
 ghost use Rattle.algorithm_bus.specs.Buses.{HaveGains, op_of};
 ghost use Rattle.algorithm_bus.specs.Audible.{AreClosed, IsCovered, if_kept, is_kept};
 
@@ -88,7 +88,7 @@ pub(crate) fn only_audible(algorithm: u8, ops: &[OpBlock; 6]) -> [OpBlock; 6]
     requires algorithm { algorithm ≤ 31 }
     requires gains { HaveGains ops.now }
     ensures gains { HaveGains result }
-    ensures output { (p : Patch) → p.algorithm ≡ algorithm → p.op ≡ op_of ops.now → (j : ℕ) →
+    ensures output { (p : BlockInput) → p.algorithm ≡ algorithm → p.op ≡ op_of ops.now → (j : ℕ) →
         note_output (record p { op = op_of result }) j ≡ note_output p j }
     ensures fed_back { (o : ℕ) → feedback_operator algorithm ≡ Some o → op_of result o ≡ op_of ops.now o }
 {

@@ -3,7 +3,7 @@ ghost use Rattle.std.specs.Prelude.{◌≡◌, ◌≤◌, ◌<◌, ◌-◌, ◌+
 ghost use Rattle.operator_kernel.specs.Operator.{HasGains, feedback_sample, feedback_state_of};
 ghost use Rattle.algorithm_bus.specs.Algorithms.{feedback_operator};
 ghost use Rattle.algorithm_bus.specs.Signals.{feedback_state_left, note_output};
-ghost use Rattle.algorithm_bus.specs.Buses.{HaveGains, IsBus, op_of, patch_of};
+ghost use Rattle.algorithm_bus.specs.Buses.{HaveGains, IsBus, op_of, block_input_of};
 
 use crate::bus::silence;
 use crate::feedback_operator;
@@ -62,14 +62,14 @@ fn feed_back_eight(
         IsBus (feedback_sample (op_of ops6.now o) feedback (feedback_state_of m6.old)) b6.new }
     ensures samples7 { (o : ℕ) → feedback_operator algorithm ≡ Some o →
         IsBus (feedback_sample (op_of ops7.now o) feedback (feedback_state_of m7.old)) b7.new }
-    ensures feedback_state0 { feedback_state_of m0.new ≡ feedback_state_left (patch_of algorithm feedback ops0.now m0.old) }
-    ensures feedback_state1 { feedback_state_of m1.new ≡ feedback_state_left (patch_of algorithm feedback ops1.now m1.old) }
-    ensures feedback_state2 { feedback_state_of m2.new ≡ feedback_state_left (patch_of algorithm feedback ops2.now m2.old) }
-    ensures feedback_state3 { feedback_state_of m3.new ≡ feedback_state_left (patch_of algorithm feedback ops3.now m3.old) }
-    ensures feedback_state4 { feedback_state_of m4.new ≡ feedback_state_left (patch_of algorithm feedback ops4.now m4.old) }
-    ensures feedback_state5 { feedback_state_of m5.new ≡ feedback_state_left (patch_of algorithm feedback ops5.now m5.old) }
-    ensures feedback_state6 { feedback_state_of m6.new ≡ feedback_state_left (patch_of algorithm feedback ops6.now m6.old) }
-    ensures feedback_state7 { feedback_state_of m7.new ≡ feedback_state_left (patch_of algorithm feedback ops7.now m7.old) }
+    ensures feedback_state0 { feedback_state_of m0.new ≡ feedback_state_left (block_input_of algorithm feedback ops0.now m0.old) }
+    ensures feedback_state1 { feedback_state_of m1.new ≡ feedback_state_left (block_input_of algorithm feedback ops1.now m1.old) }
+    ensures feedback_state2 { feedback_state_of m2.new ≡ feedback_state_left (block_input_of algorithm feedback ops2.now m2.old) }
+    ensures feedback_state3 { feedback_state_of m3.new ≡ feedback_state_left (block_input_of algorithm feedback ops3.now m3.old) }
+    ensures feedback_state4 { feedback_state_of m4.new ≡ feedback_state_left (block_input_of algorithm feedback ops4.now m4.old) }
+    ensures feedback_state5 { feedback_state_of m5.new ≡ feedback_state_left (block_input_of algorithm feedback ops5.now m5.old) }
+    ensures feedback_state6 { feedback_state_of m6.new ≡ feedback_state_left (block_input_of algorithm feedback ops6.now m6.old) }
+    ensures feedback_state7 { feedback_state_of m7.new ≡ feedback_state_left (block_input_of algorithm feedback ops7.now m7.old) }
 {
     match feedback_operator(algorithm) {
         Some(operator) => {
@@ -118,22 +118,22 @@ pub(crate) fn run_eight_notes(
     requires feedback { feedback ≤ 7 }
     requires low_gains { HaveGains ops0.now × HaveGains ops1.now × HaveGains ops2.now × HaveGains ops3.now }
     requires high_gains { HaveGains ops4.now × HaveGains ops5.now × HaveGains ops6.now × HaveGains ops7.now }
-    ensures out0 { IsBus (note_output (patch_of algorithm feedback ops0.now m0.old)) out0.new }
-    ensures out1 { IsBus (note_output (patch_of algorithm feedback ops1.now m1.old)) out1.new }
-    ensures out2 { IsBus (note_output (patch_of algorithm feedback ops2.now m2.old)) out2.new }
-    ensures out3 { IsBus (note_output (patch_of algorithm feedback ops3.now m3.old)) out3.new }
-    ensures out4 { IsBus (note_output (patch_of algorithm feedback ops4.now m4.old)) out4.new }
-    ensures out5 { IsBus (note_output (patch_of algorithm feedback ops5.now m5.old)) out5.new }
-    ensures out6 { IsBus (note_output (patch_of algorithm feedback ops6.now m6.old)) out6.new }
-    ensures out7 { IsBus (note_output (patch_of algorithm feedback ops7.now m7.old)) out7.new }
-    ensures feedback_state0 { feedback_state_of m0.new ≡ feedback_state_left (patch_of algorithm feedback ops0.now m0.old) }
-    ensures feedback_state1 { feedback_state_of m1.new ≡ feedback_state_left (patch_of algorithm feedback ops1.now m1.old) }
-    ensures feedback_state2 { feedback_state_of m2.new ≡ feedback_state_left (patch_of algorithm feedback ops2.now m2.old) }
-    ensures feedback_state3 { feedback_state_of m3.new ≡ feedback_state_left (patch_of algorithm feedback ops3.now m3.old) }
-    ensures feedback_state4 { feedback_state_of m4.new ≡ feedback_state_left (patch_of algorithm feedback ops4.now m4.old) }
-    ensures feedback_state5 { feedback_state_of m5.new ≡ feedback_state_left (patch_of algorithm feedback ops5.now m5.old) }
-    ensures feedback_state6 { feedback_state_of m6.new ≡ feedback_state_left (patch_of algorithm feedback ops6.now m6.old) }
-    ensures feedback_state7 { feedback_state_of m7.new ≡ feedback_state_left (patch_of algorithm feedback ops7.now m7.old) }
+    ensures out0 { IsBus (note_output (block_input_of algorithm feedback ops0.now m0.old)) out0.new }
+    ensures out1 { IsBus (note_output (block_input_of algorithm feedback ops1.now m1.old)) out1.new }
+    ensures out2 { IsBus (note_output (block_input_of algorithm feedback ops2.now m2.old)) out2.new }
+    ensures out3 { IsBus (note_output (block_input_of algorithm feedback ops3.now m3.old)) out3.new }
+    ensures out4 { IsBus (note_output (block_input_of algorithm feedback ops4.now m4.old)) out4.new }
+    ensures out5 { IsBus (note_output (block_input_of algorithm feedback ops5.now m5.old)) out5.new }
+    ensures out6 { IsBus (note_output (block_input_of algorithm feedback ops6.now m6.old)) out6.new }
+    ensures out7 { IsBus (note_output (block_input_of algorithm feedback ops7.now m7.old)) out7.new }
+    ensures feedback_state0 { feedback_state_of m0.new ≡ feedback_state_left (block_input_of algorithm feedback ops0.now m0.old) }
+    ensures feedback_state1 { feedback_state_of m1.new ≡ feedback_state_left (block_input_of algorithm feedback ops1.now m1.old) }
+    ensures feedback_state2 { feedback_state_of m2.new ≡ feedback_state_left (block_input_of algorithm feedback ops2.now m2.old) }
+    ensures feedback_state3 { feedback_state_of m3.new ≡ feedback_state_left (block_input_of algorithm feedback ops3.now m3.old) }
+    ensures feedback_state4 { feedback_state_of m4.new ≡ feedback_state_left (block_input_of algorithm feedback ops4.now m4.old) }
+    ensures feedback_state5 { feedback_state_of m5.new ≡ feedback_state_left (block_input_of algorithm feedback ops5.now m5.old) }
+    ensures feedback_state6 { feedback_state_of m6.new ≡ feedback_state_left (block_input_of algorithm feedback ops6.now m6.old) }
+    ensures feedback_state7 { feedback_state_of m7.new ≡ feedback_state_left (block_input_of algorithm feedback ops7.now m7.old) }
 {
     let mut scratch = Scratch::new();
     let mut first = silence();

@@ -26,11 +26,11 @@ pub struct NoteBlock {
 impl NoteBlock {
     ghost use Rattle.algorithm_bus.specs.Signals.{feedback_state_left, note_output};
     ghost use Rattle.algorithm_bus.specs.Buses.{IsBus};
-    ghost use Rattle.algorithm_bus.specs.NoteBlocks.{HasSoundingCarrier, KeepsPatch, block_patch};
+    ghost use Rattle.algorithm_bus.specs.NoteBlocks.{HasSoundingCarrier, KeepsAllButState, block_input};
 
     /// A block of no note.
     pub fn silent() -> NoteBlock
-        ensures { (j : ℕ) → note_output (block_patch result) j ≡ pos 0 }
+        ensures { (j : ℕ) → note_output (block_input result) j ≡ pos 0 }
     {
         let op = OpBlock {
             phase: 0,
@@ -48,7 +48,7 @@ impl NoteBlock {
 
     /// Whether a carrier sounds, that is, isn't silent. Where none does all samples are 0.
     pub fn is_audible(&self) -> bool
-        ensures silent { result ≡ false → (j : ℕ) → note_output (block_patch self.now) j ≡ pos 0 }
+        ensures silent { result ≡ false → (j : ℕ) → note_output (block_input self.now) j ≡ pos 0 }
         ensures sounding { result ≡ true → HasSoundingCarrier self.now }
     {
         has_audible_carrier(self.algorithm, &self.ops)
@@ -56,8 +56,8 @@ impl NoteBlock {
 
     /// Runs the operator with feedback alone, where nothing is heard of the note: the feedback state becomes its last two samples.
     pub fn pass_inaudible(&mut self, tables: &Tables)
-        ensures kept { KeepsPatch self.old self.new }
-        ensures feedback_state { feedback_state_of self.new.feedback_state ≡ feedback_state_left (block_patch self.old) }
+        ensures kept { KeepsAllButState self.old self.new }
+        ensures feedback_state { feedback_state_of self.new.feedback_state ≡ feedback_state_left (block_input self.old) }
     {
         let ops = self.ops;
         let _ = feed_back(
@@ -71,9 +71,9 @@ impl NoteBlock {
 
     /// The same as `run_note`: `out` becomes the sum of the carriers, and the feedback state the last two samples of the operator with feedback.
     pub fn run(&mut self, tables: &Tables, out: &mut [i32; 64])
-        ensures kept { KeepsPatch self.old self.new }
-        ensures out { IsBus (note_output (block_patch self.old)) out.new }
-        ensures feedback_state { feedback_state_of self.new.feedback_state ≡ feedback_state_left (block_patch self.old) }
+        ensures kept { KeepsAllButState self.old self.new }
+        ensures out { IsBus (note_output (block_input self.old)) out.new }
+        ensures feedback_state { feedback_state_of self.new.feedback_state ≡ feedback_state_left (block_input self.old) }
     {
         let ops = self.ops;
         run_note(
@@ -102,18 +102,18 @@ impl NoteBlock {
             × (fourth.old.algorithm ≡ first.old.algorithm) }
         requires feedback { (second.old.feedback ≡ first.old.feedback) × (third.old.feedback ≡ first.old.feedback)
             × (fourth.old.feedback ≡ first.old.feedback) }
-        ensures kept0 { KeepsPatch first.old first.new }
-        ensures kept1 { KeepsPatch second.old second.new }
-        ensures kept2 { KeepsPatch third.old third.new }
-        ensures kept3 { KeepsPatch fourth.old fourth.new }
-        ensures out0 { IsBus (note_output (block_patch first.old)) out0.new }
-        ensures out1 { IsBus (note_output (block_patch second.old)) out1.new }
-        ensures out2 { IsBus (note_output (block_patch third.old)) out2.new }
-        ensures out3 { IsBus (note_output (block_patch fourth.old)) out3.new }
-        ensures feedback_state0 { feedback_state_of first.new.feedback_state ≡ feedback_state_left (block_patch first.old) }
-        ensures feedback_state1 { feedback_state_of second.new.feedback_state ≡ feedback_state_left (block_patch second.old) }
-        ensures feedback_state2 { feedback_state_of third.new.feedback_state ≡ feedback_state_left (block_patch third.old) }
-        ensures feedback_state3 { feedback_state_of fourth.new.feedback_state ≡ feedback_state_left (block_patch fourth.old) }
+        ensures kept0 { KeepsAllButState first.old first.new }
+        ensures kept1 { KeepsAllButState second.old second.new }
+        ensures kept2 { KeepsAllButState third.old third.new }
+        ensures kept3 { KeepsAllButState fourth.old fourth.new }
+        ensures out0 { IsBus (note_output (block_input first.old)) out0.new }
+        ensures out1 { IsBus (note_output (block_input second.old)) out1.new }
+        ensures out2 { IsBus (note_output (block_input third.old)) out2.new }
+        ensures out3 { IsBus (note_output (block_input fourth.old)) out3.new }
+        ensures feedback_state0 { feedback_state_of first.new.feedback_state ≡ feedback_state_left (block_input first.old) }
+        ensures feedback_state1 { feedback_state_of second.new.feedback_state ≡ feedback_state_left (block_input second.old) }
+        ensures feedback_state2 { feedback_state_of third.new.feedback_state ≡ feedback_state_left (block_input third.old) }
+        ensures feedback_state3 { feedback_state_of fourth.new.feedback_state ≡ feedback_state_left (block_input fourth.old) }
     {
         let ops0 = first.ops;
         let ops1 = second.ops;
@@ -166,30 +166,30 @@ impl NoteBlock {
             × (fourth.old.feedback ≡ first.old.feedback) }
         requires high_feedback { (fifth.old.feedback ≡ first.old.feedback) × (sixth.old.feedback ≡ first.old.feedback)
             × (seventh.old.feedback ≡ first.old.feedback) × (eighth.old.feedback ≡ first.old.feedback) }
-        ensures kept0 { KeepsPatch first.old first.new }
-        ensures kept1 { KeepsPatch second.old second.new }
-        ensures kept2 { KeepsPatch third.old third.new }
-        ensures kept3 { KeepsPatch fourth.old fourth.new }
-        ensures kept4 { KeepsPatch fifth.old fifth.new }
-        ensures kept5 { KeepsPatch sixth.old sixth.new }
-        ensures kept6 { KeepsPatch seventh.old seventh.new }
-        ensures kept7 { KeepsPatch eighth.old eighth.new }
-        ensures out0 { IsBus (note_output (block_patch first.old)) out0.new }
-        ensures out1 { IsBus (note_output (block_patch second.old)) out1.new }
-        ensures out2 { IsBus (note_output (block_patch third.old)) out2.new }
-        ensures out3 { IsBus (note_output (block_patch fourth.old)) out3.new }
-        ensures out4 { IsBus (note_output (block_patch fifth.old)) out4.new }
-        ensures out5 { IsBus (note_output (block_patch sixth.old)) out5.new }
-        ensures out6 { IsBus (note_output (block_patch seventh.old)) out6.new }
-        ensures out7 { IsBus (note_output (block_patch eighth.old)) out7.new }
-        ensures feedback_state0 { feedback_state_of first.new.feedback_state ≡ feedback_state_left (block_patch first.old) }
-        ensures feedback_state1 { feedback_state_of second.new.feedback_state ≡ feedback_state_left (block_patch second.old) }
-        ensures feedback_state2 { feedback_state_of third.new.feedback_state ≡ feedback_state_left (block_patch third.old) }
-        ensures feedback_state3 { feedback_state_of fourth.new.feedback_state ≡ feedback_state_left (block_patch fourth.old) }
-        ensures feedback_state4 { feedback_state_of fifth.new.feedback_state ≡ feedback_state_left (block_patch fifth.old) }
-        ensures feedback_state5 { feedback_state_of sixth.new.feedback_state ≡ feedback_state_left (block_patch sixth.old) }
-        ensures feedback_state6 { feedback_state_of seventh.new.feedback_state ≡ feedback_state_left (block_patch seventh.old) }
-        ensures feedback_state7 { feedback_state_of eighth.new.feedback_state ≡ feedback_state_left (block_patch eighth.old) }
+        ensures kept0 { KeepsAllButState first.old first.new }
+        ensures kept1 { KeepsAllButState second.old second.new }
+        ensures kept2 { KeepsAllButState third.old third.new }
+        ensures kept3 { KeepsAllButState fourth.old fourth.new }
+        ensures kept4 { KeepsAllButState fifth.old fifth.new }
+        ensures kept5 { KeepsAllButState sixth.old sixth.new }
+        ensures kept6 { KeepsAllButState seventh.old seventh.new }
+        ensures kept7 { KeepsAllButState eighth.old eighth.new }
+        ensures out0 { IsBus (note_output (block_input first.old)) out0.new }
+        ensures out1 { IsBus (note_output (block_input second.old)) out1.new }
+        ensures out2 { IsBus (note_output (block_input third.old)) out2.new }
+        ensures out3 { IsBus (note_output (block_input fourth.old)) out3.new }
+        ensures out4 { IsBus (note_output (block_input fifth.old)) out4.new }
+        ensures out5 { IsBus (note_output (block_input sixth.old)) out5.new }
+        ensures out6 { IsBus (note_output (block_input seventh.old)) out6.new }
+        ensures out7 { IsBus (note_output (block_input eighth.old)) out7.new }
+        ensures feedback_state0 { feedback_state_of first.new.feedback_state ≡ feedback_state_left (block_input first.old) }
+        ensures feedback_state1 { feedback_state_of second.new.feedback_state ≡ feedback_state_left (block_input second.old) }
+        ensures feedback_state2 { feedback_state_of third.new.feedback_state ≡ feedback_state_left (block_input third.old) }
+        ensures feedback_state3 { feedback_state_of fourth.new.feedback_state ≡ feedback_state_left (block_input fourth.old) }
+        ensures feedback_state4 { feedback_state_of fifth.new.feedback_state ≡ feedback_state_left (block_input fifth.old) }
+        ensures feedback_state5 { feedback_state_of sixth.new.feedback_state ≡ feedback_state_left (block_input sixth.old) }
+        ensures feedback_state6 { feedback_state_of seventh.new.feedback_state ≡ feedback_state_left (block_input seventh.old) }
+        ensures feedback_state7 { feedback_state_of eighth.new.feedback_state ≡ feedback_state_left (block_input eighth.old) }
     {
         let ops0 = first.ops;
         let ops1 = second.ops;

@@ -1,5 +1,6 @@
 -- The halves of a lane of 64 bits.
-use Rattle.std.proofs.Common.{ℕ, ℤ, zero, pos, negsuc, suc, [], ◌∷◌, ◌+ℤ◌, ◌*ℤ◌, ◌+◌, ◌-◌, ◌*◌, ◌/◌, ◌%◌, ◌^◌, ◌<◌, ◌≡◌, ◌∙◌, ap, sym, refl, subst, inl, inr, SFits, to_z, of_z, w32, w64, arith}
+use Rattle.std.proofs.Common.{ℕ, ℤ, zero, pos, negsuc, suc, [], ◌∷◌, ◌+ℤ◌, ◌*ℤ◌, ◌+◌, ◌-◌, ◌*◌, ◌/◌, ◌%◌, ◌^◌, ◌<◌, ◌≡◌, ◌∙◌, ap, sym, refl, subst, inl, inr}
+use Rattle.std.proofs.Common.{SFits, to_z, of_z, w32, w64, arith}
 use Rattle.std.specs.Int.{int_shr, int_wrap}
 use lib.Lanes.{number_l, digits_l}
 use Rattle.std.proofs.lemmas.Int.{ints, to_z_pos, to_z-of_z, SFits-int_wrap}

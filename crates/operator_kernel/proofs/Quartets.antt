@@ -1,5 +1,6 @@
 -- Lanes of operators that modulate themselves.
-use Rattle.std.proofs.Common.{ℕ, ℤ, zero, suc, pos, Bool, true, false, cond, refl, unsigned_abs, map, get_or, length, ◌+ℤ◌, ◌*ℤ◌, ◌+◌, ◌-◌, ◌%◌, ◌^◌, ◌<◌, ◌≤◌, ◌≡◌, ◌∙◌, ap, add-one, List, [], ◌∷◌, SFits, w32, w64, to_z, of_z, arith, rules}
+use Rattle.std.proofs.Common.{ℕ, ℤ, zero, suc, pos, Bool, true, false, cond, refl, unsigned_abs, map, get_or, length, ◌+ℤ◌, ◌*ℤ◌, ◌+◌, ◌-◌, ◌%◌, ◌^◌, ◌<◌}
+use Rattle.std.proofs.Common.{◌≤◌, ◌≡◌, ◌∙◌, ap, add-one, List, [], ◌∷◌, SFits, w32, w64, to_z, of_z, arith, rules}
 use Rattle.std.specs.Int.{int_shr}
 use lib.Lanes.{Each1}
 use Rattle.std.proofs.lemmas.Int.{to_z-of_z, int_wrap_fits, SFits-int_wrap, wrapping_add_is}
@@ -10,12 +11,12 @@ use Rattle.operator_kernel.specs.declared.OpBlock.{OpBlock}
 use Rattle.operator_kernel.specs.declared.quartet.Quartet.{Quartet}
 use Rattle.operator_kernel.specs.Operator.{silent, phase_at, gain_at, sample_at, HasGains, FeedbackState, feedback_of, feedback_state_after, feedback_sample}
 use Rattle.operator_kernel.specs.Lanes.{phase_of}
-use Rattle.operator_kernel.specs.Places.{sine_past}
+use Rattle.operator_kernel.specs.Indices.{sine_past}
 use Rattle.operator_kernel.specs.Quartets.{Four, IsSmallState, IsLive, AreLive, AreAt, AreBounded}
 use Rattle.operator_kernel.proofs.Gains.{gain_fits}
 use Rattle.operator_kernel.proofs.Fours.{four_is, lanes_read}
 use Rattle.operator_kernel.proofs.LaneSteps.{sine_read, sine_bound, sine_Within, sample_lane}
-use Rattle.operator_kernel.proofs.Places.{phase_here}
+use Rattle.operator_kernel.proofs.Indices.{phase_here}
 
 -- numbers that are small are read as they were written
 pub small_fits : (b : ℕ) (z : ℤ) → b < 2 ^ 31 → unsigned_abs z ≤ b → SFits w32 z
@@ -46,14 +47,19 @@ by_silence false z w = rw (int_wrap_fits w32 z (fits_from_Within w32 (2 ^ 29) z 
 pub sample_small : (op : OpBlock) (j : ℕ) (x : ℤ) → HasGains op → j < 64 → unsigned_abs (sample_at op j x) ≤ 2 ^ 29
 unfolding sample_at sine
 sample_small op j x h lt =
-    by_silence (silent op) _ (Within-scaled (2 ^ 29) 24 _ (Within-mul (2 ^ 25) (2 ^ 28) _ _ (sine_Within (residue (phase_at op j x))) (abs_Within (2 ^ 28) (gain_at op j) (gain_fits op j h (omega (arith, lt))).small)))
+    by_silence (silent op) _ (Within-scaled (2 ^ 29) 24 _ (Within-mul (2 ^ 25) (2 ^ 28) _ _ (sine_Within (residue (phase_at op j x)))
+    (abs_Within (2 ^ 28) (gain_at op j) (gain_fits op j h (omega (arith, lt))).small)))
 
 -- the state before sample j
 pub state_first : (op : OpBlock) (f : ℕ) (m : FeedbackState) → feedback_state_after op f m 0 ≡ m
 unfolding feedback_state_after
 state_first op f m = refl
 
-pub state_next : (op : OpBlock) (f : ℕ) (m : FeedbackState) (j : ℕ) → feedback_state_after op f m (j + 1) ≡ record { before_last = (feedback_state_after op f m j).last; last = feedback_sample op f m j }
+pub state_next : (op : OpBlock) (f : ℕ) (m : FeedbackState) (j : ℕ) → feedback_state_after op f m (j + 1) ≡ record {
+  before_last =
+      (feedback_state_after op f m j).last;
+  last = feedback_sample op f m j;
+}
 unfolding feedback_state_after
 state_next op f m j = rw add-one
 
@@ -64,13 +70,16 @@ state_small op f m (suc j) v le =
     let s = state_small op f m j v (omega (arith, le)) in
     record { before_last = s.last; last = sample_small op j _ v.gains (omega (arith, le)) }
 
-pub last_read : (op : OpBlock) (f : ℕ) (m : FeedbackState) (j : ℕ) → IsLive op m → j ≤ 64 → to_z w32 (of_z w32 (feedback_state_after op f m j).last) ≡ (feedback_state_after op f m j).last
+pub last_read : (op : OpBlock) (f : ℕ) (m : FeedbackState) (j : ℕ) → IsLive op m → j ≤ 64
+    → to_z w32 (of_z w32 (feedback_state_after op f m j).last) ≡ (feedback_state_after op f m j).last
 last_read op f m j v le = to_z-of_z w32 _ (small_fits (2 ^ 29) _ (omega arith) (state_small op f m j v le).last)
 
-pub before_read : (op : OpBlock) (f : ℕ) (m : FeedbackState) (j : ℕ) → IsLive op m → j ≤ 64 → to_z w32 (of_z w32 (feedback_state_after op f m j).before_last) ≡ (feedback_state_after op f m j).before_last
+pub before_read : (op : OpBlock) (f : ℕ) (m : FeedbackState) (j : ℕ) → IsLive op m → j ≤ 64
+    → to_z w32 (of_z w32 (feedback_state_after op f m j).before_last) ≡ (feedback_state_after op f m j).before_last
 before_read op f m j v le = to_z-of_z w32 _ (small_fits (2 ^ 29) _ (omega arith) (state_small op f m j v le).before_last)
 
-pub sample_read : (op : OpBlock) (f : ℕ) (m : FeedbackState) (j : ℕ) → IsLive op m → j < 64 → to_z w32 (of_z w32 (feedback_sample op f m j)) ≡ feedback_sample op f m j
+pub sample_read : (op : OpBlock) (f : ℕ) (m : FeedbackState) (j : ℕ) → IsLive op m → j < 64
+    → to_z w32 (of_z w32 (feedback_sample op f m j)) ≡ feedback_sample op f m j
 sample_read op f m j v lt = to_z-of_z w32 _ (small_fits (2 ^ 29) _ (omega arith) (sample_small op j _ v.gains lt))
 
 -- a lane that was read twice
@@ -84,7 +93,8 @@ pub same_state : (m : FeedbackState) (x y : ℤ) → x ≡ m.before_last → y �
 same_state m x y p q = rw (p, q)
 
 -- the sample of a lane, by what was read of its phase and its last two samples
-pub fed_lane : (op : OpBlock) (f : ℕ) (m : FeedbackState) (j : ℕ) (p x y q : ℤ) → IsLive op m → j < 64 → p ≡ phase_of op j → x ≡ (feedback_state_after op f m j).before_last → y ≡ (feedback_state_after op f m j).last
+pub fed_lane : (op : OpBlock) (f : ℕ) (m : FeedbackState) (j : ℕ) (p x y q : ℤ) → IsLive op m → j < 64 → p ≡ phase_of op j
+    → x ≡ (feedback_state_after op f m j).before_last → y ≡ (feedback_state_after op f m j).last
     → q ≡ wrap (p +ℤ feedback_of f (record { before_last = x; last = y }))
     → to_z w32 (of_z w32 (wrap (int_shr (to_z w64 (of_z w64 (sine q)) *ℤ to_z w64 (of_z w64 (gain_at op j))) 24))) ≡ feedback_sample op f m j
 unfolding sine
@@ -98,14 +108,16 @@ feedback_heard f x y le = search (rules, arith)
 
 -- a phase with the feedback, as the lanes compute it
 pub fed_phase_lane : (f : ℕ) (p x y k : ℤ) → (1 ≤ f) × (f ≤ 7) → unsigned_abs x ≤ 2 ^ 29 → unsigned_abs y ≤ 2 ^ 29 → SFits w32 p → k ≡ pos (9 - f) →
-    to_z w32 ((of_z w32 p + of_z w32 (int_shr (to_z w32 ((of_z w32 x + of_z w32 y) % 2 ^ 32)) (of_z w32 k))) % 2 ^ 32) ≡ wrap (p +ℤ feedback_of f (record { before_last = x; last = y }))
+    to_z w32 ((of_z w32 p + of_z w32 (int_shr (to_z w32 ((of_z w32 x + of_z w32 y) % 2 ^ 32)) (of_z w32 k))) % 2 ^ 32) ≡ wrap
+    (p +ℤ feedback_of f (record { before_last = x; last = y }))
 fed_phase_lane f p x y k hears ex ey fp e =
     let wx : Within (2 ^ 29) x = abs_Within _ _ ex in
     let wy : Within (2 ^ 29) y = abs_Within _ _ ey in
     let ws : Within (2 ^ 30) (x +ℤ y) = Within-add (2 ^ 29) (2 ^ 29) _ _ wx wy in
     let fs : SFits w32 (x +ℤ y) = fits_from_Within w32 _ _ ws (omega arith) in
     let fh : SFits w32 (int_shr (x +ℤ y) (9 - f)) = fits_from_Within w32 _ _ (Within-shr (2 ^ 30) (9 - f) _ ws) (omega arith) in
-    let sum : to_z w32 ((of_z w32 x + of_z w32 y) % 2 ^ 32) ≡ x +ℤ y = wrapping_add_is w32 x y (small_fits (2 ^ 29) x (omega arith) ex) (small_fits (2 ^ 29) y (omega arith) ey) ∙ int_wrap_fits w32 _ fs in
+    let sum : to_z w32 ((of_z w32 x + of_z w32 y) % 2 ^ 32) ≡ x +ℤ y = wrapping_add_is w32 x y (small_fits (2 ^ 29) x (omega arith) ex)
+    (small_fits (2 ^ 29) y (omega arith) ey) ∙ int_wrap_fits w32 _ fs in
     let heard : feedback_of f (record { before_last = x; last = y }) ≡ int_shr (x +ℤ y) (9 - f) = feedback_heard f x y hears.0 in
     rw (sum, e, heard) (wrapping_add_is w32 p _ fp fh)
 

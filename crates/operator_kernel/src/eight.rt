@@ -26,7 +26,7 @@ fn is_small_state(state: &[i32; 2]) -> bool
     is_small(state[0]) && is_small(state[1])
 }
 
-/// Whether an operator sounds and hears itself, with a small feedback state.
+/// Whether an operator sounds, with feedback above 0 and a small feedback state.
 #[inline(always)]
 fn is_live(op: &OpBlock, feedback: u8, state: &[i32; 2]) -> bool
     requires gains { HasGains op.now }
@@ -35,7 +35,7 @@ fn is_live(op: &OpBlock, feedback: u8, state: &[i32; 2]) -> bool
     !is_silent(op) && feedback > 0 && is_small_state(state)
 }
 
-/// The same as `run_feedback` without `add` for each of eight operators that sound and hear themselves, side by side.
+/// The same as `run_feedback` without `add` for each of eight operators that sound, with feedback above 0, side by side.
 #[inline(always)]
 fn run_quartets(
     tables: &Tables,

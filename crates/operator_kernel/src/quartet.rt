@@ -1,4 +1,4 @@
-//! Four operators that sound and hear themselves, side by side: each is a lane of the vectors.
+//! Four operators that sound, with feedback above 0, side by side: each is a lane of the vectors.
 ghost use Rattle.std.specs.Prelude.{ℕ, [], ◌≡◌, ◌+◌, ◌<◌, ◌≤◌, length, map, FitsSigned};
 ghost use Rattle.std.specs.Int.{w32};
 ghost use Rattle.std.specs.Simd.Lanes.{Each1};

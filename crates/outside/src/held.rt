@@ -46,7 +46,10 @@ impl<F: Write + Drop> HeldFiles<F> {
     }
 
     /// Closes the file by this name, without what is held back.
-    pub(crate) fn forget(&mut self, name: &str) {
+    pub(crate) fn forget(&mut self, name: &str)
+        ensures forgotten { held_by self.new name.now ≡ 0 }
+        ensures held { (any : List ℕ) → held_by self.new any ≤ held_by self.old any }
+    {
         if self.one.is_file(name) {
             self.one.close();
         }
@@ -121,7 +124,9 @@ impl<F: Write + Drop> HeldFile<F> {
     }
 
     /// Closes the file, without what is held back.
-    fn close(&mut self) {
+    fn close(&mut self)
+        ensures { (any : List ℕ) → held_in self.new any ≡ 0 }
+    {
         self.bytes.clear();
         self.file = None;
     }

@@ -7,7 +7,7 @@ use Rattle.std.proofs.lemmas.Bool.{cases_lt, cases_eq, eq-eqb, ne_eqb, le-leb, l
 use Rattle.sysex_frame.specs.Frame.{IsFrame, Content, VoiceDump, CartridgeDump, ParamChange, OtherChange, DumpRequest, content_of}
 use Rattle.sysex_frame.specs.FrameFault.{substatus, device, format, group, number, payload, unknown_substatus, first_fault}
 use Rattle.sysex_frame.specs.Halves.{early_fault, later_fault}
-use Rattle.sysex_frame.specs.Reading.{reading}
+use Rattle.sysex_frame.specs.ParsedFrame.{reading}
 use Rattle.sysex_frame.specs.Halves.{Answers}
 use Rattle.sysex_frame.specs.declared.frame.Frame.{Frame}
 use Rattle.sysex_frame.specs.declared.frame.FrameFault.{FrameFault}

@@ -9,7 +9,7 @@ ghost use Rattle.sysex_frame.specs.Frame.{Content, IsFrame, content_of};
 ghost use Rattle.sysex_frame.specs.FrameFault.{first_fault, has_count, high_value, not_framed, not_yamaha, payload};
 ghost use Rattle.sysex_frame.specs.FrameFault.{substatus, unknown_format, where_true, wrong_checksum, wrong_count, wrong_length};
 ghost use Rattle.sysex_frame.specs.Halves.{Answers, early_fault, later_fault};
-ghost use Rattle.sysex_frame.specs.Reading.{change, dump, reading};
+ghost use Rattle.sysex_frame.specs.ParsedFrame.{change, dump, reading};
 
 use crate::frame::{Frame, FrameFault};
 use crate::sums::checksum;

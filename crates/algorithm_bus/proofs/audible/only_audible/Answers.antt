@@ -30,4 +30,5 @@ pub returns-clause-output : goal.returns-clause-output
 returns-clause-output c = few_output c.args.algorithm c.args.ops.now _ _ c.loop-k.k (omega arith) c.audible_operators-kept.ensures c.loop-k.invariant.muted
 
 pub returns-clause-fed_back : goal.returns-clause-fed_back
-returns-clause-fed_back c = few_fed_back c.args.algorithm c.args.ops.now _ _ c.loop-k.k c.requires.algorithm (omega arith) c.audible_operators-kept.ensures c.loop-k.invariant.muted
+returns-clause-fed_back c = few_fed_back c.args.algorithm c.args.ops.now _ _ c.loop-k.k c.requires.algorithm (omega arith) c.audible_operators-kept.ensures
+    c.loop-k.invariant.muted

@@ -1,7 +1,7 @@
 use Rattle.std.proofs.Common.{◌≡◌, ◌∙◌, ◌-◌, ◌≤◌, ℕ, ap, sym, subst, Some, get_or, arith}
 use Rattle.operator_kernel.specs.declared.OpBlock.{OpBlock}
 use Rattle.operator_kernel.specs.Operator.{HasGains, feedback_sample}
-use Rattle.algorithm_bus.specs.Signals.{Patch}
+use Rattle.algorithm_bus.specs.Signals.{BlockInput}
 use Rattle.algorithm_bus.specs.Buses.{IsBus, op_of, no_operator}
 use Rattle.algorithm_bus.proofs.Routing.{routed_none, routed_all}
 use Rattle.algorithm_bus.proofs.routed.run_each.Goals as goal

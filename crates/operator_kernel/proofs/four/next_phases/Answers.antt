@@ -3,7 +3,7 @@ use Rattle.std.proofs.lemmas.Int.{wrapping_add_is, SFits-int_wrap}
 use Rattle.operator_kernel.specs.declared.OpBlock.{OpBlock}
 use Rattle.operator_kernel.specs.Lanes.{phase_of}
 use Rattle.operator_kernel.proofs.Fours.{four_same}
-use Rattle.operator_kernel.proofs.Places.{phase_next}
+use Rattle.operator_kernel.proofs.Indices.{phase_next}
 use Rattle.operator_kernel.proofs.four.next_phases.Goals as goal
 
 lane : (op : OpBlock) (j : ℕ) → SFits w32 op.freq → to_z w32 ((of_z w32 (phase_of op j) + of_z w32 op.freq) % 2 ^ 32) ≡ phase_of op (j + 1)

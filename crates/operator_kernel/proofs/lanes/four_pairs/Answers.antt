@@ -6,7 +6,7 @@ use Rattle.operator_kernel.proofs.lanes.four_pairs.Goals as goal
 
 pub returns : goal.returns
 returns c =
-    let p = c.requires.places in
+    let p = c.requires.indices in
     let b0 = pair_bits c.args.p0 p.0 in
     let b1 = pair_bits c.args.p1 p.1 in
     let b2 = pair_bits c.args.p2 p.2 in

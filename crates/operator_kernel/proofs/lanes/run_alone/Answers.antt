@@ -6,4 +6,5 @@ pub returns-then-add : goal.returns-then-add
 returns-then-add c = subst (λ t. IsMixed t (samples_of c.args.op.now None) c.args.bus.now c.run_at.new.bus) (sym c.if-add.true) c.run_at.ensures
 
 pub returns-else-add : goal.returns-else-add
-returns-else-add c = subst (λ t. IsMixed t (samples_of c.args.op.now None) c.args.bus.now c.run_at-else-add.new.bus) (sym c.if-add.false) c.run_at-else-add.ensures
+returns-else-add c = subst (λ t. IsMixed t (samples_of c.args.op.now None) c.args.bus.now c.run_at-else-add.new.bus) (sym c.if-add.false)
+    c.run_at-else-add.ensures

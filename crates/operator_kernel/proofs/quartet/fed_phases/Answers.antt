@@ -11,6 +11,7 @@ returns c =
     let x = λ (i : ℕ) (lt : i < 4). Each1-get_or (λ z. unsigned_abs z ≤ 2 ^ 29) q.before_last i (pos 0) (omega arith) b.before_last in
     let y = λ (i : ℕ) (lt : i < 4). Each1-get_or (λ z. unsigned_abs z ≤ 2 ^ 29) q.last i (pos 0) (omega arith) b.last in
     let p = λ (i : ℕ) (lt : i < 4). Each1-get_or (SFits w32) q.phases i (pos 0) (omega arith) b.phases in
-    let at = λ (i : ℕ) (lt : i < 4). fed_phase_lane c.args.feedback (get_or q.phases i (pos 0)) (get_or q.before_last i (pos 0)) (get_or q.last i (pos 0)) _ c.requires.feedback (x i lt) (y i lt) (p i lt) c.from.ensures in
+    let at = λ (i : ℕ) (lt : i < 4). fed_phase_lane c.args.feedback (get_or q.phases i (pos 0)) (get_or q.before_last i (pos 0)) (get_or q.last i (pos 0)) _
+    c.requires.feedback (x i lt) (y i lt) (p i lt) c.from.ensures in
     rw (four_is (pos 0) q.phases b.four_phases, four_is (pos 0) q.before_last b.four_before, four_is (pos 0) q.last b.four_last)
     (four_same (at 0 (omega arith)) (at 1 (omega arith)) (at 2 (omega arith)) (at 3 (omega arith)))

@@ -34,8 +34,12 @@ returns c = λ v j lt e live at.
     let q = c.args.at in
     let f = c.args.feedback in
     let phase = λ (k : ℕ). to_z w32 (of_z w32 (fed_phase f q k)) in
-    let l0 = fed_lane v.op0 v.feedback v.state0 j (get_or q.phases 0 (pos 0)) (get_or q.before_last 0 (pos 0)) (get_or q.last 0 (pos 0)) (phase 0) live.live0 lt (rw at.phases) (rw at.before_last) (rw at.last) (rw e (to_z-of_z w32 _ (SFits-int_wrap w32 _))) in
-    let l1 = fed_lane v.op1 v.feedback v.state1 j (get_or q.phases 1 (pos 0)) (get_or q.before_last 1 (pos 0)) (get_or q.last 1 (pos 0)) (phase 1) live.live1 lt (rw at.phases) (rw at.before_last) (rw at.last) (rw e (to_z-of_z w32 _ (SFits-int_wrap w32 _))) in
-    let l2 = fed_lane v.op2 v.feedback v.state2 j (get_or q.phases 2 (pos 0)) (get_or q.before_last 2 (pos 0)) (get_or q.last 2 (pos 0)) (phase 2) live.live2 lt (rw at.phases) (rw at.before_last) (rw at.last) (rw e (to_z-of_z w32 _ (SFits-int_wrap w32 _))) in
-    let l3 = fed_lane v.op3 v.feedback v.state3 j (get_or q.phases 3 (pos 0)) (get_or q.before_last 3 (pos 0)) (get_or q.last 3 (pos 0)) (phase 3) live.live3 lt (rw at.phases) (rw at.before_last) (rw at.last) (rw e (to_z-of_z w32 _ (SFits-int_wrap w32 _))) in
+    let l0 = fed_lane v.op0 v.feedback v.state0 j (get_or q.phases 0 (pos 0)) (get_or q.before_last 0 (pos 0)) (get_or q.last 0 (pos 0)) (phase 0) live.live0 lt
+    (rw at.phases) (rw at.before_last) (rw at.last) (rw e (to_z-of_z w32 _ (SFits-int_wrap w32 _))) in
+    let l1 = fed_lane v.op1 v.feedback v.state1 j (get_or q.phases 1 (pos 0)) (get_or q.before_last 1 (pos 0)) (get_or q.last 1 (pos 0)) (phase 1) live.live1 lt
+    (rw at.phases) (rw at.before_last) (rw at.last) (rw e (to_z-of_z w32 _ (SFits-int_wrap w32 _))) in
+    let l2 = fed_lane v.op2 v.feedback v.state2 j (get_or q.phases 2 (pos 0)) (get_or q.before_last 2 (pos 0)) (get_or q.last 2 (pos 0)) (phase 2) live.live2 lt
+    (rw at.phases) (rw at.before_last) (rw at.last) (rw e (to_z-of_z w32 _ (SFits-int_wrap w32 _))) in
+    let l3 = fed_lane v.op3 v.feedback v.state3 j (get_or q.phases 3 (pos 0)) (get_or q.before_last 3 (pos 0)) (get_or q.last 3 (pos 0)) (phase 3) live.live3 lt
+    (rw at.phases) (rw at.before_last) (rw at.last) (rw e (to_z-of_z w32 _ (SFits-int_wrap w32 _))) in
     rw (c.four_products.ensures, c.sines_of-sines.ensures, c.fed_phases.ensures, at.gains) (four_same l0 l1 l2 l3)

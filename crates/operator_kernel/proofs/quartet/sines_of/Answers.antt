@@ -14,15 +14,15 @@ pub nonzero_rem-bits : goal.nonzero_rem-bits
 nonzero_rem-bits c =
     rw (bits_are _ _ c.requires.four c.requires.fits c.bits-bits.ensures) (omega arith, (omega arith, (omega arith, (omega arith, tt))))
 
-pub four_sines-requires-clause-places : goal.four_sines-requires-clause-places
-four_sines-requires-clause-places c =
+pub four_sines-requires-clause-indices : goal.four_sines-requires-clause-indices
+four_sines-requires-clause-indices c =
     rw (bits_are _ _ c.requires.four c.requires.fits c.bits-bits.ensures) (omega arith, omega arith, omega arith, omega arith)
 
 pub four_sines-requires-clause-four : goal.four_sines-requires-clause-four
 four_sines-requires-clause-four c = rw (bits_are _ _ c.requires.four c.requires.fits c.bits-bits.ensures)
 
-pub four_sines-requires-clause-rests : goal.four_sines-requires-clause-rests
-four_sines-requires-clause-rests c =
+pub four_sines-requires-clause-fractions : goal.four_sines-requires-clause-fractions
+four_sines-requires-clause-fractions c =
     rw (bits_are _ _ c.requires.four c.requires.fits c.bits-bits.ensures) (omega arith, (omega arith, (omega arith, (omega arith, tt))))
 
 pub returns : goal.returns

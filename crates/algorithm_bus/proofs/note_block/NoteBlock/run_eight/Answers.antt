@@ -1,10 +1,20 @@
 use Rattle.algorithm_bus.proofs.note_block.NoteBlock.run_eight.Goals as goal
 
 pub run_eight_notes-requires-clause-low_gains : goal.run_eight_notes-requires-clause-low_gains
-run_eight_notes-requires-clause-low_gains c = (c.args.first.now.gains_in_range, c.args.second.now.gains_in_range, c.args.third.now.gains_in_range, c.args.fourth.now.gains_in_range)
+run_eight_notes-requires-clause-low_gains c = (
+  c.args.first.now.gains_in_range,
+  c.args.second.now.gains_in_range,
+  c.args.third.now.gains_in_range,
+  c.args.fourth.now.gains_in_range,
+)
 
 pub run_eight_notes-requires-clause-high_gains : goal.run_eight_notes-requires-clause-high_gains
-run_eight_notes-requires-clause-high_gains c = (c.args.fifth.now.gains_in_range, c.args.sixth.now.gains_in_range, c.args.seventh.now.gains_in_range, c.args.eighth.now.gains_in_range)
+run_eight_notes-requires-clause-high_gains c = (
+  c.args.fifth.now.gains_in_range,
+  c.args.sixth.now.gains_in_range,
+  c.args.seventh.now.gains_in_range,
+  c.args.eighth.now.gains_in_range,
+)
 
 pub returns-clause-out1 : goal.returns-clause-out1
 returns-clause-out1 c =

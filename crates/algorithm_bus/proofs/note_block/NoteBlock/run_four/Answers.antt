@@ -1,7 +1,12 @@
 use Rattle.algorithm_bus.proofs.note_block.NoteBlock.run_four.Goals as goal
 
 pub run_four_notes-requires-clause-gains : goal.run_four_notes-requires-clause-gains
-run_four_notes-requires-clause-gains c = (c.args.first.now.gains_in_range, c.args.second.now.gains_in_range, c.args.third.now.gains_in_range, c.args.fourth.now.gains_in_range)
+run_four_notes-requires-clause-gains c = (
+  c.args.first.now.gains_in_range,
+  c.args.second.now.gains_in_range,
+  c.args.third.now.gains_in_range,
+  c.args.fourth.now.gains_in_range,
+)
 
 pub returns-clause-out1 : goal.returns-clause-out1
 returns-clause-out1 c =

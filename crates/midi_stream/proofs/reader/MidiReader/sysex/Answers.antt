@@ -3,7 +3,7 @@ use Rattle.std.specs.Prelude.{IfSome}
 use Rattle.arrayvec.specs.ArrayVec.{ArrayVec}
 use Rattle.midi_stream.specs.Segments.{clean, segments}
 use Rattle.midi_stream.specs.Messages.{last_sysex, sysex_at_end}
-use Rattle.midi_stream.specs.Reading.{Reads}
+use Rattle.midi_stream.specs.FedStream.{Reads}
 use Rattle.midi_stream.proofs.Rests.{bytes_are}
 use Rattle.midi_stream.proofs.reader.MidiReader.sysex.Goals as goal
 
