@@ -15,6 +15,6 @@ pub use dx_tables::Engine;
 pub use instrument::Instrument;
 
 #[cfg(test)]
-mod plain;
+mod reference;
 #[cfg(test)]
 mod tests;

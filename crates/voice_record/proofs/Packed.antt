@@ -9,7 +9,7 @@ use Rattle.std.proofs.Math.Nat.{add-mul-mod_self_right, pow-le-pow_right, mul-le
 use Rattle.std.proofs.Math.Pow.{mod-mod-pow}
 use Rattle.voice_record.specs.Voice.{IsVoice}
 use Rattle.voice_record.specs.Packing.{row_of, bits_of, Unpacks, Packs, IsUsed}
-use Rattle.voice_record.proofs.Rows.{fill, stacked, bit_fields_of, fill_same, fill_other, below_fill, used_below}
+use Rattle.voice_record.proofs.Rows.{fill, stacked, places_of, fill_same, fill_other, below_fill, used_below}
 
 -- what is put above the bits of a field leaves them
 keeps_low : (x f s shift width : ℕ) → shift + width ≤ s → (x + f * 2 ^ s) / 2 ^ shift % 2 ^ width ≡ x / 2 ^ shift % 2 ^ width
@@ -41,7 +41,7 @@ pub record IsFilled (fields bytes : List ℕ) (n : ℕ) : Type 0 where
   pub below : (byte : ℕ) → get_or bytes byte 0 < 2 ^ fill n byte
 
 field_small : (fields : List ℕ) (n : ℕ) → IsVoice fields → n < 155 → get_or fields n 0 < 2 ^ (row_of n).width
-field_small fields n v l = omega (arith, v.within n l, (bit_fields_of n l).fits)
+field_small fields n v l = omega (arith, v.within n l, (places_of n l).fits)
 
 -- there is room for the next field
 pub room : (fields bytes : List ℕ) (n : ℕ) → IsFilled fields bytes n → n < 155 → get_or bytes (row_of n).byte 0 < 2 ^ (row_of n).shift
@@ -54,7 +54,7 @@ pub filled_more :
 filled_more fields bytes n value v l h is =
     let f = field_small fields n v l in
     let x = room fields bytes n h l in
-    let there : (row_of n).byte < length bytes = rw (h.count) ((bit_fields_of n l).byte) in
+    let there : (row_of n).byte < length bytes = rw (h.count) ((places_of n l).byte) in
     record {
       count = length-set bytes (row_of n).byte value ∙ h.count;
       rows = λ k below.
@@ -172,7 +172,7 @@ zeros_at (suc n) (suc byte) = zeros_at n byte
 -- a field fits its byte
 pub fits_byte : (fields : List ℕ) (n : ℕ) → IsVoice fields → n < 155 → get_or fields n 0 * 2 ^ (row_of n).shift < 128
 fits_byte fields n v l =
-    let p = bit_fields_of n l in
+    let p = places_of n l in
     let below = shl_below (get_or fields n 0) (row_of n).width (row_of n).shift (field_small fields n v l) in
     let small : (row_of n).width + (row_of n).shift ≤ 7 = omega (arith, p.end) in
     let top : 2 ^ ((row_of n).width + (row_of n).shift) ≤ 2 ^ 7 = pow-le-pow_right (lit< tt) small in

@@ -29,8 +29,8 @@ pub record IsBitField (n : ℕ) : Type 0 where
   pub end : (row_of n).shift + (row_of n).width ≤ 7
   pub fits : greatest_value n < 2 ^ (row_of n).width
 
-pub bit_fields_of : (n : ℕ) → n < 155 → IsBitField n
-bit_fields_of n l =
+pub places_of : (n : ℕ) → n < 155 → IsBitField n
+places_of n l =
     let all = every_at (λ n. nat_lt (row_of n).byte 128 && (nat_le ((row_of n).shift + (row_of n).width) 7 && nat_lt (greatest_value n) (2 ^ (row_of n).width)))
     155 all_fit n l in
     let first = and_parts _ _ all in

@@ -1,7 +1,7 @@
 -- The table of the code is the bit table.
 use Rattle.std.proofs.Common.{◌≡◌, ℕ, ◌+◌, ◌-◌, ◌*◌, ◌/◌, ◌%◌, ◌<◌, ◌≤◌, get_or, ap, arith, sym}
 use Rattle.voice_record.specs.Packing.{row_of, operator_rows, common_rows}
-use Rattle.voice_record.proofs.Rows.{operator_row, common_row, bit_fields_of}
+use Rattle.voice_record.proofs.Rows.{operator_row, common_row, places_of}
 use Rattle.voice_record.proofs.packing.bit_field_of.Goals as goal
 
 -- what the code reads, by the rows
@@ -9,7 +9,7 @@ operator : (n : ℕ) → n < 126 → let own = get_or operator_rows (n % 21) (0,
     (17 * (n / 21) + own.0 ≡ (row_of n).byte) × (own.1 ≡ (row_of n).shift) × (own.2 ≡ (row_of n).width) × (17 * (n / 21) + own.0 < 128) × (own.1 + own.2 ≤ 7)
 operator n l =
     let e = operator_row n l in
-    let p = bit_fields_of n (omega arith) in (
+    let p = places_of n (omega arith) in (
       ap (λ r. r.byte) (sym e),
       ap (λ r. r.shift) (sym e),
       ap (λ r. r.width) (sym e),
@@ -21,7 +21,7 @@ common : (n : ℕ) → 126 ≤ n → n < 155 → let own = get_or common_rows (n
     (own.0 ≡ (row_of n).byte) × (own.1 ≡ (row_of n).shift) × (own.2 ≡ (row_of n).width) × (own.0 < 128) × (own.1 + own.2 ≤ 7)
 common n l small =
     let e = common_row n l in
-    let p = bit_fields_of n small in (
+    let p = places_of n small in (
       rw e (omega arith),
       ap (λ r. r.shift) (sym e),
       ap (λ r. r.width) (sym e),

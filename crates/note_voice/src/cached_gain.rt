@@ -1,6 +1,7 @@
 //! The gain of an operator, which is computed only where its level or its attenuation moved.
 
 ghost use Rattle.std.specs.Prelude.{◌≡◌, ◌^◌, pos, neg_ℤ, ◌≤ℤ◌};
+ghost use Rattle.block_rates.specs.Levels.{greatest_level};
 ghost use Rattle.note_voice.specs.Modulation.{gain_of};
 
 use crate::operator::gain;
@@ -8,7 +9,7 @@ use dx_tables::Tables;
 
 /// A gain, with the level and the attenuation that it was computed from.
 #[derive(Clone, Copy)]
-pub(crate) struct KnownGain {
+pub(crate) struct CachedGain {
     level: i32,
     attenuation: i32,
     pub(crate) gain: i32,
@@ -17,27 +18,27 @@ pub(crate) struct KnownGain {
     ghost gain_high: { gain ≤ℤ pos (2 ^ 26) },
 }
 
-impl KnownGain {
+impl CachedGain {
     /// The gain at a level that is lowered by an attenuation.
-    pub(crate) fn of(tables: &Tables, level: i32, attenuation: i32) -> KnownGain
+    pub(crate) fn of(tables: &Tables, level: i32, attenuation: i32) -> CachedGain
         requires level_low { pos 0 ≤ℤ level }
-        requires level_high { level ≤ℤ pos 266338304 }
+        requires level_high { level ≤ℤ pos greatest_level }
         requires attenuation_low { neg_ℤ (pos 509) ≤ℤ attenuation }
         requires attenuation_high { attenuation ≤ℤ pos (2 ^ 27) }
         ensures { result.gain ≡ gain_of level attenuation }
     {
-        KnownGain {
+        CachedGain {
             level,
             attenuation,
             gain: gain(tables, level, attenuation),
         }
     }
 
-    /// The same, which is this gain where neither moved.
+    /// The gain at another level and attenuation. It is computed anew only where one of the two is another than before.
     #[inline(always)]
-    pub(crate) fn moved(self, tables: &Tables, level: i32, attenuation: i32) -> KnownGain
+    pub(crate) fn moved(self, tables: &Tables, level: i32, attenuation: i32) -> CachedGain
         requires level_low { pos 0 ≤ℤ level }
-        requires level_high { level ≤ℤ pos 266338304 }
+        requires level_high { level ≤ℤ pos greatest_level }
         requires attenuation_low { neg_ℤ (pos 509) ≤ℤ attenuation }
         requires attenuation_high { attenuation ≤ℤ pos (2 ^ 27) }
         ensures { result.gain ≡ gain_of level attenuation }
@@ -45,7 +46,7 @@ impl KnownGain {
         if level == self.level && attenuation == self.attenuation {
             self
         } else {
-            KnownGain::of(tables, level, attenuation)
+            CachedGain::of(tables, level, attenuation)
         }
     }
 }

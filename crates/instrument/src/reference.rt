@@ -1,15 +1,16 @@
-//! The instrument as a plain program: voices as bytes, and a key in one of three states. Its notes, its LFO and its tables are the product's own
-//! (`Note`, `Lfo`, `Tables`).
+//! The instrument as a program that tests compare with: voices as bytes, and a key in one of three states. Its notes, its LFO and its tables
+//! are the product's own (`Note`, `Lfo`, `Tables`).
 
 ghost use Rattle.std.specs.Prelude.{◌^◌};
 ghost use Rattle.note_voice.specs.Mix.{IsSmall};
 
 use block_rates::Lfo;
 use cartridge::Cartridge;
-use command_set::Command;
+use command_set::{ALL_NOTES_OFF, Command, HOLD_PEDAL, MODULATION_WHEEL};
 use dx_tables::Tables;
 use note_voice::Note;
 use voice_record::Voice;
+use voice_record::parameter::OPERATOR_SWITCH;
 
 /// How the key of a slot stands.
 #[derive(Clone, Copy, PartialEq, Eq)]
@@ -21,7 +22,7 @@ enum Key {
 
 /// The note of a slot.
 #[derive(Clone, Copy)]
-struct PlainSlot {
+struct ReferenceSlot {
     channel: u8,
     number: u8,
     key: Key,
@@ -30,26 +31,26 @@ struct PlainSlot {
 
 /// The instrument, with counts of what happened in it.
 #[derive(Drop)]
-pub struct PlainInstrument {
+pub(crate) struct ReferenceInstrument {
     /// The voices of the cartridge.
-    pub bank: [[u8; 155]; 32],
+    pub(crate) bank: [[u8; 155]; 32],
     /// The voice of the notes that begin.
-    pub voice: [u8; 155],
+    pub(crate) voice: [u8; 155],
     /// The operator switch.
-    pub switch: u8,
+    pub(crate) switch: u8,
     bend: u16,
     wheel: u8,
     pedal: u8,
     /// The slot of the last note.
-    pub last: usize,
+    pub(crate) last: usize,
     lfo: Lfo,
-    slots: [PlainSlot; 16],
+    slots: [ReferenceSlot; 16],
     /// How many notes found no slot.
-    pub dropped: u32,
+    pub(crate) dropped: u32,
     /// How many keys went up while the pedal was down.
-    pub held: u32,
+    pub(crate) held: u32,
     /// How many samples were limited.
-    pub limited: u32,
+    pub(crate) limited: u32,
 }
 
 /// No sound.
@@ -59,11 +60,11 @@ fn nothing() -> [i64; 64]
     [0; 64]
 }
 
-impl PlainInstrument {
+impl ReferenceInstrument {
     /// The opening state.
-    pub fn new() -> PlainInstrument {
+    pub(crate) fn new() -> ReferenceInstrument {
         let voice = Voice::init().bytes();
-        PlainInstrument {
+        ReferenceInstrument {
             bank: [voice; 32],
             voice,
             switch: 63,
@@ -72,7 +73,7 @@ impl PlainInstrument {
             pedal: 0,
             last: 15,
             lfo: Lfo::new(),
-            slots: [PlainSlot {
+            slots: [ReferenceSlot {
                 channel: 0,
                 number: 0,
                 key: Key::Up,
@@ -85,7 +86,7 @@ impl PlainInstrument {
     }
 
     /// Carries out a command.
-    pub fn apply(&mut self, tables: &Tables, command: &Command) {
+    pub(crate) fn apply(&mut self, tables: &Tables, command: &Command) {
         match command {
             Command::NoteOn {
                 channel,
@@ -104,7 +105,7 @@ impl PlainInstrument {
                 self.choose(voice);
             }
             Command::Param { number, value } => {
-                if *number < 155 {
+                if *number < OPERATOR_SWITCH {
                     self.voice[*number as usize] = *value;
                 } else {
                     self.switch = *value;
@@ -128,10 +129,10 @@ impl PlainInstrument {
     }
 
     fn begin(&mut self, tables: &Tables, channel: u8, number: u8, velocity: u8) {
-        let mut place = self.last;
+        let mut index = self.last;
         for _ in 0..16 {
-            place = place.wrapping_add(1) % 16;
-            if self.slots[place].key != Key::Down {
+            index = index.wrapping_add(1) % 16;
+            if self.slots[index].key != Key::Down {
                 let voice = Voice::from_bytes(&self.voice);
                 let mut note = Note::idle();
                 let switch = self.switch.min(63);
@@ -142,13 +143,13 @@ impl PlainInstrument {
                     number.min(127),
                     velocity.clamp(1, 127),
                 );
-                self.slots[place] = PlainSlot {
+                self.slots[index] = ReferenceSlot {
                     channel,
                     number,
                     key: Key::Down,
                     note,
                 };
-                self.last = place;
+                self.last = index;
                 self.lfo.assign(&voice);
                 self.lfo.key_down();
                 return;
@@ -158,13 +159,13 @@ impl PlainInstrument {
     }
 
     fn end(&mut self, channel: u8, number: u8) {
-        for place in 0..16usize {
-            let slot = &self.slots[place];
+        for index in 0..16usize {
+            let slot = &self.slots[index];
             if slot.key == Key::Down && slot.channel == channel && slot.number == number {
                 if self.pedal < 64 {
-                    self.release(place);
+                    self.release(index);
                 } else {
-                    self.slots[place].key = Key::Held;
+                    self.slots[index].key = Key::Held;
                     self.held = self.held.wrapping_add(1);
                 }
             }
@@ -172,39 +173,39 @@ impl PlainInstrument {
     }
 
     fn control(&mut self, number: u8, value: u8) {
-        if number == 1 {
+        if number == MODULATION_WHEEL {
             self.wheel = value;
         }
-        if number == 64 {
+        if number == HOLD_PEDAL {
             self.pedal = value;
         }
-        for place in 0..16usize {
-            let ends = match self.slots[place].key {
-                Key::Down => number == 123,
-                Key::Held => number == 123 || self.pedal < 64,
+        for index in 0..16usize {
+            let ends = match self.slots[index].key {
+                Key::Down => number == ALL_NOTES_OFF,
+                Key::Held => number == ALL_NOTES_OFF || self.pedal < 64,
                 Key::Up => false,
             };
             if ends {
-                self.release(place);
+                self.release(index);
             }
         }
     }
 
-    fn release(&mut self, place: usize) {
-        let slot = &mut self.slots[place % 16];
+    fn release(&mut self, index: usize) {
+        let slot = &mut self.slots[index % 16];
         slot.note.release();
         slot.key = Key::Up;
     }
 
     /// The 64 samples of the next block.
-    pub fn block(&mut self, tables: &Tables) -> [i16; 64] {
+    pub(crate) fn block(&mut self, tables: &Tables) -> [i16; 64] {
         let (lfo, lfo_depth) = self.lfo.step(tables);
         let bend = self.bend.min(16_383);
         let wheel = self.wheel.min(127);
         let mut sums = [0i64; 64];
-        for place in 0..16usize {
+        for index in 0..16usize {
             let mut alone = nothing();
-            let note = &mut self.slots[place].note;
+            let note = &mut self.slots[index].note;
             note.block(tables, lfo, lfo_depth, bend, wheel, &mut alone);
             for j in 0..64usize {
                 sums[j] = sums[j].wrapping_add(alone[j]);
