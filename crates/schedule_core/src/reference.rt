@@ -1,35 +1,35 @@
-//! A schedule as a plain program: each block is played anew from the journal so far, by the instrument itself.
+//! A schedule as a program that tests compare with: each block is played anew from the journal so far, by the instrument itself.
 
 ghost use Rattle.std.specs.Prelude.{◌≡◌, ◌<◌, ◌≤◌};
 ghost use Rattle.command_set.specs.Command.{IsInRange, content};
 
-use command_set::Command;
+use command_set::{Command, MODULATION_WHEEL};
 use dx_tables::Engine;
 use instrument::Instrument;
 use std::alloc::{AllocError, Global};
 
 /// An entry, whose command is written by a number.
 #[derive(Clone, Copy)]
-pub struct PlainEntry {
-    pub script: u32,
-    pub seq: u32,
-    pub sent_at: u32,
-    pub number: u32,
+pub(crate) struct ReferenceEntry {
+    pub(crate) script: u32,
+    pub(crate) seq: u32,
+    pub(crate) sent_at: u32,
+    pub(crate) number: u32,
 }
 
 /// The core of a schedule of three scripts.
 #[derive(Drop)]
-pub struct PlainCore {
-    pub places: usize,
-    pub waiting: Vec<PlainEntry>,
-    pub journal: Vec<(u32, PlainEntry)>,
-    pub blocks: u32,
-    pub accepted: [u32; 3],
-    pub was_refused: [bool; 3],
+pub(crate) struct ReferenceCore {
+    pub(crate) places: usize,
+    pub(crate) waiting: Vec<ReferenceEntry>,
+    pub(crate) journal: Vec<(u32, ReferenceEntry)>,
+    pub(crate) blocks: u32,
+    pub(crate) accepted: [u32; 3],
+    pub(crate) was_refused: [bool; 3],
 }
 
 /// The command of a number: notes, bends and the wheel.
-pub fn command_of(number: u32) -> Command
+pub(crate) fn command_of(number: u32) -> Command
     ensures { IsInRange (content result) }
 {
     let key = (number / 4 % 128) as u8;
@@ -49,15 +49,15 @@ pub fn command_of(number: u32) -> Command
     } else {
         Command::Control {
             channel: 0,
-            number: 1,
+            number: MODULATION_WHEEL,
             value: key,
         }
     }
 }
 
-impl PlainCore {
-    pub fn new(alloc: Global, places: usize) -> PlainCore {
-        PlainCore {
+impl ReferenceCore {
+    pub(crate) fn new(alloc: Global, places: usize) -> ReferenceCore {
+        ReferenceCore {
             places,
             waiting: Vec::new(alloc),
             journal: Vec::new(alloc),
@@ -68,7 +68,7 @@ impl PlainCore {
     }
 
     /// The number of the entry, or none where the script is refused.
-    pub fn send(
+    pub(crate) fn send(
         &mut self,
         script: u32,
         sent_at: u32,
@@ -81,7 +81,7 @@ impl PlainCore {
             return Ok(None);
         }
         let seq = self.accepted[script as usize];
-        self.waiting.push(PlainEntry {
+        self.waiting.push(ReferenceEntry {
             script,
             seq,
             sent_at,
@@ -91,7 +91,7 @@ impl PlainCore {
         Ok(Some(seq))
     }
 
-    pub fn take(&mut self) -> Result<bool, AllocError> {
+    pub(crate) fn take(&mut self) -> Result<bool, AllocError> {
         if self.waiting.is_empty() {
             return Ok(false);
         }
@@ -100,7 +100,7 @@ impl PlainCore {
         Ok(true)
     }
 
-    pub fn settle(&mut self) -> Result<u32, AllocError> {
+    pub(crate) fn settle(&mut self) -> Result<u32, AllocError> {
         let mut count = 0u32;
         for entry in &self.waiting {
             self.journal.push((self.blocks, *entry))?;
@@ -110,7 +110,7 @@ impl PlainCore {
         Ok(count)
     }
 
-    pub fn render(&mut self, alloc: Global) -> Result<[i16; 64], AllocError> {
+    pub(crate) fn render(&mut self, alloc: Global) -> Result<[i16; 64], AllocError> {
         let mut instrument = Instrument::new(alloc, Engine::One)?;
         let mut samples = [0i16; 64];
         for block in 0..self.blocks {
@@ -124,7 +124,7 @@ impl PlainCore {
 
 fn play_block(
     instrument: &mut Instrument,
-    journal: &[(u32, PlainEntry)],
+    journal: &[(u32, ReferenceEntry)],
     block: u32,
     samples: &mut [i16; 64],
 ) {

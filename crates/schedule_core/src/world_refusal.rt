@@ -1,4 +1,4 @@
-//! Why a send was refused.
+//! Why a world refused a send.
 
 use command_set::Command;
 
