@@ -2,6 +2,7 @@
 ghost use Rattle.std.specs.Prelude.{◌≡◌, ◌≢◌, ◌<◌, ◌≤◌, ◌-◌, ℕ, List, [], All, OnOk, OnErr, length, map, option_map, vec_len, vec_capacity, slice_index_or};
 ghost use Rattle.command_set.specs.Command.{IsInRange};
 ghost use Rattle.command_set.specs.Entries.{journal_data};
+ghost use Rattle.instrument.specs.Limits.{block_limit};
 ghost use Rattle.instrument.specs.Logging.{AreTakenUpTo};
 ghost use Rattle.outside.specs.Files.{Lacks};
 ghost use Rattle.outside.specs.Faults.{HasCause};
@@ -11,7 +12,7 @@ ghost use Rattle.script_plan.specs.Plan.{PlannedData, due_blocks};
 ghost use Rattle.players.specs.Players.{PlayerView};
 ghost use Rattle.turns.specs.Turns.{AreFresh, IsFreshRenderer, HavePlayed, AreOnTime, plans_of, many_commands};
 ghost use Rattle.turns.specs.Timed.{ArePlayed, IsTimed};
-ghost use Rattle.turns.specs.Written.{order_lines, both_appended, BothBegun, HoldsNothing};
+ghost use Rattle.turns.specs.Written.{order_lines, both_appended, Blames, BothBegun, HoldsNothing};
 
 use crate::target::Target;
 use crate::turns::run_turns;
@@ -89,7 +90,7 @@ pub fn play_scripts<R: Threads + Wait + Sync, S: Shelf, G: Gate>(
     requires spare { many_commands (plans_of players.items) ≤ renderer.spare }
     requires empty { ends.items ≡ [] }
     requires room { vec_len players ≤ vec_capacity ends }
-    requires blocks { (1 ≤ blocks) × (blocks ≤ 1048576) }
+    requires blocks { (1 ≤ blocks) × (blocks ≤ block_limit) }
     requires due { (k : ℕ) (d : PlayerView) → k < length players.items → AllBelow blocks (due_blocks (slice_index_or players.items k d).left) }
     requires differ { sound.now ≢ order.now }
     requires has_sound { ¬ (Lacks (S.files shelf.old) sound.now) }
@@ -104,6 +105,7 @@ pub fn play_scripts<R: Threads + Wait + Sync, S: Shelf, G: Gate>(
         order.now (order_lines (journal_data result.0.items)) (S.files shelf.old) (S.files shelf.new)) }
     ensures cause { HasCause (S.writing shelf.old) (S.writing shelf.new) (S.reading shelf.old) (S.reading shelf.new) ⊥ result.1 }
     ensures reads { S.reads shelf.new ≡ S.reads shelf.old }
+    ensures blames { Blames result.1 sound.now order.now (S.failed shelf.old) (S.failed shelf.new) }
     ensures written_out { OnOk result.1 (HoldsNothing (S.held shelf.new) sound.now order.now) }
 {
     let mut renderer = renderer;

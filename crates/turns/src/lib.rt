@@ -3,8 +3,8 @@
 
 mod half;
 mod joined;
-mod note;
 mod opening;
+mod settle;
 mod target;
 mod turn;
 mod turns;

@@ -1,14 +1,15 @@
 //! All turns of a run.
-ghost use Rattle.std.specs.Prelude.{◌≡◌, ◌≢◌, ◌<◌, ◌≤◌, ℕ, All, OnOk, OnErr, length, option_map, slice_index_or};
+ghost use Rattle.std.specs.Prelude.{◌≡◌, ◌≢◌, ◌⊎◌, ◌<◌, ◌≤◌, ℕ, All, OnOk, OnErr, length, option_map, slice_index_or};
 ghost use Rattle.outside.specs.Files.{Lacks};
-ghost use Rattle.outside.specs.Faults.{HasCause};
+ghost use Rattle.outside.specs.Faults.{HasCause, HasFailed};
+ghost use Rattle.instrument.specs.Limits.{block_limit};
 ghost use Rattle.take_files.specs.Files.{wav_blocks};
 ghost use Rattle.live_renderer.specs.Renderer.{IsLive};
 ghost use Rattle.lateness.specs.Late.{AllBelow};
 ghost use Rattle.script_plan.specs.Plan.{due_blocks};
 ghost use Rattle.players.specs.Players.{PlayerView};
 ghost use Rattle.turns.specs.Turns.{AreFresh, IsFreshRenderer, HavePlayed, AreOnTime, plans_of, many_commands};
-ghost use Rattle.turns.specs.Written.{order_lines, both_appended, BothBegun, HoldsNothing};
+ghost use Rattle.turns.specs.Written.{order_lines, both_appended, Blames, BothBegun, HoldsNothing};
 
 use crate::target::Target;
 use crate::turn::run_turn;
@@ -36,7 +37,7 @@ pub fn run_turns<R: Threads + Wait + Sync, S: Shelf, G: Gate>(
     requires players { AreFresh line.now players.old }
     requires renderer { IsFreshRenderer line.now renderer.old }
     requires spare { many_commands (plans_of players.old) ≤ renderer.old.spare }
-    requires blocks { (1 ≤ blocks) × (blocks ≤ 1048576) }
+    requires blocks { (1 ≤ blocks) × (blocks ≤ block_limit) }
     requires due { (k : ℕ) (d : PlayerView) → k < length players.old → AllBelow blocks (due_blocks (slice_index_or players.old k d).left) }
     requires differ { sound.now ≢ order.now }
     requires has_sound { ¬ (Lacks (S.files shelf.old) sound.now) }
@@ -53,6 +54,7 @@ pub fn run_turns<R: Threads + Wait + Sync, S: Shelf, G: Gate>(
         (S.files shelf.old) (S.files shelf.new)) }
     ensures cause { HasCause (S.writing shelf.old) (S.writing shelf.new) (S.reading shelf.old) (S.reading shelf.new) ⊥ result }
     ensures reads { S.reads shelf.new ≡ S.reads shelf.old }
+    ensures blames { Blames result sound.now order.now (S.failed shelf.old) (S.failed shelf.new) }
     ensures written_out { OnOk result (HoldsNothing (S.held shelf.new) sound.now order.now) }
 {
     append_turns(
@@ -76,7 +78,7 @@ fn append_turns<R: Threads + Wait + Sync, S: Shelf, G: Gate>(
     requires players { AreFresh line.now players.old }
     requires renderer { IsFreshRenderer line.now renderer.old }
     requires spare { many_commands (plans_of players.old) ≤ renderer.old.spare }
-    requires blocks { (1 ≤ blocks) × (blocks ≤ 1048576) }
+    requires blocks { (1 ≤ blocks) × (blocks ≤ block_limit) }
     requires due { (k : ℕ) (d : PlayerView) → k < length players.old → AllBelow blocks (due_blocks (slice_index_or players.old k d).left) }
     requires differ { sound.now ≢ order.now }
     requires has_sound { ¬ (Lacks (S.files shelf.old) sound.now) }
@@ -93,6 +95,7 @@ fn append_turns<R: Threads + Wait + Sync, S: Shelf, G: Gate>(
         (S.files shelf.old) (S.files shelf.new)) }
     ensures cause { HasCause (S.writing shelf.old) (S.writing shelf.new) (S.reading shelf.old) (S.reading shelf.new) ⊥ result }
     ensures reads { S.reads shelf.new ≡ S.reads shelf.old }
+    ensures blames { Blames result sound.now order.now (S.failed shelf.old) (S.failed shelf.new) }
 {
     let _ = line.places();
     let actor = players.len() as u32;
@@ -134,7 +137,7 @@ pub fn play_turns<R: Threads + Wait + Sync, S: Shelf, G: Gate>(
     requires players { AreFresh line.now players.old }
     requires renderer { IsFreshRenderer line.now renderer.old }
     requires spare { many_commands (plans_of players.old) ≤ renderer.old.spare }
-    requires blocks { (1 ≤ blocks) × (blocks ≤ 1048576) }
+    requires blocks { (1 ≤ blocks) × (blocks ≤ block_limit) }
     requires due { (k : ℕ) (d : PlayerView) → k < length players.old → AllBelow blocks (due_blocks (slice_index_or players.old k d).left) }
     requires differ { sound.now ≢ order.now }
     requires has_sound { ¬ (Lacks (S.files shelf.old) sound.now) }
@@ -151,6 +154,9 @@ pub fn play_turns<R: Threads + Wait + Sync, S: Shelf, G: Gate>(
         (S.files shelf.old) (S.files shelf.new)) }
     ensures cause { HasCause (S.writing shelf.old) (S.writing shelf.new) (S.reading shelf.old) (S.reading shelf.new) ⊥ result }
     ensures reads { S.reads shelf.new ≡ S.reads shelf.old }
+    ensures failed_kept { OnOk result (S.failed shelf.new ≡ S.failed shelf.old) }
+    ensures failed_name { OnErr result (HasFailed sound.now (S.failed shelf.old) (S.failed shelf.new)
+        ⊎ HasFailed order.now (S.failed shelf.old) (S.failed shelf.new)) }
     ensures written_out { OnOk result (HoldsNothing (S.held shelf.new) sound.now order.now) }
 {
     match run_turns(
