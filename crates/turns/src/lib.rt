@@ -10,7 +10,7 @@ mod turn;
 mod turns;
 mod write;
 
-pub use joined::{close, play_scripts};
+pub use joined::{Cast, close, play_scripts};
 pub use opening::new_players;
 pub use target::Target;
 pub use turns::{play_turns, run_turns};
