@@ -16,9 +16,9 @@ use Rattle.players.specs.Players.{PlayerView, Stayed, WasStopped, Turned, IsRead
 use Rattle.players.proofs.Turns.{length-entries}
 use Rattle.live_renderer.specs.Renderer.{RendererView, KeepsSound}
 use Rattle.turns.specs.Turns.{blocks_of, AreFresh, IsFreshRenderer, IsFresh}
-use Rattle.turns.specs.Steps.{LogsSome, at_block, Noted, HadTurns, HaveTurned, AfterTurns}
+use Rattle.turns.specs.Steps.{LogsSome, at_block, HaveCounted, HadTurns, HaveTurned, AfterTurns}
 use Rattle.turns.proofs.Logging.{logs_join, prefix_logged}
-use Rattle.turns.proofs.Noting.{blocks_append}
+use Rattle.turns.proofs.Counting.{blocks_append}
 
 pub dues_append : (xs ys : List PlannedData) → due_blocks (xs ++ ys) ≡ due_blocks xs ++ due_blocks ys
 dues_append xs ys = map-append (λ (c : PlannedData). c.due) xs ys
@@ -126,9 +126,9 @@ player_none line k p h = record {
 }
 
 -- the players after the sends of a turn, before anything of it was counted
-noted_first : (t : ℕ) (line : LineView) (before : List PlayerView) (r : RendererView) (ps ps1 : List PlayerView)
-    → AfterTurns t line before r ps → HaveTurned line t ps ps1 → length ps1 ≡ length ps → Noted r.journal ps1 ps1
-noted_first t line before r ps ps1 h turned many = record {
+counted_first : (t : ℕ) (line : LineView) (before : List PlayerView) (r : RendererView) (ps ps1 : List PlayerView)
+    → AfterTurns t line before r ps → HaveTurned line t ps ps1 → length ps1 ≡ length ps → HaveCounted r.journal ps1 ps1
+counted_first t line before r ps ps1 h turned many = record {
   many = refl;
   each = λ k d lt.
       let in_ps : k < length ps = omega (arith, lt, many) in
@@ -137,13 +137,13 @@ noted_first t line before r ps ps1 h turned many = record {
 }
 
 -- what the settling of a turn begins with
-pub noted_start : (t : ℕ) (line : LineView) (before : List PlayerView) (r r1 : RendererView) (items : List Logged) (ps ps1 : List PlayerView)
+pub counted_start : (t : ℕ) (line : LineView) (before : List PlayerView) (r r1 : RendererView) (items : List Logged) (ps ps1 : List PlayerView)
     → AfterTurns t line before r ps → HaveTurned line t ps ps1 → length ps1 ≡ length ps → LogsSome (at_block t r) r1 → journal_data items ≡ r.journal
-    → Noted (take (length items) r1.journal) ps1 ps1
-noted_start t line before r r1 items ps ps1 h turned many logs same =
+    → HaveCounted (take (length items) r1.journal) ps1 ps1
+counted_start t line before r r1 items ps ps1 h turned many logs same =
     let len : length items ≡ length r.journal = sym (length-map items logged_data) ∙ ap length same in
-    subst (λ (j : List LoggedData). Noted j ps1 ps1) (sym (ap (λ (n : ℕ). take n r1.journal) len ∙ (prefix_logged (at_block t r) r1 logs).0))
-    (noted_first t line before r ps ps1 h turned many)
+    subst (λ (j : List LoggedData). HaveCounted j ps1 ps1) (sym (ap (λ (n : ℕ). take n r1.journal) len ∙ (prefix_logged (at_block t r) r1 logs).0))
+    (counted_first t line before r ps ps1 h turned many)
 
 ready_same : (line : LineView) (p q : PlayerView) → IsReady line p → q.end ≡ p.end → q.left ≡ p.left → IsReady line q
 ready_same line p q h end left = record {
@@ -154,37 +154,37 @@ ready_same line p q h end left = record {
 -- a whole turn
 pub turn_more : (t : ℕ) (line : LineView) (before : List PlayerView) (r r1 r2 : RendererView) (ps ps1 ps2 : List PlayerView)
     → t < 4294967295 → AfterTurns t line before r ps → HaveTurned line t ps ps1 → length ps1 ≡ length ps
-    → LogsSome (at_block t r) r1 → LogsSome r1 r2 → Noted r2.journal ps1 ps2 → All (λ (p : PlayerView). p.logged ≡ length p.end.list) ps2
+    → LogsSome (at_block t r) r1 → LogsSome r1 r2 → HaveCounted r2.journal ps1 ps2 → All (λ (p : PlayerView). p.logged ≡ length p.end.list) ps2
     → AfterTurns (t + 1) line before r2 ps2
-turn_more t line before r r1 r2 ps ps1 ps2 small h turned many logs logs2 noted met =
+turn_more t line before r r1 r2 ps ps1 ps2 small h turned many logs logs2 counted met =
     let all : LogsSome (at_block t r) r2 = logs_join (at_block t r) r1 r2 logs logs2 in
     let log : r2.journal ≡ r.journal ++ map (logged_at t) all.1.entries = all.1.journal in
     let later : (t + 1) - 1 ≡ t = omega arith in
     record {
       taker = ap (λ (l : LineView). l) all.1.line ∙ h.taker;
       blocks = all.1.blocks ∙ sym later;
-      many = noted.many ∙ many ∙ h.many;
+      many = counted.many ∙ many ∙ h.many;
       played = λ k d lt.
           let in_ps : k < length ps = omega (arith, lt, h.many) in
           let in_ps1 : k < length ps1 = omega (arith, in_ps, many) in
-          let in_ps2 : k < length ps2 = omega (arith, in_ps1, noted.many) in
-          let is = noted.each k d in_ps1 in
+          let in_ps2 : k < length ps2 = omega (arith, in_ps1, counted.many) in
+          let is = counted.each k d in_ps1 in
           subst (λ (j : List LoggedData). HadTurns (t + 1) j k (get_or before k d) (get_or ps2 k d)) (sym log)
           (player_more t k r.journal all.1.entries (get_or before k d) (get_or ps k d) (get_or ps1 k d) (get_or ps2 k d) small (h.played k d lt) (turned.1 k d in_ps)
           (ap (λ (p : PlayerView). p.end) is) (ap (λ (p : PlayerView). p.left) is) (ap (λ (p : PlayerView). p.logged) is ∙ ap (λ (j : List LoggedData). length (blocks_of k j)) log) (met k d in_ps2));
       ready = λ k d lt.
-          let in_ps1 : k < length ps1 = omega (arith, lt, noted.many) in
-          let is = noted.each k d in_ps1 in
+          let in_ps1 : k < length ps1 = omega (arith, lt, counted.many) in
+          let is = counted.each k d in_ps1 in
           ready_same line (get_or ps1 k d) (get_or ps2 k d) (turned.0 k d in_ps1) (ap (λ (p : PlayerView). p.end) is) (ap (λ (p : PlayerView). p.left) is);
     }
 
 -- before the first turn
 pub turns_none : (line : LineView) (r : RendererView) (ps : List PlayerView) → AreFresh line ps → IsFreshRenderer line r → AfterTurns 0 line ps r ps
 turns_none line r ps fresh new = record {
-  taker = ap (λ (e : TakeView). e.line) new.0;
-  blocks = new.2 ∙ (let z : 0 ≡ 0 - 1 = omega arith in z);
+  taker = new.line_is;
+  blocks = new.blocks ∙ (let z : 0 ≡ 0 - 1 = omega arith in z);
   many = refl;
-  played = λ k d lt. subst (λ (j : List LoggedData). HadTurns 0 j k (get_or ps k d) (get_or ps k d)) (sym new.1) (player_none line k (get_or ps k d) (fresh.1 k d lt));
+  played = λ k d lt. subst (λ (j : List LoggedData). HadTurns 0 j k (get_or ps k d) (get_or ps k d)) (sym new.journal) (player_none line k (get_or ps k d) (fresh.1 k d lt));
   ready = λ k d lt. let f = fresh.1 k d lt in record {
     line_is = f.line_is;
     quota = let e : length (get_or ps k d).end.list ≡ 0 = ap length f.list in omega (arith, e, f.quota);
@@ -194,7 +194,7 @@ turns_none line r ps fresh new = record {
 -- a whole turn, as the code goes through it
 pub turn_after : (t : ℕ) (line : LineView) (r r1 r2 : RendererView) (items : List Logged) (ps ps1 ps2 : List PlayerView)
     → t < 4294967295 → HaveTurned line t ps ps1 → length ps1 ≡ length ps → LogsSome (at_block t r) r1 → journal_data items ≡ r.journal → LogsSome r1 r2
-    → ((b : List PlayerView) → Noted (take (length items) r1.journal) b ps1 → Noted r2.journal b ps2) → All (λ (p : PlayerView). p.logged ≡ length p.end.list) ps2
+    → ((b : List PlayerView) → HaveCounted (take (length items) r1.journal) b ps1 → HaveCounted r2.journal b ps2) → All (λ (p : PlayerView). p.logged ≡ length p.end.list) ps2
     → (before : List PlayerView) → AfterTurns t line before r ps → AfterTurns (t + 1) line before r2 ps2
-turn_after t line r r1 r2 items ps ps1 ps2 small turned many logs same logs2 noted met before h =
-    turn_more t line before r r1 r2 ps ps1 ps2 small h turned many logs logs2 (noted ps1 (noted_start t line before r r1 items ps ps1 h turned many logs same)) met
+turn_after t line r r1 r2 items ps ps1 ps2 small turned many logs same logs2 counted met before h =
+    turn_more t line before r r1 r2 ps ps1 ps2 small h turned many logs logs2 (counted ps1 (counted_start t line before r r1 items ps ps1 h turned many logs same)) met

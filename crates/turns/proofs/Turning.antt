@@ -5,12 +5,13 @@ use Rattle.std.proofs.lemmas.List.{take-append-drop}
 use Rattle.std.proofs.lemmas.Grind.{flat_map-append}
 use Rattle.outside.specs.Files.{Files, appended, Lacks, AppendedSome}
 use Rattle.outside.specs.Faults.{Rose, HasCause}
+use Rattle.turns.specs.declared.target.Target.{Target}
 use Rattle.command_set.specs.Entries.{LoggedData}
 use Rattle.instrument.specs.Journal.{sound}
 use Rattle.take_files.specs.Files.{order_line, wav_block, wav_blocks}
 use Rattle.live_renderer.specs.Renderer.{RendererView, KeepsSound}
 use Rattle.turns.specs.Steps.{LogsSome, at_block, block_before}
-use Rattle.turns.specs.Written.{order_lines, both_appended, BothBegun}
+use Rattle.turns.specs.Written.{order_lines, both_appended, BothBegun, Blames}
 use Rattle.turns.proofs.Logging.{keeps_more}
 use Rattle.turns.proofs.Sounds.{sounded, wav_prefix, wav_more, wav_none}
 use Rattle.turns.proofs.Appending.{both_none, sound_grows, order_grows, sound_stopped, order_stopped}
@@ -34,6 +35,11 @@ both_err (Err e) P Q f p = f p
 pub on_ok : {A E : Type 0} (r : Result A E) (P : Type 0) → P → OnOk r P
 on_ok (Ok x) P p = p
 on_ok (Err e) P p = tt
+
+-- what is told of a failed write, from an earlier moment up to which no write failed
+pub blames_from : {A : Type 0} (r : Result A Target) (sound order : List ℕ) (before first now : Option (List (List ℕ)))
+    → before ≡ first → Blames r sound order before now → Blames r sound order first now
+blames_from r sound order before first now same h = subst (λ (o : Option (List (List ℕ))). Blames r sound order o now) same h
 
 -- a cause handed on, from a later moment at which the counts were the same
 pub cause_from : {A E : Type 0} (r : Result A E) (before now other_before other_now first other_first : ℕ) (P : Type 0) → before ≡ first → other_before ≡ other_first → (P → ⊥)

@@ -6,14 +6,14 @@ use Rattle.outside.specs.Files.{Lacks, AppendedSome, appended}
 use Rattle.outside.proofs.Shelves.{then_appended, has_appended, handed_on}
 use Rattle.take_files.specs.Files.{order_line}
 use Rattle.turns.specs.Written.{order_lines}
-use Rattle.turns.proofs.Noting.{item_has}
+use Rattle.turns.proofs.Counting.{item_has}
 use Rattle.turns.proofs.Ordering.{lines_push, lines_split}
 use Rattle.turns.proofs.Appending.{none_appended, piece_stopped}
 use Rattle.turns.proofs.Turning.{on_err}
 use Rattle.turns.proofs.write.write_lines.Goals as goal
 
 pub loop-logged-init : goal.loop-logged-init
-loop-logged-init g c = record { files = none_appended (g.S.Shelf.files c.args.shelf.now) c.args.order.now c.requires.told; writing = refl; reading = refl; reads = refl }
+loop-logged-init g c = record { files = none_appended (g.S.Shelf.files c.args.shelf.now) c.args.order.now c.requires.told; writing = refl; reading = refl; failed = refl; reads = refl }
 
 pub order_line-requires : goal.order_line-requires
 order_line-requires g c =
@@ -48,5 +48,6 @@ loop-logged-preserved g c =
           ∙ ap (λ bytes. option_map (appended c.args.order.now bytes) o) (sym (lines_push c.args.entries.now n c.logged-item.result c.loop-logged-test.true c.logged-item.is));
       writing = e.cause.kept ∙ i.writing;
       reading = e.cause.other ∙ i.reading;
+      failed = e.failed_kept ∙ i.failed;
       reads = e.reads ∙ i.reads;
     }

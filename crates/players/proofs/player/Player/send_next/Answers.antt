@@ -3,10 +3,10 @@ use Rattle.command_queue.specs.Ends.{SendView, accepted, entry_of}
 use Rattle.script_plan.specs.Plan.{planned_data}
 use Rattle.players.specs.Players.{PlayerView, left_of}
 use Rattle.players.proofs.Plans.{first_is_due}
-use Rattle.players.proofs.player.Player.step.Goals as goal
+use Rattle.players.proofs.player.Player.send_next.Goals as goal
 
-pub returns-in-Ok-clause-step : goal.returns-in-Ok-clause-step
-returns-in-Ok-clause-step g c =
+pub returns-in-Ok-clause-sent : goal.returns-in-Ok-clause-sent
+returns-in-Ok-clause-sent g c =
     let first = planned_data c.in-Some.planned in
     let end = ap (λ (v : PlayerView). v.end) c.self.view_is in
     let left = ap (λ (v : PlayerView). v.left) (sym c.self.view_is) ∙ c.in-Some.ensures.some ∙ ap (λ o. first ∷ left_of o c.pop_first.new.script) (sym c.pop_first.ensures.empty) in (

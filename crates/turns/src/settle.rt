@@ -3,7 +3,7 @@ ghost use Rattle.std.specs.Prelude.{◌≡◌, ◌<◌, ◌≤◌, ◌++◌, ◌
 ghost use Rattle.command_set.specs.Entries.{LoggedData, logged_data};
 ghost use Rattle.live_renderer.specs.Renderer.{IsLive, KeepsSound};
 ghost use Rattle.players.specs.Players.{PlayerView};
-ghost use Rattle.turns.specs.Steps.{LogsSome, Noted};
+ghost use Rattle.turns.specs.Steps.{LogsSome, HaveCounted};
 
 use command_queue::Line;
 use command_set::Logged;
@@ -12,28 +12,28 @@ use players::Player;
 use std::sync::Wait;
 
 // Counts an entry with its player.
-fn note_one(logged: &Logged, players: &mut [Player])
+fn count_one(logged: &Logged, players: &mut [Player])
     requires script { logged.now.entry.script < length players.old }
     requires count { (d : PlayerView) → (slice_index_or players.old logged.now.entry.script d).logged < 18446744073709551615 }
-    ensures { (journal : List LoggedData) (before : List PlayerView) → Noted journal before players.old
-        → Noted (journal ++ logged_data logged.now ∷ []) before players.new }
+    ensures { (journal : List LoggedData) (before : List PlayerView) → HaveCounted journal before players.old
+        → HaveCounted (journal ++ logged_data logged.now ∷ []) before players.new }
 {
     let player = &mut players[logged.entry.script as usize];
-    player.note();
+    player.count_logged();
 }
 
 // Counts the entries of the journal from a number on.
-fn note_new(renderer: &LiveRenderer, seen: usize, players: &mut [Player])
+fn count_new(renderer: &LiveRenderer, seen: usize, players: &mut [Player])
     requires scripts { length players.old ≡ length renderer.now.taker.line.quotas }
-    requires noted { (before : List PlayerView) × Noted (take seen renderer.now.journal) before players.old }
+    requires counted { (before : List PlayerView) × HaveCounted (take seen renderer.now.journal) before players.old }
     requires seen { seen ≤ length renderer.now.journal }
-    ensures noted { (before : List PlayerView) → Noted (take seen renderer.now.journal) before players.old
-        → Noted renderer.now.journal before players.new }
+    ensures counted { (before : List PlayerView) → HaveCounted (take seen renderer.now.journal) before players.old
+        → HaveCounted renderer.now.journal before players.new }
     ensures live { IsLive renderer.now }
 {
     let journal = renderer.journal();
     for i in seen..journal.len() {
-        note_one(&journal[i], players);
+        count_one(&journal[i], players);
     }
 }
 
@@ -60,17 +60,17 @@ pub(crate) fn settle<R: Wait>(
     requires line { renderer.old.taker.line ≡ line.now }
     requires scripts { length players.old ≡ length line.now.quotas }
     requires seen { seen ≤ length renderer.old.journal }
-    requires noted { (before : List PlayerView) × Noted (take seen renderer.old.journal) before players.old }
+    requires counted { (before : List PlayerView) × HaveCounted (take seen renderer.old.journal) before players.old }
     ensures took { LogsSome renderer.old renderer.new }
     ensures kept { KeepsSound renderer.old renderer.new }
-    ensures noted { (before : List PlayerView) → Noted (take seen renderer.old.journal) before players.old
-        → Noted renderer.new.journal before players.new }
+    ensures counted { (before : List PlayerView) → HaveCounted (take seen renderer.old.journal) before players.old
+        → HaveCounted renderer.new.journal before players.new }
     ensures logged { All (λ p. p.logged ≡ length p.end.list) players.new }
     ensures live { IsLive renderer.new }
 {
     let mut seen = seen;
     for _ in rt.forever() {
-        note_new(renderer, seen, players);
+        count_new(renderer, seen, players);
         if are_logged(players) {
             return;
         }
