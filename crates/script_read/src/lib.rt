@@ -5,7 +5,7 @@ mod edit_line;
 mod edit_lines;
 mod editing;
 mod grammar;
-mod line;
+mod script_line;
 mod lines;
 mod progress;
 mod read;
