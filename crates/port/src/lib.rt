@@ -3,7 +3,7 @@
 
 mod fed;
 mod kept;
-mod message;
+mod handling;
 mod port;
 
 pub use fed::{Fed, PortStop};
