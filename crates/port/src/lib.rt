@@ -2,8 +2,8 @@
 #![tactic(auto)]
 
 mod fed;
-mod kept;
 mod handling;
+mod kept;
 mod port;
 
 pub use fed::{Fed, PortStop};

@@ -12,8 +12,8 @@ ghost use Rattle.port.specs.Handling.{OneMore};
 ghost use Rattle.port.specs.Stopping.{FullOnly, refusals_after};
 
 use crate::fed::{Fed, PortStop};
-use crate::kept::Kept;
 use crate::handling::{handle, send};
+use crate::kept::Kept;
 use command_queue::{Line, SendEnd};
 use midi_stream::MidiReader;
 use std::alloc::Global;

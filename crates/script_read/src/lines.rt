@@ -7,8 +7,8 @@ ghost use Rattle.script_read.specs.Outcomes.{outcomes_after, text_outcomes};
 ghost use Rattle.script_outcome.specs.ReaderAnswer.{Settles, Stops};
 ghost use Rattle.script_read.specs.TextSoFar.{HasOrder, IsAfter};
 
-use crate::script_line::read_line;
 use crate::progress::Progress;
+use crate::script_line::read_line;
 use plain_text::split_once;
 use script_outcome::{Bounds, ScriptFault};
 use script_plan::Script;

@@ -82,8 +82,12 @@ impl Progress {
                 self.set_curve(curve);
                 Ok(())
             }
-            ScriptLine::Command { block, command } => self.add_command(block, command, maps, bounds),
-            ScriptLine::Bytes { block, bytes } => self.add_bytes(alloc, block, &bytes, maps, bounds),
+            ScriptLine::Command { block, command } => self.add_command(
+                block, command, maps, bounds,
+            ),
+            ScriptLine::Bytes { block, bytes } => self.add_bytes(
+                alloc, block, &bytes, maps, bounds,
+            ),
             ScriptLine::Wrong => Err(self.refuse()),
         }
     }
