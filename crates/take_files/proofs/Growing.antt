@@ -10,9 +10,10 @@ use Rattle.std.proofs.lemmas.List.Elements.{filter-append}
 use Rattle.std.proofs.lemmas.List.Concat.{flat_map-append}
 use Rattle.command_set.specs.Entries.{LoggedData, journal_data, logged_data}
 use Rattle.command_set.specs.declared.entry.Logged.{Logged}
+use Rattle.instrument.specs.Limits.{block_limit}
 use Rattle.take_files.specs.Files.{order_line}
 use Rattle.take_files.specs.Orders.{Follows, IsOrdered, entry_limit, count_of, last_block}
-use Rattle.take_files.specs.Reading.{IsTally}
+use Rattle.take_files.specs.OrderSoFar.{IsTally}
 use Rattle.take_files.proofs.Laws.{lines}
 
 each_more : (journal : List LoggedData) (l : LoggedData) (blocks scripts : ℕ) → IsOrdered journal blocks scripts → Follows journal blocks scripts l
@@ -43,7 +44,7 @@ ordered_more journal l blocks scripts h f below =
       each = each_more journal l blocks scripts h f;
     }
 
-pub ordered_none : (blocks scripts : ℕ) → 1 ≤ blocks → blocks ≤ 1048576 → 1 ≤ scripts → scripts ≤ 256 → IsOrdered [] blocks scripts
+pub ordered_none : (blocks scripts : ℕ) → 1 ≤ blocks → blocks ≤ block_limit → 1 ≤ scripts → scripts ≤ 256 → IsOrdered [] blocks scripts
 ordered_none blocks scripts b c s t =
     record { some_blocks = b; few_blocks = c; some_scripts = s; few_scripts = t; few = omega arith; each = λ i d below. absurd (omega (arith, below)) }
 

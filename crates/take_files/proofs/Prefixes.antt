@@ -7,9 +7,10 @@ use Rattle.plain_text.specs.Split.{split}
 use Rattle.plain_text.proofs.Numbers.{reads_decimal, written}
 use Rattle.command_set.specs.Entries.{LoggedData}
 use Rattle.command_set.specs.Text.{text}
+use Rattle.instrument.specs.Limits.{block_limit}
 use Rattle.take_files.specs.Files.{entry_text, header_text}
 use Rattle.take_files.specs.Orders.{IsWritable}
-use Rattle.take_files.specs.Reading.{IsHeader, numbered}
+use Rattle.take_files.specs.OrderSoFar.{IsHeader, numbered}
 use Rattle.command_set.proofs.WordBytes.{decimal_whole}
 use Rattle.take_files.proofs.Lines.{cut_none, cut_only, cut_text, number_same}
 
@@ -100,13 +101,13 @@ header_last line rest last word n blocks scripts e next more ln lb is =
 pub no_header : (line rest last word : List ℕ) (n : ℕ) → line ≡ codes "order engine 1 blocks " ++ rest → rest ≡ decimal n ++ 32 ∷ last → last ≡ codes "scripts " ++ word
     → n < 2 ^ 32 → None ≡ number 1 256 word → (blocks scripts : ℕ) → ¬ IsHeader blocks scripts line
 no_header line rest last word n e next more ln none blocks scripts h =
-    let few : blocks ≤ 1048576 = h.few_blocks in
+    let few : blocks ≤ block_limit = h.few_blocks in
     let is : word ≡ decimal scripts = header_last line rest last word n blocks scripts e next more ln (omega arith) h.spelled in
     let some : number 1 256 word ≡ Some scripts = reads_decimal 1 256 scripts word (omega arith) (is, h.some_scripts, h.few_scripts) in
     absurd (cc)
 
 pub header_found : (line rest last word : List ℕ) (blocks scripts : ℕ) → line ≡ codes "order engine 1 blocks " ++ rest → rest ≡ decimal blocks ++ 32 ∷ last
-    → last ≡ codes "scripts " ++ word → (1 ≤ blocks) × (blocks ≤ 1048576) → Some scripts ≡ number 1 256 word → IsHeader blocks scripts line
+    → last ≡ codes "scripts " ++ word → (1 ≤ blocks) × (blocks ≤ block_limit) → Some scripts ≡ number 1 256 word → IsHeader blocks scripts line
 header_found line rest last word blocks scripts e next more within some =
     let w = written 1 256 scripts word (omega arith) (sym some) in
     record {

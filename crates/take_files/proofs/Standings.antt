@@ -8,7 +8,7 @@ use Rattle.command_set.specs.Entries.{LoggedData, journal_data}
 use Rattle.take_files.specs.Files.{entry_text, header_text, order, order_header, order_line}
 use Rattle.take_files.specs.Orders.{BeginsWith, HasFault, IsOrder, IsRefused, IsWritable, OrderData}
 use Rattle.take_files.specs.Chunks.{HasFed, IsSeen, line_feeds}
-use Rattle.take_files.specs.Reading.{AreRead, IsHeader, IsListing, lines_read, listed, next_number, standing, text_of, with_entry}
+use Rattle.take_files.specs.OrderSoFar.{AreRead, IsHeader, IsListing, lines_read, listed, next_number, standing, text_of, with_entry}
 use Rattle.take_files.specs.declared.listing.Listing.{Listing}
 use Rattle.take_files.specs.declared.read.OrderKind.{OrderKind}
 use Rattle.take_files.specs.declared.read.OrderKind.TheVariants.{Line}

@@ -2,7 +2,7 @@ use Rattle.std.proofs.Common.{List, ◌≡◌, ◌≤◌, ◌+◌, ◌++◌, [],
 use Rattle.std.proofs.Math.ListN.{set}
 use Rattle.command_set.specs.Entries.{LoggedData, journal_data, logged_data}
 use Rattle.take_files.specs.Orders.{IsOrdered}
-use Rattle.take_files.specs.Reading.{IsTally}
+use Rattle.take_files.specs.OrderSoFar.{IsTally}
 use Rattle.take_files.proofs.Growing.{counted_few, journal_more, ordered_more, tally_read}
 use Rattle.take_files.proofs.listing.Listing.push.Goals as goal
 

@@ -1,6 +1,6 @@
 use Rattle.std.proofs.Common.{◌≡◌, ◌++◌, ◌∙◌, List, ℕ, Option, rules, sym, subst, ap}
 use Rattle.take_files.specs.Chunks.{HasFed, Standing}
-use Rattle.take_files.specs.Reading.{lines_read, standing}
+use Rattle.take_files.specs.OrderSoFar.{lines_read, standing}
 use Rattle.take_files.specs.declared.read.OrderFault.{OrderFault}
 use Rattle.take_files.proofs.Standings.{read_exact, stopped_exact}
 use Rattle.take_files.proofs.reader.OrderReader.finish.Goals as goal

@@ -5,7 +5,7 @@ ghost use Rattle.circular_buffer.specs.Buffer.{buffer};
 ghost use Rattle.command_set.specs.Command.{content, IsInRange};
 ghost use Rattle.command_set.specs.VoiceAfter.{Turns};
 ghost use Rattle.editor.specs.Changes.{left_by, IsSame};
-ghost use Rattle.editor.specs.History.{step, IsWholeNext};
+ghost use Rattle.editor.specs.History.{revision, IsWholeNext};
 
 use crate::change::Change;
 use circular_buffer::HeapCircularBuffer;
@@ -27,14 +27,14 @@ pub(crate) fn keep(past: &mut Changes, future: &mut Changes, change: Change)
 
 /// Makes the latest change of one ring and keeps the one that undoes it in the other, which has room.
 /// `None`: there is no change.
-pub(crate) fn turn(
+pub(crate) fn revise(
     alloc: Global,
     voice: &mut Voice,
     from: &mut Changes,
     to: &mut Changes,
 ) -> Result<Option<Command>, AllocError>
     requires { 0 < length from.old.items → length to.old.items < to.old.capacity }
-    ensures turned { IfOk result (λ o. step voice.old (left_by voice.old from.old.items) (left_by voice.old to.old.items)
+    ensures turned { IfOk result (λ o. revision voice.old (left_by voice.old from.old.items) (left_by voice.old to.old.items)
         ≡ option_map (λ command. record {
           voice = voice.new;
           from = left_by voice.new from.new.items;

@@ -1,13 +1,13 @@
-//! The line of an entry.
+//! The line of an entry of an order, read: four numbers and the text of a command.
 
 ghost use Rattle.std.specs.Prelude.{ℕ, List, ◌≡◌, ◌≢◌, ◌≤◌, ◌<◌, ◌^◌, Err, IfNone, IfOk, IfSome, length};
 ghost use Rattle.command_set.specs.Entries.{LoggedData, logged_data};
 ghost use Rattle.command_set.specs.declared.read.TextFault.TheVariants.{NotCommand};
 ghost use Rattle.take_files.specs.Files.{entry_text};
 ghost use Rattle.take_files.specs.Orders.{IsWritable};
-ghost use Rattle.take_files.specs.Reading.{numbered};
+ghost use Rattle.take_files.specs.OrderSoFar.{numbered};
 
-use crate::words::number_before;
+use crate::line_prefix::number_before;
 use command_set::{Command, Entry, Logged, TextFault};
 use std::alloc::Global;
 

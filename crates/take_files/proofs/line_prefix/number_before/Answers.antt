@@ -1,6 +1,6 @@
 use Rattle.std.proofs.Common.{arith}
 use Rattle.take_files.proofs.Prefixes.{no_space, no_number, number_found}
-use Rattle.take_files.proofs.words.number_before.Goals as goal
+use Rattle.take_files.proofs.line_prefix.number_before.Goals as goal
 
 pub returns-in_err-word-clause-none : goal.returns-in_err-word-clause-none
 returns-in_err-word-clause-none c =

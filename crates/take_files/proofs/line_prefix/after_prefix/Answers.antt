@@ -1,7 +1,7 @@
 use Rattle.std.proofs.lemmas.Bool.Decides.{Decides-eqb}
 use Rattle.std.proofs.lemmas.Slice.Eq.{strip_prefix_is}
 use Rattle.take_files.proofs.Prefixes.{stripped, unstripped}
-use Rattle.take_files.proofs.words.after_prefix.Goals as goal
+use Rattle.take_files.proofs.line_prefix.after_prefix.Goals as goal
 
 pub returns-clause-found : goal.returns-clause-found
 returns-clause-found c =

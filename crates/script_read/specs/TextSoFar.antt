@@ -1,13 +1,13 @@
 -- For private functions and proofs: what a reader of a script knows in the middle of it.
 use Rattle.std.specs.Prelude.{ℕ, ◌≡◌, ◌+◌, ◌≤◌, List, [], ◌++◌, length, Option}
-use Rattle.midi_stream.specs.Reading.{Reads}
+use Rattle.midi_stream.specs.FedStream.{Reads}
 use Rattle.velocity_map.specs.declared.curve.Curve.TheVariants.{Linear}
 use Rattle.script_plan.specs.Plan.{last_due}
 use Rattle.script_read.specs.declared.progress.Progress.{Progress}
 use Rattle.script_read.specs.Lines.{ParsedLine, parsed_lines}
 use Rattle.script_read.specs.Outcomes.{block_after, curve_after, fed_line, outcomes_after, stream_of}
 use Rattle.script_read.specs.Words.{lines_of}
-use Rattle.script_outcome.specs.Reading.{all_given}
+use Rattle.script_outcome.specs.ReaderAnswer.{all_given}
 
 -- the reader of a text stands after these lines, all of which are good
 pub record IsAfter (p : Progress) (blocks : Option ℕ) (lines : List ParsedLine) : Type 0 where

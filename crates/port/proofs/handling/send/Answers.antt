@@ -2,7 +2,7 @@ use Rattle.std.proofs.Common.{ap}
 use Rattle.command_queue.specs.Ends.{SendView}
 use Rattle.port.proofs.Handled.{sent_done}
 use Rattle.port.proofs.Sending.{sends_one, sends_same}
-use Rattle.port.proofs.message.send.Goals as goal
+use Rattle.port.proofs.handling.send.Goals as goal
 
 pub returns-in-Ok-clause-done : goal.returns-in-Ok-clause-done
 returns-in-Ok-clause-done g c = λ curve bytes. sent_done curve bytes _ _ _ _ c.requires.clear c.in-Ok.ensures.sent.1

@@ -1,7 +1,7 @@
 use Rattle.std.proofs.Common.{rules}
 use Rattle.take_files.proofs.Prefixes.{entry_command}
 use Rattle.take_files.proofs.Results.{same_fault}
-use Rattle.take_files.proofs.line.read_entry.Goals as goal
+use Rattle.take_files.proofs.entry_line.read_entry.Goals as goal
 
 pub returns-in-Err-clause-refused : goal.returns-in-Err-clause-refused
 returns-in-Err-clause-refused c =

@@ -3,7 +3,7 @@ use Rattle.std.proofs.lemmas.List.{take_all}
 use Rattle.editor.specs.Changes.{command_of, left_by, IsSame}
 use Rattle.editor.specs.History.{IsWholeNext}
 use Rattle.editor.proofs.Left.{no_first, stepped_by, whole_first, on_err, has_first, same_first}
-use Rattle.editor.proofs.step.turn.Goals as goal
+use Rattle.editor.proofs.revise.revise.Goals as goal
 
 pub returns-in-None-clause-turned : goal.returns-in-None-clause-turned
 returns-in-None-clause-turned c = no_first _ _ _ c.in-None.ensures

@@ -17,7 +17,7 @@ use velocity_map::Curve;
 
 /// A parsed line.
 #[derive(Drop)]
-pub(crate) enum Line {
+pub(crate) enum ScriptLine {
     /// Nothing: it is passed over.
     Blank,
     /// The curve of the lines after it.
@@ -32,12 +32,12 @@ pub(crate) enum Line {
 
 /// Reads a line, without its line feed.
 #[tactic(auto, unfolding(crate::specs::Lines::parsed))]
-pub(crate) fn read_line(alloc: Global, line: &[u8]) -> Result<Line, AllocError>
+pub(crate) fn read_line(alloc: Global, line: &[u8]) -> Result<ScriptLine, AllocError>
     ensures parsed { IfOk result (λ found. line_data found ≡ parsed line.now) }
     ensures sound { IfOk result IsSound }
 {
     if starts_comment(line) {
-        Ok(Line::Blank)
+        Ok(ScriptLine::Blank)
     } else {
         read_words(alloc, line)
     }
@@ -54,18 +54,18 @@ pub(crate) fn starts_comment(line: &[u8]) -> bool
 }
 
 #[tactic(auto, unfolding(crate::specs::Lines::parsed_words))]
-fn read_words(alloc: Global, line: &[u8]) -> Result<Line, AllocError>
+fn read_words(alloc: Global, line: &[u8]) -> Result<ScriptLine, AllocError>
     ensures parsed { IfOk result (λ found. line_data found ≡ parsed_words (words_of line.now)) }
     ensures sound { IfOk result IsSound }
 {
     match next_word(line) {
-        None => Ok(Line::Blank),
+        None => Ok(ScriptLine::Blank),
         Some((word, rest)) => {
             if is_word(word, b"map") {
                 Ok(read_map(rest))
             } else {
                 match read_number(word, u32::MAX) {
-                    None => Ok(Line::Wrong),
+                    None => Ok(ScriptLine::Wrong),
                     Some(block) => read_at(alloc, block, rest),
                 }
             }
@@ -74,43 +74,43 @@ fn read_words(alloc: Global, line: &[u8]) -> Result<Line, AllocError>
 }
 
 /// The name of a curve.
-fn read_map(words: &[u8]) -> Line
+fn read_map(words: &[u8]) -> ScriptLine
     ensures parsed { line_data result ≡ parsed_map (words_of words.now) }
     ensures sound { IsSound result }
 {
     match next_word(words) {
-        None => Line::Wrong,
+        None => ScriptLine::Wrong,
         Some((name, rest)) => match next_word(rest) {
             None => read_curve(name),
-            Some(_) => Line::Wrong,
+            Some(_) => ScriptLine::Wrong,
         },
     }
 }
 
-fn read_curve(name: &[u8]) -> Line
+fn read_curve(name: &[u8]) -> ScriptLine
     ensures parsed { line_data result ≡ parsed_map (name.now ∷ []) }
     ensures sound { IsSound result }
 {
     if is_word(name, b"linear") {
-        Line::Map(Curve::Linear)
+        ScriptLine::Map(Curve::Linear)
     } else if is_word(name, b"soft") {
-        Line::Map(Curve::Soft)
+        ScriptLine::Map(Curve::Soft)
     } else if is_word(name, b"hard") {
-        Line::Map(Curve::Hard)
+        ScriptLine::Map(Curve::Hard)
     } else {
-        Line::Wrong
+        ScriptLine::Wrong
     }
 }
 
 /// What stands after a block.
-fn read_at(alloc: Global, block: u32, words: &[u8]) -> Result<Line, AllocError>
+fn read_at(alloc: Global, block: u32, words: &[u8]) -> Result<ScriptLine, AllocError>
     ensures parsed { IfOk result (λ found. line_data found ≡ parsed_at block (words_of words.now)) }
     ensures sound { IfOk result IsSound }
 {
     match next_word(words) {
-        None => Ok(Line::Wrong),
+        None => Ok(ScriptLine::Wrong),
         Some((kind, rest)) => match next_word(rest) {
-            None => Ok(Line::Wrong),
+            None => Ok(ScriptLine::Wrong),
             Some((first, rest)) => read_after(alloc, block, kind, first, rest),
         },
     }
@@ -123,7 +123,7 @@ fn read_after(
     kind: &[u8],
     first: &[u8],
     rest: &[u8],
-) -> Result<Line, AllocError>
+) -> Result<ScriptLine, AllocError>
     ensures parsed { IfOk result (λ found. line_data found ≡ parsed_at block (kind.now ∷ first.now ∷ words_of rest.now)) }
     ensures sound { IfOk result IsSound }
 {
@@ -134,7 +134,7 @@ fn read_after(
 }
 
 /// A kind and one word.
-fn read_word(alloc: Global, block: u32, kind: &[u8], word: &[u8]) -> Result<Line, AllocError>
+fn read_word(alloc: Global, block: u32, kind: &[u8], word: &[u8]) -> Result<ScriptLine, AllocError>
     ensures parsed { IfOk result (λ found. line_data found ≡ parsed_one_word block kind.now word.now) }
     ensures sound { IfOk result IsSound }
 {
@@ -148,26 +148,26 @@ fn read_word(alloc: Global, block: u32, kind: &[u8], word: &[u8]) -> Result<Line
 }
 
 /// The line of a command, where there is one.
-fn line_of(block: u32, command: Option<Command>) -> Line
+fn line_of(block: u32, command: Option<Command>) -> ScriptLine
     requires { IfSome command (λ command. IsInRange (content command)) }
     ensures parsed { line_data result ≡ ordered block (option_map content command) }
     ensures sound { IsSound result }
 {
     match command {
-        Some(command) => Line::Command { block, command },
-        None => Line::Wrong,
+        Some(command) => ScriptLine::Command { block, command },
+        None => ScriptLine::Wrong,
     }
 }
 
 /// The line of MIDI bytes, where the word is pairs of hex digits.
 #[tactic(auto, unfolding(crate::specs::Words::hex_bytes))]
-fn read_bytes(alloc: Global, block: u32, word: &[u8]) -> Result<Line, AllocError>
+fn read_bytes(alloc: Global, block: u32, word: &[u8]) -> Result<ScriptLine, AllocError>
     ensures parsed { IfOk result (λ found. line_data found ≡ fed block (hex_bytes word.now)) }
     ensures sound { IfOk result IsSound }
 {
     match hex::decode(alloc, word) {
-        Ok(bytes) => Ok(Line::Bytes { block, bytes }),
+        Ok(bytes) => Ok(ScriptLine::Bytes { block, bytes }),
         Err(FromHexError::OutOfMemory) => Err(AllocError),
-        Err(_) => Ok(Line::Wrong),
+        Err(_) => Ok(ScriptLine::Wrong),
     }
 }

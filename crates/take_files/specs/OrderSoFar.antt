@@ -1,6 +1,7 @@
 -- For private functions and proofs: what a reader of an order has in the middle of it.
 use Rattle.std.specs.Prelude.{ℕ, ◌≡◌, ◌+◌, ◌<◌, ◌≤◌, List, [], ◌∷◌, ◌++◌, Option, None, Some, decimal, length, slice_index}
 use Rattle.command_set.specs.Entries.{LoggedData, journal_data}
+use Rattle.instrument.specs.Limits.{block_limit}
 use Rattle.take_files.specs.Files.{header_text, order}
 use Rattle.take_files.specs.Orders.{Follows, IsOrdered, OrderData, count_of, entry_limit, last_block}
 use Rattle.take_files.specs.Chunks.{Standing, Clean, Faulty, OutOfMemory, line_feeds}
@@ -8,10 +9,10 @@ use Rattle.take_files.specs.declared.read.OrderFault.{OrderFault}
 use Rattle.take_files.specs.declared.read.OrderFault.TheVariants as fault
 use Rattle.take_files.specs.declared.listing.Listing.{Listing}
 
--- a first line of 1 to 1048576 blocks and 1 to 256 scripts, without its line feed
+-- a first line of 1 up to the most blocks of a run, and of 1 to 256 scripts, without its line feed
 pub record IsHeader (blocks scripts : ℕ) (line : List ℕ) : Type 0 where
   pub some_blocks : 1 ≤ blocks
-  pub few_blocks : blocks ≤ 1048576
+  pub few_blocks : blocks ≤ block_limit
   pub some_scripts : 1 ≤ scripts
   pub few_scripts : scripts ≤ 256
   pub spelled : line ≡ header_text blocks scripts

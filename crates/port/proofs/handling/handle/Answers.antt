@@ -4,7 +4,7 @@ use Rattle.command_set.specs.Message.{answer_outcome}
 use Rattle.std.specs.Prelude.{option_map}
 use Rattle.port.proofs.Handled.{passed_done, overlong_done, faulty_done, this_if_none}
 use Rattle.port.proofs.Sending.{sends_same}
-use Rattle.port.proofs.message.handle.Goals as goal
+use Rattle.port.proofs.handling.handle.Goals as goal
 
 pub returns-in-Ok-None-clause-done : goal.returns-in-Ok-None-clause-done
 returns-in-Ok-None-clause-done g c =

@@ -8,7 +8,7 @@ use Rattle.script_read.specs.declared.editing.Editing.{Editing}
 use Rattle.script_read.specs.EditLines.{ParsedEdit, parsed_edits}
 use Rattle.script_read.specs.Edits.{Answered, Refuses, edit_block, edits_after, history_after, opened}
 use Rattle.script_read.specs.Words.{lines_of}
-use Rattle.script_outcome.specs.Reading.{all_given}
+use Rattle.script_outcome.specs.ReaderAnswer.{all_given}
 
 -- a fault is the editor's refusal at a place; want of memory says nothing
 abbrev pub IsRefusal : ScriptFault → Place → Answered → Type 0

@@ -1,7 +1,7 @@
 use Rattle.std.proofs.Common.{◌++◌, ◌∷◌, arith}
 use Rattle.std.specs.Prelude.{decimal}
 use Rattle.take_files.proofs.Prefixes.{second_number, third_number, fourth_number}
-use Rattle.take_files.proofs.line.read_numbers.Goals as goal
+use Rattle.take_files.proofs.entry_line.read_numbers.Goals as goal
 
 pub returns-in_err-due-clause-none : goal.returns-in_err-due-clause-none
 returns-in_err-due-clause-none c =
