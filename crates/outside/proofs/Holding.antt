@@ -1,5 +1,6 @@
 -- Bytes that are held back and passed on to a writer.
-use Rattle.std.proofs.Common.{◌≡◌, ℕ, ◌+◌, ◌-◌, ◌≤◌, List, [], ◌++◌, zero, append-nil, take, drop, length, sym, ◌∙◌, ap, subst, append_assoc, arith, Option, Some, None}
+use Rattle.std.proofs.Common.{◌≡◌, ℕ, ◌+◌, ◌-◌, ◌≤◌, List, [], ◌++◌, zero, append-nil, take, drop, length, sym, ◌∙◌, ap, subst, append_assoc, arith, Option}
+use Rattle.std.proofs.Common.{Some, None}
 use Rattle.std.specs.Io.KnownBytes.{Appends, Keeps}
 use Rattle.std.proofs.Math.Seq.{take-add}
 use Rattle.outside.proofs.Shelves.{rest_whole}
@@ -15,7 +16,8 @@ appends_on None before now items slice done count same was is = tt
 appends_on (Some xs) None now items slice done count same was is = absurd was
 appends_on (Some xs) (Some ys) None items slice done count same was is = absurd is
 appends_on (Some xs) (Some ys) (Some zs) items slice done count same was is =
-    is ∙ ap (λ (l : List ℕ). ys ++ take count (take (length l - done) (drop done l))) same ∙ ap (λ (l : List ℕ). ys ++ take count l) (rest_whole items done) ∙ ap (λ (l : List ℕ). l ++ take count (drop done items)) was
+    is ∙ ap (λ (l : List ℕ). ys ++ take count (take (length l - done) (drop done l))) same ∙ ap (λ (l : List ℕ). ys ++ take count l) (rest_whole items done)
+        ∙ ap (λ (l : List ℕ). l ++ take count (drop done items)) was
     ∙ append_assoc xs (take done items) (take count (drop done items))
     ∙ ap (λ (l : List ℕ). xs ++ l) (sym (take-add done count items))
 
