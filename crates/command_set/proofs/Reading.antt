@@ -1,5 +1,6 @@
 -- The command that some words write, and that each text has one.
-use Rattle.std.proofs.Common.{◌≡◌, ℕ, ◌^◌, ◌<◌, ◌≤◌, List, [], ◌∷◌, Option, Some, None, Result, Ok, Err, false, refl, ap, sym, ◌∙◌, subst, arith, if◌then◌else◌}
+use Rattle.std.proofs.Common.{◌≡◌, ℕ, ◌^◌, ◌<◌, ◌≤◌, List, [], ◌∷◌, Option, Some, None, Result, Ok, Err, false, refl, ap, sym, ◌∙◌, subst, arith}
+use Rattle.std.proofs.Common.{if◌then◌else◌}
 use Rattle.std.specs.Prelude.{codes, decimal, bytes_eq}
 use Rattle.std.specs.List.{flat_map, join_with_byte}
 use Rattle.std.proofs.lemmas.List.Splits.{join_with_byte-slice_split}
@@ -13,8 +14,8 @@ use Rattle.cartridge.proofs.Voices.{voices_are}
 use Rattle.plain_text.specs.Number.{number}
 use Rattle.plain_text.specs.Split.{split}
 use Rattle.plain_text.proofs.Numbers.{reads_decimal}
-use Rattle.command_set.specs.Command.{CommandData, StartsNote, EndsNote, Bends, Controls, PicksProgram, SetsParameter, StoresVoice, LoadsVoice, LoadsCartridge}
-use Rattle.command_set.specs.Command.{IsInRange}
+use Rattle.command_set.specs.Command.{CommandData, StartsNote, EndsNote, Bends, Controls, PicksProgram, SetsParameter, StoresVoice, LoadsVoice}
+use Rattle.command_set.specs.Command.{LoadsCartridge, IsInRange}
 use Rattle.command_set.specs.Text.{text, packed}
 use Rattle.command_set.specs.Unique.{TextsAreUnique}
 use Rattle.command_set.specs.Words.{words, AreWordsOf, AreWordsOfNone, store_of, two_bytes_of, two_of, three_bytes_of, three_of}

@@ -1,6 +1,6 @@
 -- What one more byte does at each state in a message.
-use Rattle.std.proofs.Common.{◌≡◌, ◌≢◌, ℕ, zero, suc, ◌+◌, ◌-◌, ◌^◌, ◌<◌, ◌≤◌, ◌⊎◌, inl, inr, Bool, true, false, ◌&&◌, List, [], ◌∷◌, ◌++◌, length, take, min}
-use Rattle.std.proofs.Common.{refl, ap, sym, subst, ◌∙◌, arith, map, nat_eq, length-append, lit<}
+use Rattle.std.proofs.Common.{◌≡◌, ◌≢◌, ℕ, zero, suc, ◌+◌, ◌-◌, ◌^◌, ◌<◌, ◌≤◌, ◌⊎◌, inl, inr, Bool, true, false, ◌&&◌, List, [], ◌∷◌, ◌++◌, length}
+use Rattle.std.proofs.Common.{take, min, refl, ap, sym, subst, ◌∙◌, arith, map, nat_eq, length-append, lit<}
 use Rattle.std.specs.Prelude.{Option, Some, None, IfSome}
 use Rattle.std.proofs.lemmas.List.{take_all}
 use Rattle.std.proofs.lemmas.Bool.{le-ltb, ne_eqb, eqb-true}
@@ -9,8 +9,8 @@ use Rattle.midi_stream.specs.declared.state.ParserState.{ParserState}
 use Rattle.midi_stream.specs.declared.state.ParserState.TheVariants.{Between, Begun, Running, Half, InSysEx}
 use Rattle.midi_stream.specs.Segments.{Segment, last_segment}
 use Rattle.midi_stream.specs.Growth.{grown, extended, begun, with_status}
-use Rattle.midi_stream.specs.Messages.{message_of_one, message_of_two, has_one_data_byte, by_twos, after_twos, channel_messages, unused_data, sysex_message}
-use Rattle.midi_stream.specs.Messages.{segment_messages, messages_of, ended_by, sysex_at_end}
+use Rattle.midi_stream.specs.Messages.{message_of_one, message_of_two, has_one_data_byte, by_twos, after_twos, channel_messages, unused_data}
+use Rattle.midi_stream.specs.Messages.{sysex_message, segment_messages, messages_of, ended_by, sysex_at_end}
 use Rattle.midi_stream.specs.declared.byte_effect.ByteEffect.{ByteEffect}
 use Rattle.midi_stream.specs.ByteEffects.{Advances}
 use Rattle.midi_stream.specs.Standing.{Answers, HasBytes, IsBetween, IsChannel, IsBareStatus, IsRunning, IsHalf, IsSysEx, EndsNone, StandsAt, kept_with}

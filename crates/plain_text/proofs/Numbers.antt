@@ -1,6 +1,6 @@
 -- Numbers in decimal digits, as the words write them.
-use Rattle.std.proofs.Common.{◌≡◌, ℕ, ◌+◌, ◌*◌, ◌-◌, ◌^◌, take, ◌<◌, ◌≤◌, List, zero, suc, length, get_or, refl, sym, ◌∙◌, ap, arith, lt-ltb, ltb-true}
-use Rattle.std.proofs.Common.{ltb-false, leb-true}
+use Rattle.std.proofs.Common.{◌≡◌, ℕ, ◌+◌, ◌*◌, ◌-◌, ◌^◌, take, ◌<◌, ◌≤◌, List, zero, suc, length, get_or, refl, sym, ◌∙◌, ap, arith, lt-ltb}
+use Rattle.std.proofs.Common.{ltb-true, ltb-false, leb-true}
 use Rattle.std.proofs.lemmas.Bool.{eq-eqb, eqb-true, le-leb}
 use Rattle.std.proofs.lemmas.Fmt.{decimal-digits_value, digits_value-decimal, digits_decimal, decimal_nonempty, decimal_digit, first_decimal}
 use Rattle.std.specs.Prelude.{◌==◌, decimal, Option, Some, None, Bool, true, false, not, ◌&&◌, nat_lt, nat_le, if◌then◌else◌}

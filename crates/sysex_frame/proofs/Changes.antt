@@ -1,14 +1,14 @@
 -- Parameter changes and requests without a fault.
-use Rattle.std.proofs.Common.{◌≡◌, ◌≢◌, ℕ, ◌+◌, ◌-◌, ◌*◌, ◌/◌, ◌%◌, ◌<◌, ◌≤◌, List, [], ◌∷◌, ◌++◌, length, get_or, take, drop, ap, sym, ◌∙◌, arith, refl, subst}
-use Rattle.std.proofs.Common.{length-append, None}
+use Rattle.std.proofs.Common.{◌≡◌, ◌≢◌, ℕ, ◌+◌, ◌-◌, ◌*◌, ◌/◌, ◌%◌, ◌<◌, ◌≤◌, List, [], ◌∷◌, ◌++◌, length, get_or, take, drop, ap, sym, ◌∙◌, arith}
+use Rattle.std.proofs.Common.{refl, subst, length-append, None}
 use Rattle.std.specs.List.{slice_range}
 use Rattle.std.proofs.lemmas.Bool.{lt-leb}
 use Rattle.std.proofs.lemmas.List.Edits.{length-between}
 use Rattle.voice_record.specs.Voice.{greatest_value}
 use Rattle.voice_record.proofs.Voices.{greatest_small}
 use Rattle.sysex_frame.specs.Frame.{IsData, IsParamChange, IsOtherChange, IsRequest}
-use Rattle.sysex_frame.specs.FrameFault.{substatus, device, group, number, unknown_substatus, unknown_format, wrong_count, wanted_length, wrong_length}
-use Rattle.sysex_frame.specs.FrameFault.{wrong_checksum, high_value}
+use Rattle.sysex_frame.specs.FrameFault.{substatus, device, group, number, unknown_substatus, unknown_format, wrong_count, wanted_length}
+use Rattle.sysex_frame.specs.FrameFault.{wrong_length, wrong_checksum, high_value}
 use Rattle.sysex_frame.specs.Halves.{later_fault}
 use Rattle.sysex_frame.proofs.Facts.{none_parts, row_free, row_none, IsPlain}
 use Rattle.sysex_frame.proofs.Conditions.{not_a_dump, not_a_change, length_of_change, change_length, request_length, value_known, value_good}

@@ -1,13 +1,13 @@
 -- Dumps without a fault.
-use Rattle.std.proofs.Common.{◌≡◌, ℕ, suc, ◌+◌, ◌-◌, ◌<◌, ◌≤◌, List, [], ◌∷◌, ◌++◌, length, get_or, take, drop, ap, sym, ◌∙◌, arith, refl, subst, length-append}
-use Rattle.std.proofs.Common.{append_assoc, inl, inr, ◌⊎◌, None}
+use Rattle.std.proofs.Common.{◌≡◌, ℕ, suc, ◌+◌, ◌-◌, ◌<◌, ◌≤◌, List, [], ◌∷◌, ◌++◌, length, get_or, take, drop, ap, sym, ◌∙◌, arith, refl, subst}
+use Rattle.std.proofs.Common.{length-append, append_assoc, inl, inr, ◌⊎◌, None}
 use Rattle.std.proofs.lemmas.Bool.{lt-leb}
 use Rattle.std.proofs.lemmas.List.Edits.{length-between}
 use Rattle.std.proofs.lemmas.List.{get_or_at, take_at}
 use Rattle.sysex_frame.specs.Checksum.{IsChecksum, checksum_of}
 use Rattle.sysex_frame.specs.Frame.{IsData, IsDump}
-use Rattle.sysex_frame.specs.FrameFault.{substatus, device, format, group, payload, check, unknown_substatus, unknown_format, wrong_count, wanted_length}
-use Rattle.sysex_frame.specs.FrameFault.{wrong_length, wrong_checksum, high_value}
+use Rattle.sysex_frame.specs.FrameFault.{substatus, device, format, group, payload, check, unknown_substatus, unknown_format, wrong_count}
+use Rattle.sysex_frame.specs.FrameFault.{wanted_length, wrong_length, wrong_checksum, high_value}
 use Rattle.sysex_frame.specs.Halves.{later_fault}
 use Rattle.sysex_frame.proofs.Facts.{none_parts, row_free, row_none, IsPlain}
 use Rattle.sysex_frame.proofs.Conditions.{format_known, format_good, not_a_change, count_known_voice, count_known_cartridge, count_good_voice}

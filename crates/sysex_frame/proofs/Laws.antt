@@ -13,8 +13,8 @@ use Rattle.sysex_frame.specs.declared.frame.Frame.{Frame}
 use Rattle.sysex_frame.specs.declared.frame.FrameFault.{FrameFault}
 use Rattle.sysex_frame.proofs.Facts.{none_parts, row_free, by_parts, IsPlain, plain_from_none, none_from_plain}
 use Rattle.sysex_frame.proofs.Dumps.{dump_from_none, dump_frame, dump_places, voice_clean, cartridge_clean}
-use Rattle.sysex_frame.proofs.Changes.{IsChangeMessage, change_from_none, change_clean, param_frame, other_frame, param_places, other_places, request_clean}
-use Rattle.sysex_frame.proofs.Changes.{request_frame, request_places}
+use Rattle.sysex_frame.proofs.Changes.{IsChangeMessage, change_from_none, change_clean, param_frame, other_frame, param_places, other_places}
+use Rattle.sysex_frame.proofs.Changes.{request_clean, request_frame, request_places}
 
 -- ---- what the places read as
 reads_voice : (message : List ℕ) → substatus message ≡ 0 → format message ≡ 0 → reading message ≡ VoiceDump (device message) (payload message)

@@ -1,6 +1,6 @@
 -- A text is the order of one journal at most, and has one first fault at most.
-use Rattle.std.proofs.Common.{◌≡◌, ◌≢◌, ◌⊎◌, inl, inr, ℕ, ◌+◌, ◌<◌, ◌≤◌, List, [], ◌∷◌, ◌++◌, length, get_or, take, Result, Ok, Err, refl, sym, ◌∙◌, ap, subst}
-use Rattle.std.proofs.Common.{arith, append_assoc, length-append}
+use Rattle.std.proofs.Common.{◌≡◌, ◌≢◌, ◌⊎◌, inl, inr, ℕ, ◌+◌, ◌<◌, ◌≤◌, List, [], ◌∷◌, ◌++◌, length, get_or, take, Result, Ok, Err, refl, sym, ◌∙◌}
+use Rattle.std.proofs.Common.{ap, subst, arith, append_assoc, length-append}
 use Rattle.std.specs.Prelude.{All, MatchResult, IfOk}
 use Rattle.std.specs.List.{flat_map}
 use Rattle.std.proofs.Math.Seq.{take-append_seam, get_or-append_seam}
@@ -8,8 +8,8 @@ use Rattle.std.proofs.lemmas.List.{append-nil}
 use Rattle.std.proofs.lemmas.List.Elements.{All-head, All-tail}
 use Rattle.command_set.specs.Entries.{LoggedData}
 use Rattle.take_files.specs.Files.{order_header, order_line, order}
-use Rattle.take_files.specs.Orders.{IsWritable, HasBlock, Follows, IsOrdered, BeginsWith, HasFault, HasNoHeader, StopsAfter, IsRefused, OrderData, IsOrder}
-use Rattle.take_files.specs.Orders.{OrdersAreUnique, entry_limit, count_of}
+use Rattle.take_files.specs.Orders.{IsWritable, HasBlock, Follows, IsOrdered, BeginsWith, HasFault, HasNoHeader, StopsAfter, IsRefused, OrderData}
+use Rattle.take_files.specs.Orders.{IsOrder, OrdersAreUnique, entry_limit, count_of}
 use Rattle.take_files.specs.declared.read.OrderKind.{OrderKind}
 use Rattle.take_files.specs.declared.read.OrderKind.TheVariants.{Line, Block, Script, Sequence, Many}
 use Rattle.take_files.specs.declared.read.OrderFault.{OrderFault}

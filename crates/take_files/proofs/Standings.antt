@@ -1,6 +1,6 @@
 -- How a reader of an order stands.
-use Rattle.std.proofs.Common.{◌≡◌, ◌≢◌, inl, inr, ℕ, ◌+◌, ◌<◌, ◌≤◌, ◌==◌, true, false, Result, Err, List, [], ◌∷◌, ◌++◌, length, Option, None, Some, refl, sym}
-use Rattle.std.proofs.Common.{◌∙◌, ap, subst, arith, append_assoc, length-append}
+use Rattle.std.proofs.Common.{◌≡◌, ◌≢◌, inl, inr, ℕ, ◌+◌, ◌<◌, ◌≤◌, ◌==◌, true, false, Result, Err, List, [], ◌∷◌, ◌++◌, length, Option, None, Some}
+use Rattle.std.proofs.Common.{refl, sym, ◌∙◌, ap, subst, arith, append_assoc, length-append}
 use Rattle.std.specs.Prelude.{IfOk, MatchResult}
 use Rattle.std.proofs.lemmas.Bool.{cases_lt, ne_eqb}
 use Rattle.std.proofs.lemmas.List.{append-nil}
@@ -15,8 +15,8 @@ use Rattle.take_files.specs.declared.read.OrderKind.{OrderKind}
 use Rattle.take_files.specs.declared.read.OrderKind.TheVariants.{Line}
 use Rattle.take_files.specs.declared.read.OrderFault.{OrderFault}
 use Rattle.take_files.specs.declared.read.OrderFault.TheVariants.{Refused, Memory}
-use Rattle.take_files.proofs.Feeding.{feeds_append, feeds_end, has_no_feed, long_entry, long_header, no_first, no_line, open_none, open_order, order_fed}
-use Rattle.take_files.proofs.Feeding.{seen_more}
+use Rattle.take_files.proofs.Feeding.{feeds_append, feeds_end, has_no_feed, long_entry, long_header, no_first, no_line, open_none, open_order}
+use Rattle.take_files.proofs.Feeding.{order_fed, seen_more}
 use Rattle.take_files.proofs.Laws.{answers_orders, fault_after, lines, orders_unique}
 use Rattle.take_files.proofs.Lines.{header_begins, line_begins, line_more}
 
