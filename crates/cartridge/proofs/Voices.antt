@@ -98,7 +98,7 @@ all_data voices bytes p = λ k l.
     let place : ℕ = k % 128 in
     let at : 128 * slot + place ≡ k = omega arith in
     let read : get_or (slot_bytes bytes slot) place 0 ≡ get_or bytes (128 * slot + place) 0 =
-        get_or-between bytes (128 * slot) (128 * slot + 128) place 0 (omega arith) in
+    get_or-between bytes (128 * slot) (128 * slot + 128) place 0 (omega arith) in
     let seven : get_or (slot_bytes bytes slot) place 0 < 128 = packed_small _ (slot_bytes bytes slot) place (p.slots slot (omega arith)) (omega arith) in
     subst (λ j. get_or bytes j 0 < 128) at (rw read at seven)
 

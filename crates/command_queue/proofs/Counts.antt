@@ -64,7 +64,7 @@ all_numbered_push : (all : List EntryData) (x : EntryData) → x.seq ≡ length 
     → AreNumbered (sent_by e (all ++ x ∷ []))
 all_numbered_push all x seq h e = ⊎_elim
     (λ (is : x.script ≡ e). subst AreNumbered (sym (sent_by_push_same e all x is))
-        (numbered_push (sent_by e all) x (h e) (seq ∙ ap (λ k. length (sent_by k all)) is)))
+    (numbered_push (sent_by e all) x (h e) (seq ∙ ap (λ k. length (sent_by k all)) is)))
     (λ (is : x.script ≢ e). subst AreNumbered (sym (sent_by_push_other e all x is)) (h e))
     (same_or_not x.script e)
 
@@ -72,7 +72,7 @@ all_numbered_push all x seq h e = ⊎_elim
 pub legal_push : (quotas : List ℕ) (places : ℕ) (taken waiting : List EntryData) (x : EntryData) → x.script < length quotas
     → x.seq ≡ length (sent_by x.script (taken ++ waiting))
     → length (sent_by x.script (taken ++ waiting)) < quota_at quotas x.script → length waiting < places → IsInRange x.command
-        → IsLegal quotas places taken waiting → IsLegal quotas places taken (waiting ++ x ∷ [])
+    → IsLegal quotas places taken waiting → IsLegal quotas places taken (waiting ++ x ∷ [])
 legal_push quotas places taken waiting x made seq quota room ranges s =
     let all : List EntryData = taken ++ waiting in
     let moved : all ++ x ∷ [] ≡ taken ++ (waiting ++ x ∷ []) = append_assoc taken waiting (x ∷ []) in
@@ -128,8 +128,14 @@ tests s n = grind (arith, nat_tests)
 pub below_more : (n : ℕ) (xs : List EntryData) → length (below (n + 1) xs) ≡ length (below n xs) + length (sent_by n xs)
 below_more n [] = omega arith
 below_more n (x ∷ xs) =
-    omega (arith, below_more n xs, tests x.script n, length_cond (ltb x.script (n + 1)) x (below (n + 1) xs), length_cond (ltb x.script n) x (below n xs),
-        length_cond (x.script == n) x (sent_by n xs))
+    omega (
+      arith,
+      below_more n xs,
+      tests x.script n,
+      length_cond (ltb x.script (n + 1)) x (below (n + 1) xs),
+      length_cond (ltb x.script n) x (below n xs),
+      length_cond (x.script == n) x (sent_by n xs),
+    )
 
 not_below : (s : ℕ) → ◌≡◌ {A = ℕ} (cond (ltb s 0) 1 0) 0
 not_below s = grind (arith, nat_tests)
@@ -144,7 +150,7 @@ below_all n (x ∷ xs) h =
     let is : x.script < n = All-head (λ y. y.script < n) x xs h in
     let p : ltb x.script n ≡ true = lt-ltb x.script n is in
     let c : length (cond (ltb x.script n) (x ∷ below n xs) (below n xs)) ≡ suc (length (below n xs)) =
-        ap (λ b. length (cond b (x ∷ below n xs) (below n xs))) p in
+    ap (λ b. length (cond b (x ∷ below n xs) (below n xs))) p in
     c ∙ ap suc (below_all n xs (All-tail (λ y. y.script < n) x xs h))
 
 module _ (quotas : List ℕ) (all : List EntryData) (made : All (λ x. x.script < length quotas) all) (bounded : (e : ℕ)
@@ -210,9 +216,9 @@ sent_by_nobody n (x ∷ xs) h =
 pub sent_by_front : (taken items : List EntryData) (x : EntryData) → length (sent_by x.script taken) < length (sent_by x.script (taken ++ x ∷ items))
 sent_by_front taken items x =
     let e : sent_by x.script (taken ++ x ∷ items) ≡ sent_by x.script taken ++ sent_by x.script (x ∷ items) =
-        filter-append (λ y. y.script == x.script) taken (x ∷ items) in
+    filter-append (λ y. y.script == x.script) taken (x ∷ items) in
     let f : sent_by x.script (x ∷ items) ≡ x ∷ sent_by x.script items = ap (λ b.
-        cond b (x ∷ sent_by x.script items) (sent_by x.script items)) (eq-eqb x.script x.script refl) in
+    cond b (x ∷ sent_by x.script items) (sent_by x.script items)) (eq-eqb x.script x.script refl) in
     let l : length (sent_by x.script (taken ++ x ∷ items)) ≡ length (sent_by x.script taken ++ (x ∷ sent_by x.script items)) =
-        ap length (e ∙ ap (λ r. sent_by x.script taken ++ r) f) in
+    ap length (e ∙ ap (λ r. sent_by x.script taken ++ r) f) in
     omega (arith, length-append (sent_by x.script taken) (x ∷ sent_by x.script items))

@@ -55,7 +55,7 @@ sends n port v e may stays places script seq quota ranges items views room h at 
     let legal : IsLegal t.quotas t.places t.taken (waiting ++ x ∷ []) =
     legal_push t.quotas t.places t.taken waiting x (omega arith) (seq ∙ ap length sent)
     (subst (λ (y : List EntryData × (List ℕ × ℕ)). length y.0 < quota_at y.1.0 y.1.1) (λ i. (sent i, (mine.quotas_is i, sym script i))) quota) (omega arith)
-        ranges h.legal in
+    ranges h.legal in
     let fits : (j : ℕ) (u : Role) → get_elem? (set views port w) j ≡ some u → Fits t (all ++ x ∷ []) j u =
     fits_set t (all ++ x ∷ []) views port w (
       (λ p. absurd (true≢false (sym p ∙ stays))),
@@ -98,13 +98,13 @@ next_of : (quotas : List ℕ) (taken waiting : List EntryData) (x : EntryData) �
     → IsNextOf quotas taken x
 next_of quotas taken waiting x numbered bounded =
     let own : sent_by x.script (x ∷ waiting) ≡ x ∷ sent_by x.script waiting =
-        ap (λ b. cond b (x ∷ sent_by x.script waiting) (sent_by x.script waiting)) (eq-eqb x.script x.script refl) in
+    ap (λ b. cond b (x ∷ sent_by x.script waiting) (sent_by x.script waiting)) (eq-eqb x.script x.script refl) in
     let all : sent_by x.script (taken ++ x ∷ waiting) ≡ sent_by x.script taken ++ x ∷ sent_by x.script waiting =
     filter-append (λ (e : EntryData). e.script == x.script) taken (x ∷ waiting) ∙ ap (λ (es : List EntryData). sent_by x.script taken ++ es) own in
     let n : ℕ = length (sent_by x.script taken) in
     let lt : n < length (sent_by x.script (taken ++ x ∷ waiting)) = sent_by_front taken waiting x in
     let here : get_or (sent_by x.script (taken ++ x ∷ waiting)) n x ≡ x = ap (λ (es : List EntryData). get_or es n x) all
-        ∙ get_or-append_seam (sent_by x.script taken) x (sent_by x.script waiting) x in
+    ∙ get_or-append_seam (sent_by x.script taken) x (sent_by x.script waiting) x in
     let seq : x.seq ≡ n = ap (λ (e : EntryData). e.seq) (sym here) ∙ numbered n x lt in
     (seq, omega (arith, seq, lt, bounded))
 
@@ -121,7 +121,7 @@ takes port v may stays e items views h at =
     let script : x.script < length t.quotas = all_middle (λ y. y.script < length t.quotas) t.taken x waiting h.legal.queued.made in
     let ranges : IsInRange x.command = all_middle (λ y. IsInRange y.command) t.taken x waiting h.legal.ranges in
     let total : length t.taken < sum t.quotas = omega (arith, total_bound t.quotas all h.legal.queued.made h.legal.bounded, length-append t.taken (x ∷ waiting))
-        in
+    in
     let left : x.script < length t.known → length (sent_by x.script t.taken) < length (slice_index_or t.known x.script []) =
     λ lt. subst (λ l. length (sent_by x.script t.taken) < length l) (sym (h.known x.script lt)) (sent_by_front t.taken waiting x) in
     let Facts : Role → Type 0 = λ r. (x.script < length r.quotas) × IsInRange x.command × (length r.taken < sum r.quotas)
@@ -277,7 +277,7 @@ merges port v other w may stays ended turn items views h at two at' =
     let vs : List Role = set views port both in
     let was : get_elem? views other ≡ some w =
     ⊎_elim (λ (p : (other ≡ port) × (both ≡ w)). absurd (two p.0)) (λ (p : (other ≢ port) × (get_elem? views other ≡ some w)).
-        p.1) (at_set views port other both w at') in
+    p.1) (at_set views port other both w at') in
     let theirs : IsEnd t all other w = (h.each other w was).1 ended in
     let number : w.number ≡ length t.known = turn ∙ ap (λ (r : Role). length r.known) same in
     let longer : length (t.known ++ w.sent ∷ []) ≡ length t.known + 1 = length-append t.known (w.sent ∷ []) in

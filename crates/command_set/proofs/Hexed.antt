@@ -41,10 +41,14 @@ pub as_cartridge : (word : List ℕ) (d : CommandData) → IsInRange d → words
     → (voices : List (List ℕ)) × (d ≡ LoadsCartridge voices) × IsCartridge voices × (encode_lower (flat_map packed voices) ≡ word)
 as_cartridge word d r same =
     let found = some_bytes (λ bytes. LoadsCartridge (voices_of bytes)) (decode_of word) d (sym (cartridge_words word) ∙ sym (one_word (codes "cartridge") word)
-        ∙ read_as _ d r same) in
-    let is : d ≡ LoadsCartridge (voices_of found.0) = found.2 in
-    (voices_of found.0, is, subst IsInRange is r, second_word (words (LoadsCartridge (voices_of found.0))) _
-        (subst (λ x. words x ≡ codes "cartridge" ∷ word ∷ []) is same))
+    ∙ read_as _ d r same) in
+    let is : d ≡ LoadsCartridge (voices_of found.0) = found.2 in (
+      voices_of found.0,
+      is,
+      subst IsInRange is r,
+      second_word (words (LoadsCartridge (voices_of found.0))) _
+          (subst (λ x. words x ≡ codes "cartridge" ∷ word ∷ []) is same),
+    )
 
 voice_decoded : (voice word : List ℕ) → IsVoice voice → encode_lower voice ≡ word → decode_sized word 155 ≡ Ok voice
 voice_decoded voice word v is = subst (λ w. decode_sized w 155 ≡ Ok voice) is (decode_sized-encode_lower voice 155 v.count (voice_bytes voice v))

@@ -48,8 +48,11 @@ grown voice n l =
     let there : (row_of n).byte < length (partly voice n) = rw count (place.byte) in
     ext_get_or 0 _ _ (length-set _ _ _ ∙ count ∙ sym (partly_count voice (n + 1)))
     (λ byte below.
-    let small : byte < 128 = (rw (length-set (partly voice n) (row_of n).byte
-        (get_or (partly voice n) (row_of n).byte 0 + get_or voice n 0 * 2 ^ (row_of n).shift), count) at below) in
+    let small : byte < 128 = (rw (
+      length-set (partly voice n) (row_of n).byte
+          (get_or (partly voice n) (row_of n).byte 0 + get_or voice n 0 * 2 ^ (row_of n).shift),
+      count,
+    ) at below) in
     let next = partly_at voice (n + 1) byte small ∙ filled_next voice n byte in
     elim (cases_eq (row_of n).byte byte) [
       | inl e ↦ subst (λ b. get_or (set (partly voice n) (row_of n).byte (get_or (partly voice n) (row_of n).byte 0 + get_or voice n 0 * 2 ^ (row_of n).shift))

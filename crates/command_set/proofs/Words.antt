@@ -70,7 +70,7 @@ pub parts_text : (command : CommandData) → IsInRange command → split 32 (tex
 unfolding text every
 parts_text (StartsNote channel key velocity) (a, b, low, high) =
     parts_spaced _ _ (codes_whole 32 (codes "on") refl) (three_whole _ _ _ (number_whole channel (omega arith)) (number_whole key (omega arith))
-        (number_whole velocity (omega arith)))
+    (number_whole velocity (omega arith)))
 parts_text (EndsNote channel key) (a, b) =
     parts_spaced _ _ (codes_whole 32 (codes "off") refl) (two_whole _ _ (number_whole channel (omega arith)) (number_whole key (omega arith)))
 parts_text (Bends channel value) (a, b) =

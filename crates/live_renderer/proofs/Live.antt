@@ -23,11 +23,11 @@ pub live_none : (taker : TakeView) (journal : List LoggedData) (spare : ℕ) →
     → IsLive (record { taker = taker; journal = journal; blocks = 0; spare = spare })
 live_none taker journal spare none empty = subst (λ (j : List LoggedData).
     IsLive (record { taker = taker; journal = j; blocks = 0; spare = spare })) (sym empty) (record {
-  list = sym none;
-  order = record { order = λ i j d up below. absurd (omega (arith, below)); past = All-nil (λ (l : LoggedData). l.block ≤ 0) };
-  ranges = All-nil (λ (l : LoggedData). IsInRange l.entry.command);
-  scripts = All-nil (λ (l : LoggedData). l.entry.script < length taker.line.quotas);
-})
+      list = sym none;
+      order = record { order = λ i j d up below. absurd (omega (arith, below)); past = All-nil (λ (l : LoggedData). l.block ≤ 0) };
+      ranges = All-nil (λ (l : LoggedData). IsInRange l.entry.command);
+      scripts = All-nil (λ (l : LoggedData). l.entry.script < length taker.line.quotas);
+    })
 
 pub in_opening : (i : Instrument) (journal : List LoggedData) → journal ≡ [] → IsIn i opening → IsIn i (state_at journal 0)
 in_opening i journal empty h = subst (λ (s : State). IsIn i s) (sym state_opening ∙ ap (λ (j : List LoggedData). state_at j 0) (sym empty)) h
@@ -48,7 +48,7 @@ pub live_took : (v : RendererView) (taker : TakeView) (journal : List LoggedData
     → x.script < length v.taker.line.quotas → IsInRange x.command → IsLive (record { taker = taker; journal = journal; blocks = v.blocks; spare = spare })
 live_took v taker journal spare x h took_is log script range =
     subst (λ (y : TakeView × List LoggedData). IsLive (record { taker = y.0; journal = y.1; blocks = v.blocks; spare = spare })) (λ i.
-        (sym took_is i, sym log i)) (live_push v x spare h script range)
+    (sym took_is i, sym log i)) (live_push v x spare h script range)
 
 pub in_logged : (old new : Instrument) (before journal : List LoggedData) (b : ℕ) (x : EntryData) → IsIn old (state_at before b) → journal ≡ before
     ++ logged_at b x ∷ []
@@ -60,7 +60,7 @@ pub sound_kept : (before journal : List LoggedData) (n : ℕ) (x : EntryData) �
     → sound journal b ≡ sound before b
 sound_kept before journal n x log b below =
     ap (λ (j : List LoggedData). sound j b) log ∙ sound_agrees (before ++ logged_at n x ∷ []) before b (λ a low.
-        commands_kept before (x ∷ []) n a (λ e. absurd (omega (arith, e, low, below))))
+    commands_kept before (x ∷ []) n a (λ e. absurd (omega (arith, e, low, below))))
 
 -- one block more
 

@@ -48,7 +48,7 @@ grown_messages : (status : ℕ) (parts : List Segment) (b : ℕ) → IsChannel s
     → segment_messages (last_segment (extended parts b)) 0 ≡ channel_messages status ((last_segment parts).data_bytes ++ b ∷ [])
 grown_messages status parts b h =
     ap (λ (s : Segment). segment_messages s 0) (last_extended parts b (channel_status _ _ h))
-        ∙ channel_segment status 0 (grown (last_segment parts) b) (channel_grown _ _ b h)
+    ∙ channel_segment status 0 (grown (last_segment parts) b) (channel_grown _ _ b h)
 
 pub answer_one : (status : ℕ) (parts : List Segment) (b : ℕ) → has_one_data_byte status ≡ true → IsChannel status (last_segment parts)
     → messages_of (extended parts b) ≡ messages_of parts ++ message_of_one status b ∷ []
@@ -56,9 +56,9 @@ answer_one status parts b t h =
     let bytes = (last_segment parts).data_bytes in
     let m : List MidiMessage = message_of_one status b ∷ [] in
     let before : segment_messages (last_segment parts) 0 ≡ map (message_of_one status) bytes = channel_segment status 0 (last_segment parts) h
-        ∙ ones status bytes t in
+    ∙ ones status bytes t in
     let now : segment_messages (last_segment (extended parts b)) 0 ≡ map (message_of_one status) bytes ++ m = grown_messages status parts b h
-        ∙ ones status (bytes ++ b ∷ []) t ∙ one_more status bytes b in
+    ∙ ones status (bytes ++ b ∷ []) t ∙ one_more status bytes b in
     answer_data parts b (Some (message_of_one status b)) (now ∙ ap (λ (l : List MidiMessage). l ++ m) (sym before))
 
 -- a data byte that is the first of two
@@ -77,7 +77,7 @@ answer_first status parts b t h u =
     let f = first_of_two status bytes b (sym (unused_two status bytes t) ∙ u) in
     let before : segment_messages (last_segment parts) 0 ≡ by_twos status bytes = channel_segment status 0 (last_segment parts) h ∙ twos status bytes t in
     let now : segment_messages (last_segment (extended parts b)) 0 ≡ by_twos status bytes = grown_messages status parts b h ∙ twos status (bytes ++ b ∷ []) t
-        ∙ f.same in
+    ∙ f.same in
     answer_data parts b None (now ∙ sym before)
 
 -- the second of two data bytes
@@ -96,9 +96,9 @@ answer_second status first parts b h =
     let m : List MidiMessage = message_of_two status first b ∷ [] in
     let g = second_of_two status bytes first b (sym (unused_two status bytes h.two) ∙ h.unused) in
     let before : segment_messages (last_segment parts) 0 ≡ by_twos status bytes = channel_segment status 0 (last_segment parts) h.channel
-        ∙ twos status bytes h.two in
+    ∙ twos status bytes h.two in
     let now : segment_messages (last_segment (extended parts b)) 0 ≡ by_twos status bytes ++ m = grown_messages status parts b h.channel
-        ∙ twos status (bytes ++ b ∷ []) h.two ∙ g.more in
+    ∙ twos status (bytes ++ b ∷ []) h.two ∙ g.more in
     answer_data parts b (Some (message_of_two status first b)) (now ∙ ap (λ (l : List MidiMessage). l ++ m) (sym before))
 
 not_sysex : (b : ℕ) → b < 128 → nat_eq b 240 ≡ false
@@ -244,7 +244,7 @@ answer_end count kept parts b e h = subst (λ (n : ℕ). messages_of (with_statu
     ++ sysex_message (length (last_segment parts).data_bytes + 2) ∷ []) (sym e)
     (let m : List MidiMessage = sysex_message (length (last_segment parts).data_bytes + 2) ∷ [] in
     answer_status parts 247 (Some (sysex_message (length (last_segment parts).data_bytes + 2))) (sysex_at (last_segment parts) h.status
-        ∙ ap (λ (l : List MidiMessage). l ++ m) (sym (sysex_none (last_segment parts) h.status))))
+    ∙ ap (λ (l : List MidiMessage). l ++ m) (sym (sysex_none (last_segment parts) h.status))))
 
 pub count_at_end : (count more : ℕ) (kept : List ℕ) (segment : Segment) → IsSysEx count kept segment → more ≡ min (count + 1) (2 ^ 32 - 1)
     → more ≡ min (length segment.data_bytes + 2) (2 ^ 32 - 1)
@@ -253,8 +253,11 @@ count_at_end count more kept segment h e = let c = h.so_many in omega arith
 -- outside a SysEx message nothing ends one
 pub outside_none : (state : ParserState) (kept : List ℕ) (parts : List Segment) (b : ℕ) → ((count : ℕ) → state ≡ InSysEx count → ⊥) → StandsAt state kept parts
     → EndsNone parts b
-outside_none Between kept parts b n h = λ e f. elim h.closed [ inl g ↦ absurd (let z : (last_segment parts).status ≡ 0 =
-    ap (λ (p : List Segment). (last_segment p).status) g in omega arith) | inr g ↦ absurd (omega arith) ]
+outside_none Between kept parts b n h = λ e f. elim h.closed [
+  | inl g ↦ absurd (let z : (last_segment parts).status ≡ 0 =
+      ap (λ (p : List Segment). (last_segment p).status) g in omega arith)
+  | inr g ↦ absurd (omega arith)
+]
 outside_none (Begun status) kept parts b n h = λ e f. absurd (let s = h.channel.same in let l = h.channel.high in omega arith)
 outside_none (Running status) kept parts b n h = λ e f. absurd (let s = h.channel.same in let l = h.channel.high in omega arith)
 outside_none (Half status first) kept parts b n h = λ e f. absurd (let s = h.channel.same in let l = h.channel.high in omega arith)

@@ -40,7 +40,7 @@ leading_more (x ∷ xs) b f = rw (leading_more xs b f) (after_cut (is_data x) x 
 
 cut_extended : (t : Bool) (x : ℕ) (l : List ℕ) (rest : List Segment) (b : ℕ) →
     (if t then extended rest b else record { status = x; data_bytes = after (is_nil rest) l b }
-        ∷ extended rest b) ≡ extended (if t then rest else record { status = x; data_bytes = l } ∷ rest) b
+    ∷ extended rest b) ≡ extended (if t then rest else record { status = x; data_bytes = l } ∷ rest) b
 unfolding after is_nil
 cut_extended true x l rest b = refl
 cut_extended false x l [] b = refl

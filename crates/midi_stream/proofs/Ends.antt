@@ -92,7 +92,7 @@ pub answer_data : (parts : List Segment) (b : ℕ) (answer : Option MidiMessage)
     → Answers answer (messages_of parts) (messages_of (extended parts b))
 answer_data parts b answer h =
     answers_at answer _ _ _ _ (by_end parts) (by_end (extended parts b) ∙ ap (λ (l : List MidiMessage). l
-        ++ segment_messages (last_segment (extended parts b)) 0) (closed_extended parts b))
+    ++ segment_messages (last_segment (extended parts b)) 0) (closed_extended parts b))
     (joined (closed_messages parts) _ _ answer h)
 
 pub answer_status : (parts : List Segment) (b : ℕ) (answer : Option MidiMessage)

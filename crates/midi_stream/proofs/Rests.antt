@@ -44,8 +44,12 @@ pub rests_is : (state : ParserState) (kept : List ℕ) (parts : List Segment) �
 rests_is Between kept parts h = rw (closed_not_open parts h.closed)
 rests_is (Begun status) kept parts h = rw (channel_open status (last_segment parts) h.channel, h.none)
 rests_is (Running status) kept parts h = rw (channel_open status (last_segment parts) h.channel, empty_not (last_segment parts).data_bytes h.some, h.unused)
-rests_is (Half status first) kept parts h = rw (channel_open status (last_segment parts) h.channel, h.unused, or_true
-    (is_empty (last_segment parts).data_bytes))
+rests_is (Half status first) kept parts h = rw (
+  channel_open status (last_segment parts) h.channel,
+  h.unused,
+  or_true
+      (is_empty (last_segment parts).data_bytes),
+)
 rests_is (InSysEx count) kept parts h = rw (sysex_open (last_segment parts) h.status)
 
 both_not : (a b : Bool) → b ≡ false → (a && b) ≡ false

@@ -17,7 +17,7 @@ appends_on (Some xs) None now items slice done count same was is = absurd was
 appends_on (Some xs) (Some ys) None items slice done count same was is = absurd is
 appends_on (Some xs) (Some ys) (Some zs) items slice done count same was is =
     is ∙ ap (λ (l : List ℕ). ys ++ take count (take (length l - done) (drop done l))) same ∙ ap (λ (l : List ℕ). ys ++ take count l) (rest_whole items done)
-        ∙ ap (λ (l : List ℕ). l ++ take count (drop done items)) was
+    ∙ ap (λ (l : List ℕ). l ++ take count (drop done items)) was
     ∙ append_assoc xs (take done items) (take count (drop done items))
     ∙ ap (λ (l : List ℕ). xs ++ l) (sym (take-add done count items))
 

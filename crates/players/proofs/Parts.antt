@@ -21,7 +21,7 @@ second_all P xs ys all k d lt =
     let l = length-append xs ys in
     let e : (length xs + k) - length xs ≡ k = omega arith in
     subst P (get_or-append_right xs ys (length xs) (length xs + k) d refl (omega arith)
-        ∙ ap (λ (i : ℕ). get_or ys i d) e) (all (length xs + k) d (omega (arith, l, lt)))
+    ∙ ap (λ (i : ℕ). get_or ys i d) e) (all (length xs + k) d (omega (arith, l, lt)))
 
 pub both_turned : (t : ℕ) (xs ys xs' ys' : List PlayerView) → length xs' ≡ length xs → AllTurned t xs xs' → AllTurned t ys ys'
     → AllTurned t (xs ++ ys) (xs' ++ ys')
@@ -31,7 +31,7 @@ both_turned t xs ys xs' ys' same first second k d lt = at (cases_lt k (length xs
   at (inr after) =
       let l = length-append xs ys in
       rw (get_or-append_right xs ys (length xs) k d refl after, get_or-append_right xs' ys' (length xs) k d same after)
-          (second (k - length xs) d (omega (arith, l, lt, after)))
+      (second (k - length xs) d (omega (arith, l, lt, after)))
 
 -- a list of one player
 pub one_turned : (t : ℕ) (ps : List PlayerView) (p q : PlayerView) → length ps ≡ 1 → p ≡ get_or ps 0 p → Turned t p q → AllTurned t ps (set ps 0 q)

@@ -47,7 +47,7 @@ change_clean message d =
     let b : unknown_format message ≡ None = row_none _ _ (not_a_dump (substatus message) _ other) in
     let c : wrong_count message ≡ None = row_none _ _ (not_a_dump (substatus message) _ other) in
     let e : wrong_length message ≡ None = row_none _ _ (change_length (substatus message) (length message) (wanted_length message) (group message) d.kind
-        d.least d.one) in
+    d.least d.one) in
     let f : wrong_checksum message ≡ None = row_none _ _ (not_a_dump (substatus message) _ other) in
     let g : high_value message ≡ None =
     row_none _ _ (value_good (substatus message) (group message) (number message) (greatest_value (number message)) (get_or message 5 0) d.value) in
@@ -79,7 +79,7 @@ param_frame message d g n =
     let three : get_or message 3 0 ≡ number message / 128 = omega (arith, g) in
     let four : get_or message 4 0 ≡ number message % 128 = omega (arith, g) in
     let head : message ≡ get_or message 0 0 ∷ get_or message 1 0 ∷ get_or message 2 0 ∷ get_or message 3 0 ∷ get_or message 4 0 ∷ get_or message 5 0
-        ∷ drop 6 message = heads_6 message (omega arith) in
+    ∷ drop 6 message = heads_6 message (omega arith) in
     let tail : drop 6 message ≡ slice_range message 6 (length message - 1) ++ get_or message (length message - 1) 0 ∷ [] = tail_end message 6 (omega arith) in
     let none : slice_range message 6 (length message - 1) ≡ [] = nothing_between message 6 (omega arith) in
     let end : drop 6 message ≡ 0xF7 ∷ [] = tail ∙ (ap (λ xs. xs ++ get_or message (length message - 1) 0 ∷ []) none ∙ ap (λ x. x ∷ []) plain.ended) in
@@ -101,7 +101,7 @@ other_frame message d other =
     let three : get_or message 3 0 ≡ 4 * group message + number message / 128 = omega arith in
     let four : get_or message 4 0 ≡ number message % 128 = omega arith in
     let head : message ≡ get_or message 0 0 ∷ get_or message 1 0 ∷ get_or message 2 0 ∷ get_or message 3 0 ∷ get_or message 4 0 ∷ drop 5 message =
-        heads_5 message (omega arith) in
+    heads_5 message (omega arith) in
     let tail : drop 5 message ≡ slice_range message 5 (length message - 1) ++ get_or message (length message - 1) 0 ∷ [] = tail_end message 5 (omega arith) in
     let size : length (slice_range message 5 (length message - 1)) ≡ length message - 1 - 5 = length-between message 5 (length message - 1) (omega arith) in
     record {
@@ -134,7 +134,7 @@ request_frame message plain s =
 -- ---- messages that are spelled so have these places
 pub param_places :
     (message : List ℕ) (d n v : ℕ) → IsParamChange message d n v → IsChangeMessage message × (group message ≡ 0) × (number message ≡ n) × (device message ≡ d)
-        × (get_or message 5 0 ≡ v)
+    × (get_or message 5 0 ≡ v)
 param_places message d n v h =
     let spelled : List ℕ = 0xF0 ∷ 0x43 ∷ (0x10 + d) ∷ (n / 128) ∷ (n % 128) ∷ v ∷ 0xF7 ∷ [] in
     let sixteen = h.sixteen in
@@ -197,5 +197,5 @@ request_places message d h =
     let least = h.least in
     let clean : IsData ((0x20 + d) ∷ rest) = data_cons (0x20 + d) rest (omega arith) h.bytes in
     let all : IsPlain spelled × (substatus spelled ≡ 2) × (device spelled ≡ d) =
-        (plain_message ((0x20 + d) ∷ rest) (omega arith) clean, omega arith, omega arith) in
+    (plain_message ((0x20 + d) ∷ rest) (omega arith) clean, omega arith, omega arith) in
     subst (λ t. IsPlain t × (substatus t ≡ 2) × (device t ≡ d)) (sym h.spelled) all

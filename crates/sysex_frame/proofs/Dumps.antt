@@ -43,11 +43,11 @@ dump_from_none message p s h =
     elim (format_known (substatus message) (format message) s (row_free _ _ two.0)) [
       | inl f ↦ (let n : length message ≡ 163 = sized ∙ wanted_voice (substatus message) (format message) s f in
           let counts = count_known_voice (substatus message) (length message) (format message) (get_or message 4 0) (get_or message 5 0) s (omega arith) f
-              (row_free _ _ three.0) in
+          (row_free _ _ three.0) in
           inl (record { plain = p; kind = s; form_is = f; high_is = counts.0; low_is = counts.1; size_is = n; checked = summed }))
       | inr f ↦ (let n : length message ≡ 4104 = sized ∙ wanted_cartridge (substatus message) (format message) s f in
           let counts = count_known_cartridge (substatus message) (length message) (format message) (get_or message 4 0) (get_or message 5 0) s (omega arith) f
-              (row_free _ _ three.0) in
+          (row_free _ _ three.0) in
           inr (record { plain = p; kind = s; form_is = f; high_is = counts.0; low_is = counts.1; size_is = n; checked = summed }))
     ]
 
@@ -59,10 +59,10 @@ voice_clean message d =
     let a = known_kind message (omega (arith, d.kind)) in
     let b : unknown_format message ≡ None = row_none _ _ (format_good (substatus message) (format message) 0 d.form_is (inl refl)) in
     let c : wrong_count message ≡ None = row_none _ _ (count_good_voice (substatus message) (length message) (format message) (get_or message 4 0)
-        (get_or message 5 0) d.form_is d.high_is d.low_is) in
+    (get_or message 5 0) d.form_is d.high_is d.low_is) in
     let e : wrong_length message ≡ None =
     row_none _ _ (dump_length (substatus message) (length message) (wanted_length message) (group message) d.kind (d.size_is
-        ∙ sym (wanted_voice (substatus message) (format message) d.kind d.form_is))) in
+    ∙ sym (wanted_voice (substatus message) (format message) d.kind d.form_is))) in
     let f : wrong_checksum message ≡ None = row_none _ _ (check_good (substatus message) (check message) (checksum_of (payload message)) d.checked) in
     let g : high_value message ≡ None = row_none _ _ (not_a_change (substatus message) _ (λ one. absurd (omega (arith, one, d.kind)))) in
     rw (a, b, c, e, f, g)
@@ -72,10 +72,10 @@ cartridge_clean message d =
     let a = known_kind message (omega (arith, d.kind)) in
     let b : unknown_format message ≡ None = row_none _ _ (format_good (substatus message) (format message) 9 d.form_is (inr refl)) in
     let c : wrong_count message ≡ None = row_none _ _ (count_good_cartridge (substatus message) (length message) (format message) (get_or message 4 0)
-        (get_or message 5 0) d.form_is d.high_is d.low_is) in
+    (get_or message 5 0) d.form_is d.high_is d.low_is) in
     let e : wrong_length message ≡ None =
     row_none _ _ (dump_length (substatus message) (length message) (wanted_length message) (group message) d.kind (d.size_is
-        ∙ sym (wanted_cartridge (substatus message) (format message) d.kind d.form_is))) in
+    ∙ sym (wanted_cartridge (substatus message) (format message) d.kind d.form_is))) in
     let f : wrong_checksum message ≡ None = row_none _ _ (check_good (substatus message) (check message) (checksum_of (payload message)) d.checked) in
     let g : high_value message ≡ None = row_none _ _ (not_a_change (substatus message) _ (λ one. absurd (omega (arith, one, d.kind)))) in
     rw (a, b, c, e, f, g)
@@ -89,7 +89,7 @@ dump_frame message form high low count d =
     let small : get_or message 2 0 < 16 = omega (arith, d.kind) in
     let same : get_or message 2 0 ≡ device message = omega arith in
     let head : message ≡ get_or message 0 0 ∷ get_or message 1 0 ∷ get_or message 2 0 ∷ get_or message 3 0 ∷ get_or message 4 0 ∷ get_or message 5 0
-        ∷ drop 6 message = heads_6 message (omega arith) in
+    ∷ drop 6 message = heads_6 message (omega arith) in
     let tail : drop 6 message ≡ payload message ++ check message ∷ get_or message (length message - 1) 0 ∷ [] = tail_two message 6 (omega arith) in
     record {
       sixteen = omega arith;
@@ -115,10 +115,10 @@ spelled_dump d form high low c p ld lf lh ll seven checks =
     let same : 0xF0 ∷ 0x43 ∷ (mid ++ 0xF7 ∷ []) ≡ message = ap (λ rest. 0xF0 ∷ 0x43 ∷ d ∷ form ∷ high ∷ low ∷ rest) (append_assoc p (c ∷ []) (0xF7 ∷ [])) in
     let size : length (p ++ c ∷ 0xF7 ∷ []) ≡ length p + 2 = length-append p (c ∷ 0xF7 ∷ []) in
     let own : payload message ≡ p = ap (λ n. take n (p ++ c ∷ 0xF7 ∷ [])) (let e : length message - 2 - 6 ≡ length p = omega arith in e)
-        ∙ take_at p (c ∷ 0xF7 ∷ []) (length p) refl in
+    ∙ take_at p (c ∷ 0xF7 ∷ []) (length p) refl in
     let last : check message ≡ c =
     ap (λ n. get_or message n 0) (let e : length message - 2 ≡ suc (suc (suc (suc (suc (suc (length p)))))) = omega arith in e)
-        ∙ get_or_at p c (0xF7 ∷ []) 0 (length p) refl in (
+    ∙ get_or_at p c (0xF7 ∷ []) 0 (length p) refl in (
       record {
         plain = subst IsPlain same (plain_message mid (omega arith) clean);
         kind = omega arith;
@@ -138,5 +138,5 @@ pub dump_places :
 dump_places message d form high low count p lf lh ll h =
     subst (λ t. IsDumpMessage t form high low (count + 8) × (payload t ≡ p) × (device t ≡ d)) (sym h.spelled)
     (subst (λ n. let t : List ℕ = 0xF0 ∷ 0x43 ∷ d ∷ form ∷ high ∷ low ∷ (p ++ h.check ∷ 0xF7 ∷ []) in IsDumpMessage t form high low (n + 8) × (payload t ≡ p)
-        × (device t ≡ d)) h.size
+    × (device t ≡ d)) h.size
     (spelled_dump d form high low h.check p h.sixteen lf lh ll h.bytes h.checked))

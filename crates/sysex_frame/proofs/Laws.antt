@@ -36,8 +36,11 @@ reads_other message s h =
     ]
 
 reads_request : (message : List ℕ) → substatus message ≡ 2 → reading message ≡ DumpRequest (device message)
-reads_request message s = rw (ne_eqb (substatus message) 0 (λ z. absurd (omega (arith, z, s))), ne_eqb (substatus message) 1 (λ z.
-    absurd (omega (arith, z, s))))
+reads_request message s = rw (
+  ne_eqb (substatus message) 0 (λ z. absurd (omega (arith, z, s))),
+  ne_eqb (substatus message) 1 (λ z.
+      absurd (omega (arith, z, s))),
+)
 
 -- ---- bytes without a fault are a message
 sound_change : (message : List ℕ) → IsChangeMessage message → IsFrame message (reading message)
@@ -126,6 +129,6 @@ answer_frame message (Err e) a = tt
 
 pub answer_only :
     (message : List ℕ) (r : Result Frame FrameFault) → Answers r (first_fault message) (reading message) → (content : Content) → IsFrame message content
-        → IsOkAnd r (λ frame. content_of frame ≡ content)
+    → IsOkAnd r (λ frame. content_of frame ≡ content)
 answer_only message (Ok f) a content h = a.1 ∙ (complete message content h).1
 answer_only message (Err e) a content h = let free = (complete message content h).0 in absurd (cc (a, free))

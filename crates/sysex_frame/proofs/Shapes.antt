@@ -55,7 +55,7 @@ tail_two xs n h =
     let prefix : slice_range xs n (length xs - 1) ≡ take k rest ++ get_or xs (length xs - 2) 0 ∷ [] =
     ap (λ m. take m rest) (let e : length xs - 1 - n ≡ k + 1 = omega arith in e) ∙ (more ∙ ap (λ x. take k rest ++ x ∷ []) at) in
     tail_end xs n (omega arith) ∙ (ap (λ ys. ys ++ get_or xs (length xs - 1) 0 ∷ []) prefix
-        ∙ append_assoc (take k rest) (get_or xs (length xs - 2) 0 ∷ []) (get_or xs (length xs - 1) 0 ∷ []))
+    ∙ append_assoc (take k rest) (get_or xs (length xs - 2) 0 ∷ []) (get_or xs (length xs - 1) 0 ∷ []))
 
 -- a part of the data bytes
 pub range_is_data : (xs : List ℕ) (n j : ℕ) → j ≤ length xs → ((k : ℕ) → n ≤ k → k < j → get_or xs k 0 < 128) → IsData (slice_range xs n j)

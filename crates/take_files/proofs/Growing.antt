@@ -25,7 +25,7 @@ each_more journal l blocks scripts h f i d below =
       | inl before ↦
           subst (λ (x : LoggedData). Follows (take i (journal ++ l ∷ [])) blocks scripts x) (sym (get_or-append journal (l ∷ []) d i before))
           (subst (λ (ls : List LoggedData). Follows ls blocks scripts (get_or journal i d)) (sym (take-append-le i journal (l ∷ []) (omega arith)))
-              (h.each i d before))
+          (h.each i d before))
       | inr past ↦
           let last : i ≡ length journal = omega (arith, count) in
           subst (λ (n : ℕ). Follows (take n (journal ++ l ∷ [])) blocks scripts (get_or (journal ++ l ∷ []) n d)) (sym last)
@@ -58,7 +58,7 @@ count_more : (script : ℕ) (journal : List LoggedData) (l : LoggedData) → cou
     ∷ []) ≡ count_of script journal + cond (l.entry.script == script) 1 0
 count_more script journal l =
     ap length (filter-append (λ x. x.entry.script == script) journal (l ∷ []))
-        ∙ length-append (filter (λ x. x.entry.script == script) journal) (filter (λ x. x.entry.script == script) (l ∷ []))
+    ∙ length-append (filter (λ x. x.entry.script == script) journal) (filter (λ x. x.entry.script == script) (l ∷ []))
     ∙ ap (λ (n : ℕ). count_of script journal + n) (one (l.entry.script == script)) where
       one : (t : Bool) → length (cond t (l ∷ []) []) ≡ cond t 1 0
       one true = refl
@@ -90,7 +90,7 @@ tally_more journal l scripts last counts h below = record {
         | inr other ↦
             let apart : script ≢ l.entry.script = λ e. other (sym e) in
             get_or-set_other counts l.entry.script script (get_or counts l.entry.script 0 + 1) 0 apart ∙ h.each script within
-                ∙ sym (count_other script journal l other)
+            ∙ sym (count_other script journal l other)
       ];
 } where
   at_script : get_or (set counts l.entry.script (get_or counts l.entry.script 0 + 1)) l.entry.script 0 ≡ get_or counts l.entry.script 0 + 1
@@ -142,5 +142,5 @@ pub tally_read : (journal : List LoggedData) (l : LoggedData) (scripts last x : 
     → x ≡ get_or counts l.entry.script x → IsTally scripts l.block (set counts l.entry.script (x + 1)) (journal ++ l ∷ [])
 tally_read journal l scripts last x counts h below e =
     subst (λ (n : ℕ). IsTally scripts l.block (set counts l.entry.script (n + 1)) (journal ++ l ∷ []))
-        (sym (counted journal scripts last l.entry.script x counts h below e))
+    (sym (counted journal scripts last l.entry.script x counts h below e))
     (tally_more journal l scripts last counts h below)

@@ -75,7 +75,7 @@ count_is b count ls is = is ∙ ap length (run_is b ls)
 
 order_by : (b : ℕ) (l : Logged) (ls : List Logged) (t : Bool) → (l.block == b) ≡ t → AreOrdered b (journal_data (l ∷ ls))
     → (AreOrdered b (journal_data ls) → AreOrdered (b + 1) (journal_data (drop (count_at b ls) ls)))
-        → AreOrdered (b + 1) (journal_data (drop (count_at b (l ∷ ls)) (l ∷ ls)))
+    → AreOrdered (b + 1) (journal_data (drop (count_at b (l ∷ ls)) (l ∷ ls)))
 order_by b l ls true is order rest =
     let same : l.block ≡ b = eqb-true l.block b is in
     rw is (rest (subst (λ (n : ℕ). AreOrdered n (journal_data ls)) same order.2))
@@ -161,7 +161,7 @@ pub plays : (journal : List LoggedData) (waiting : List Logged) (b count : ℕ) 
     → applied (state_before journal b) (map command_in (take count waiting)) ≡ state_at journal b
 plays journal waiting b count is order rest =
     ap (applied (state_before journal b)) (first_commands b count waiting is order ∙ sym (commands_data waiting b) ∙ sym (rest b (omega arith)))
-        ∙ sym (state_is journal b)
+    ∙ sym (state_is journal b)
 
 pub sounds : (journal : List LoggedData) (b : ℕ) → samples (state_at journal b) ≡ sound journal b
 unfolding sound

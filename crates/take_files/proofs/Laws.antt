@@ -50,7 +50,7 @@ after : (prefix more : List LoggedData) (l : LoggedData) (blocks scripts : ℕ) 
 after prefix more l blocks scripts h =
     let count : length (prefix ++ l ∷ more) ≡ length prefix + length (l ∷ more) = length-append prefix (l ∷ more) in
     let f : Follows (take (length prefix) (prefix ++ l ∷ more)) blocks scripts (get_or (prefix ++ l ∷ more) (length prefix) l) =
-        h.each (length prefix) l (omega (arith, count)) in
+    h.each (length prefix) l (omega (arith, count)) in
     subst (λ (x : LoggedData). Follows prefix blocks scripts x) (get_or-append_seam prefix l more l)
     (subst (λ (ls : List LoggedData). Follows ls blocks scripts (get_or (prefix ++ l ∷ more) (length prefix) l)) (take-append_seam prefix (l ∷ more)) f)
 

@@ -80,7 +80,7 @@ spaced_whole word [] h hs = h
 spaced_whole word (next ∷ more) h hs =
     All-append (λ byte. (byte == 10) ≡ false) word (32 ∷ spaced next more) h
     (All-cons (λ byte. (byte == 10) ≡ false) 32 (spaced next more) refl (spaced_whole next more (All-head (HasNo 10) next more hs)
-        (All-tail (HasNo 10) next more hs)))
+    (All-tail (HasNo 10) next more hs)))
 
 number_whole : (n : ℕ) → n < 2 ^ 32 → HasNo 10 (decimal n)
 number_whole n l = decimal_whole 10 n (omega arith) l
@@ -112,7 +112,7 @@ text_whole (EndsNote channel key) (a, b) = two_whole (codes "off") channel key (
 text_whole (Bends channel value) (a, b) = two_whole (codes "bend") channel value (codes_whole 10 (codes "bend") refl) (omega arith) (omega arith)
 text_whole (Controls channel number value) (a, known, b) =
     three_whole (codes "control") channel number value (codes_whole 10 (codes "control") refl) (omega arith) (omega (arith, known_small number known))
-        (omega arith)
+    (omega arith)
 text_whole (PicksProgram channel number) (a, b) =
     two_whole (codes "program") channel number (codes_whole 10 (codes "program") refl) (omega arith) (omega arith)
 text_whole (SetsParameter number value) (a, b) =
@@ -133,9 +133,9 @@ line_more l more = append_assoc (entry_text l) (10 ∷ []) more
 pub entry_whole : (l : LoggedData) → IsWritable l → HasNo 10 (entry_text l)
 entry_whole l w =
     spaced_whole (decimal l.block) (decimal l.entry.sent_at ∷ decimal l.entry.script ∷ decimal l.entry.seq ∷ text l.entry.command
-        ∷ []) (number_whole l.block w.block)
+    ∷ []) (number_whole l.block w.block)
     (All-cons (HasNo 10) (decimal l.entry.sent_at) (decimal l.entry.script ∷ decimal l.entry.seq ∷ text l.entry.command
-        ∷ []) (number_whole l.entry.sent_at w.due)
+    ∷ []) (number_whole l.entry.sent_at w.due)
     (All-cons (HasNo 10) (decimal l.entry.script) (decimal l.entry.seq ∷ text l.entry.command ∷ []) (number_whole l.entry.script w.script)
     (All-cons (HasNo 10) (decimal l.entry.seq) (text l.entry.command ∷ []) (number_whole l.entry.seq w.seq)
     (All-cons (HasNo 10) (text l.entry.command) [] (text_whole l.entry.command w.command) (All-nil (HasNo 10))))))
@@ -196,7 +196,7 @@ pub header_same : (a b c d : ℕ) (xs ys : List ℕ) → a < 2 ^ 32 → b < 2 ^ 
     → (a ≡ c) × (b ≡ d) × (xs ≡ ys)
 header_same a b c d xs ys la lb lc ld e =
     let h = prefix_same 10 (header_text a b) (header_text c d) xs ys (header_whole a b la lb) (header_whole c d lc ld) (sym (header_more a b xs) ∙ e
-        ∙ header_more c d ys) in
+    ∙ header_more c d ys) in
     let n = header_text_same a b c d la lb lc ld h.0 in
     (n.0, n.1, h.1)
 

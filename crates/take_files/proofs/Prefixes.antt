@@ -64,7 +64,7 @@ third_number whole one rest more n m block due script seq e next ln lm lb ld is 
 pub fourth_number : (whole one two rest more : List ℕ) (n m k block due script seq : ℕ) → whole ≡ decimal n ++ 32 ∷ one → one ≡ decimal m ++ 32 ∷ two
     → two ≡ decimal k ++ 32 ∷ rest
     → n < 2 ^ 32 → m < 2 ^ 32 → k < 2 ^ 32 → block < 2 ^ 32 → due < 2 ^ 32 → script < 2 ^ 32 → whole ≡ numbered block due script seq more → rest ≡ decimal seq
-        ++ 32 ∷ more
+    ++ 32 ∷ more
 fourth_number whole one two rest more n m k block due script seq e next then ln lm lk lb ld ls is =
     (next_number two rest _ k script then lk ls (third_number whole one two more n m block due script seq e next ln lm lb ld is)).1
 
@@ -82,7 +82,7 @@ pub entry_command : (line rest : List ℕ) (a b c d : ℕ) (l : LoggedData) → 
     → entry_text l ≡ line → text l.entry.command ≡ rest
 entry_command line rest a b c d l e la lb lc ld w is =
     sym (numbered_same a b c d l.block l.entry.sent_at l.entry.script l.entry.seq rest (text l.entry.command) la lb lc ld w.block w.due w.script w.seq (sym e
-        ∙ sym is))
+    ∙ sym is))
 
 -- ---- the two numbers of a first line
 
@@ -124,7 +124,7 @@ header_found line rest last word blocks scripts e next more within some =
       few_scripts = w.2;
       spelled = e ∙ ap (λ (bs : List ℕ). codes "order engine 1 blocks " ++ bs)
           (next ∙ ap (λ (bs : List ℕ). decimal blocks ++ 32 ∷ bs) (more ∙ ap (λ (bs : List ℕ). codes "scripts " ++ bs) w.0))
-              ∙ sym (header_first blocks scripts);
+          ∙ sym (header_first blocks scripts);
     }
 
 -- ---- lengths

@@ -165,7 +165,7 @@ pub entry_more : (o : OrderData) (e : LoggedData) (line : List ℕ) → entry_te
 unfolding order order_line
 entry_more o e line is =
     ap (λ (bs : List ℕ). order_header o.blocks o.scripts ++ bs) (flat_map-append order_line o.journal (e ∷ [])
-        ∙ ap (λ (bs : List ℕ). lines o.journal ++ bs) one)
+    ∙ ap (λ (bs : List ℕ). lines o.journal ++ bs) one)
     ∙ sym (append_assoc (order_header o.blocks o.scripts) (lines o.journal) (line ++ 10 ∷ [])) where
       one : lines (e ∷ []) ≡ line ++ 10 ∷ []
       one = append-nil (order_line e) ∙ ap (λ (bs : List ℕ). bs ++ 10 ∷ []) is

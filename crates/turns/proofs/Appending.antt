@@ -54,7 +54,7 @@ piece_stopped o before now name so_far piece all rest was (inl same) is =
 piece_stopped o before now name so_far piece all rest was (inr (n, fits, more)) is =
     let at : all ≡ (so_far ++ take n piece) ++ (drop n piece ++ rest) = cut_off all so_far piece rest n is in
     let l : length all ≡ length (so_far ++ take n piece) + length (drop n piece ++ rest) = ap length at
-        ∙ length-append (so_far ++ take n piece) (drop n piece ++ rest) in
+    ∙ length-append (so_far ++ take n piece) (drop n piece ++ rest) in
     inr (
       length (so_far ++ take n piece),
       omega (arith, l),
@@ -76,19 +76,19 @@ module _ (sound order : List ℕ) (ne : sound ≢ order) where
       let x' : List ℕ = content m sound ++ (a ++ z) in
       let e : x ++ z ≡ x' = append_assoc (content m sound) a z in
       let y : content (insert m sound x) order ++ b ≡ content (insert m sound x') order ++ b =
-          ap (λ (ys : List ℕ). ys ++ b) (other_kept m x ∙ sym (other_kept m x')) in
+      ap (λ (ys : List ℕ). ys ++ b) (other_kept m x ∙ sym (other_kept m x')) in
       appended_first m sound x order (content (insert m sound x) order ++ b) z ne ∙ (λ i. insert (insert m sound (e i)) order (y i))
 
   pub sound_grows : (o before now : Option Files) (a b z : List ℕ)
       → before ≡ option_map (both_appended sound a order b) o → now ≡ option_map (appended sound z) before
-          → now ≡ option_map (both_appended sound (a ++ z) order b) o
+      → now ≡ option_map (both_appended sound (a ++ z) order b) o
   sound_grows o before now a b z was is =
       is ∙ ap (option_map (appended sound z)) was ∙ then_mapped (both_appended sound a order b) (appended sound z) o
       ∙ mapped_alike _ _ (λ m. after_both m a b z) o
 
   pub order_grows : (o before now : Option Files) (a b z : List ℕ)
       → before ≡ option_map (both_appended sound a order b) o → now ≡ option_map (appended order z) before
-          → now ≡ option_map (both_appended sound a order (b ++ z)) o
+      → now ≡ option_map (both_appended sound a order (b ++ z)) o
   order_grows o before now a b z was is =
       is ∙ ap (option_map (appended order z)) was ∙ then_mapped (both_appended sound a order b) (appended order z) o
       ∙ mapped_alike _ _ (λ m. appended_again (appended sound a m) order b z) o
@@ -129,7 +129,7 @@ module _ (sound order : List ℕ) (ne : sound ≢ order) where
       begun_at o now a b samples lines (z ++ rest) rest' (same ∙ was) (at_a ∙ append_assoc a z rest) at_b
   sound_stopped o before now a b z samples lines rest rest' was (inr (n, fits, is)) at_a at_b =
       begun_at o now (a ++ take n z) b samples lines (drop n z ++ rest) rest' (sound_grows o before now a b (take n z) was is) (cut_off samples a z rest n at_a)
-          at_b
+      at_b
 
   pub order_stopped : (o before now : Option Files) (a b z samples lines rest rest' : List ℕ) → before ≡ option_map (both_appended sound a order b) o
       → AppendedSome order z before now
@@ -138,4 +138,4 @@ module _ (sound order : List ℕ) (ne : sound ≢ order) where
       begun_at o now a b samples lines rest (z ++ rest') (same ∙ was) at_a (at_b ∙ append_assoc b z rest')
   order_stopped o before now a b z samples lines rest rest' was (inr (n, fits, is)) at_a at_b =
       begun_at o now a (b ++ take n z) samples lines rest (drop n z ++ rest') (order_grows o before now a b (take n z) was is) at_a
-          (cut_off lines b z rest' n at_b)
+      (cut_off lines b z rest' n at_b)

@@ -34,7 +34,7 @@ are_fresh line players ends plans new ends_are plans_are quotas logged = (
       let l : length ends ≡ length players = sym (ap length ends_are) ∙ length-map players (λ (p : PlayerView). p.end) in
       let end : (get_or players k d).end ≡ new_end line k =
       sym (get_or-map (λ (p : PlayerView). p.end) players k d d.end lt) ∙ ap (λ (es : List SendView). get_or es k d.end) ends_are
-          ∙ new.1 k d.end (omega (arith, lt, l)) in
+      ∙ new.1 k d.end (omega (arith, lt, l)) in
       let quota : length (get_or players k d).left ≡ quota_at line.quotas k =
       ap length (sym (get_or-map (λ (p : PlayerView). p.left) players k d [] lt) ∙ ap (λ (ps : List (List PlannedData)). get_or ps k []) plans_are)
       ∙ sym (ap (λ (qs : List ℕ). quota_at qs k) quotas ∙ list.get_or-map length plans k []) in
@@ -51,7 +51,7 @@ all_taken line players ends plans rest new ends_are split quotas =
     let c : length plans ≡ length (plans_of players) + length rest = sym (ap length split) ∙ length-append (plans_of players) rest in
     let d : length (plans_of players) ≡ length players = length-map players (λ (p : PlayerView). p.left) in
     sym (append-nil (plans_of players)) ∙ ap (λ (xs : List (List PlannedData)). plans_of players
-        ++ xs) (sym (none_left rest (omega (arith, a, b, c, d, new.0)))) ∙ split
+    ++ xs) (sym (none_left rest (omega (arith, a, b, c, d, new.0)))) ∙ split
 
 -- one more item of a list was gone through
 pub gone_through : {A : Type 0} (xs before zs all : List A) (x : A) → before ≡ x ∷ zs → xs ++ before ≡ all → (xs ++ x ∷ []) ++ zs ≡ all
@@ -69,4 +69,4 @@ each_due blocks players plans is all k d lt =
     let l : length plans ≡ length players = sym (ap length is) ∙ length-map players (λ (p : PlayerView). p.left) in
     subst (λ (plan : List PlannedData). AllBelow blocks (due_blocks plan))
     (ap (λ (ps : List (List PlannedData)). get_or ps k d.left) (sym is) ∙ get_or-map (λ (p : PlayerView). p.left) players k d d.left lt)
-        (all k d.left (omega (arith, l, lt)))
+    (all k d.left (omega (arith, l, lt)))

@@ -89,13 +89,13 @@ player_timed blocks k journal p q below h =
     let all : due_blocks p.left ≡ due_blocks h.sent ++ due_blocks q.left = ap due_blocks h.split ∙ dues_append h.sent q.left in
     subst (λ (ds : List ℕ). AreTimed p.end.line.places (others_of p.end) blocks ds (blocks_of k journal) q.end.refusals) (sym all)
     (times p.end.line.places (others_of p.end) blocks (due_blocks h.sent) (due_blocks q.left) (blocks_of k journal) q.end.refusals
-        (below_left blocks (due_blocks h.sent) (due_blocks q.left) (subst (AllBelow blocks) all below)) h.kept)
+    (below_left blocks (due_blocks h.sent) (due_blocks q.left) (subst (AllBelow blocks) all below)) h.kept)
 
 -- after all turns
 pub are_on_time : (blocks : ℕ) (line : LineView) (before : List PlayerView) (r : RendererView) (players : List PlayerView) (journal : List LoggedData)
     → AreFresh line before
     → ((k : ℕ) (d : PlayerView) → k < length before → AllBelow blocks (due_blocks (get_or before k d).left)) → AfterTurns blocks line before r players
-        → journal ≡ r.journal
+    → journal ≡ r.journal
     → AreOnTime line blocks (plans_of before) journal players
 are_on_time blocks line before r players journal fresh below h same k d lt =
     let inside : k < length before = omega (arith, lt, long before) in

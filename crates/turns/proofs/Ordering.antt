@@ -21,7 +21,7 @@ lines_push items i x lt is =
 -- what comes before an entry, the entry, and what follows it
 pub lines_split : (items : List Logged) (i : ℕ) (x : Logged) → i < length items → x ≡ get_or items i x
     → order_lines (journal_data items) ≡ (order_lines (journal_data (take i items)) ++ order_line (logged_data x))
-        ++ order_lines (journal_data (drop (i + 1) items))
+    ++ order_lines (journal_data (drop (i + 1) items))
 lines_split items i x lt is =
     ap (λ (xs : List Logged). order_lines (journal_data xs)) (sym (take-append-drop (i + 1) items))
     ∙ ap order_lines (map-append logged_data (take (i + 1) items) (drop (i + 1) items))
@@ -40,7 +40,7 @@ pub lines_more : (before journal : List LoggedData) (items new : List Logged) (n
 lines_more before journal items new n same prefix is =
     let back : drop n journal ≡ journal_data new = sym (ap journal_data is ∙ data_after n items ∙ ap (drop n) same) in
     ap order_lines (sym (take-append-drop n journal)) ∙ flat_map-append order_line (take n journal) (drop n journal)
-        ∙ (λ i. order_lines (prefix i) ++ order_lines (back i))
+    ∙ (λ i. order_lines (prefix i) ++ order_lines (back i))
 
 pub after_all : (P : LoggedData → Type 0) (journal : List LoggedData) (items new : List Logged) (n : ℕ) → journal_data items ≡ journal → new ≡ drop n items
     → All P journal → All P (journal_data new)

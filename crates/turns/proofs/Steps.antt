@@ -29,7 +29,7 @@ entries_append script seq [] ys = let z : seq ≡ seq + 0 = omega arith in ap (�
 entries_append script seq (x ∷ xs) ys =
     let z : (seq + 1) + length xs ≡ seq + length (x ∷ xs) = omega arith in
     ap (λ (es : List EntryData). record { script = script; seq = seq; sent_at = x.due; command = x.command } ∷ es) (entries_append script (seq + 1) xs ys
-        ∙ ap (λ (n : ℕ). entries script (seq + 1) xs ++ entries script n ys) z)
+    ∙ ap (λ (n : ℕ). entries script (seq + 1) xs ++ entries script n ys) z)
 
 -- what is logged at one block has that block alone
 logged_blocks : (k t : ℕ) (xs : List EntryData) → blocks_of k (map (logged_at t) xs) ≡ replicate (length (blocks_of k (map (logged_at t) xs))) t
@@ -37,10 +37,10 @@ logged_blocks k t [] = refl
 logged_blocks k t (x ∷ xs) = at (x.script == k) (logged_blocks k t xs) where
   at : (b : Bool) → blocks_of k (map (logged_at t) xs) ≡ replicate (length (blocks_of k (map (logged_at t) xs))) t
       → map (λ (l : LoggedData). l.block) (cond b (logged_at t x ∷ filter (λ (l : LoggedData). l.entry.script == k) (map (logged_at t) xs))
-          (filter (λ (l : LoggedData). l.entry.script == k) (map (logged_at t) xs)))
+      (filter (λ (l : LoggedData). l.entry.script == k) (map (logged_at t) xs)))
       ≡ replicate (length (map (λ (l : LoggedData). l.block) (cond b (logged_at t x
-          ∷ filter (λ (l : LoggedData). l.entry.script == k) (map (logged_at t) xs))
-          (filter (λ (l : LoggedData). l.entry.script == k) (map (logged_at t) xs))))) t
+      ∷ filter (λ (l : LoggedData). l.entry.script == k) (map (logged_at t) xs))
+      (filter (λ (l : LoggedData). l.entry.script == k) (map (logged_at t) xs))))) t
   at true h = ap (λ (ts : List ℕ). t ∷ ts) h
   at false h = h
 
@@ -69,7 +69,7 @@ player_more t k journal xs p q q1 q2 small h turned end left logged met =
     let number : q.end.number ≡ k = h.number ∙ h.own in
     let list : q1.end.list ≡ entries k 0 (h.sent ++ more) =
     a.list ∙ (λ i. h.list i ++ entries (number i) (prefix i) more) ∙ (λ i. entries k 0 h.sent ++ entries k (sym (zero-add (length h.sent)) i) more)
-        ∙ sym (entries_append k 0 h.sent more) in
+    ∙ sym (entries_append k 0 h.sent more) in
     let list2 : q2.end.list ≡ entries k 0 (h.sent ++ more) = ap (λ (e : SendView). e.list) end ∙ list in
     let many : length (blocks_of k (journal ++ map (logged_at t) xs)) ≡ length (blocks_of k journal) + length (due_blocks more) =
     let l : length q2.end.list ≡ length h.sent + length more = ap length list2 ∙ length-entries k 0 (h.sent ++ more) ∙ length-append h.sent more in
@@ -83,16 +83,16 @@ player_more t k journal xs p q q1 q2 small h turned end left logged met =
     let count : length q1.end.list ≡ length (due_blocks h.sent ++ due_blocks more) =
     ap length list ∙ length-entries k 0 (h.sent ++ more) ∙ length-append h.sent more
     ∙ (λ i. sym (length-map h.sent (λ (c : PlannedData). c.due)) i + sym (length-map more (λ (c : PlannedData). c.due)) i)
-        ∙ sym (length-append (due_blocks h.sent) (due_blocks more)) in
+    ∙ sym (length-append (due_blocks h.sent) (due_blocks more)) in
     let kept : HasKept p.end.line.places (others_of p.end) t (due_blocks h.sent) (due_blocks more ++ due_blocks q1.left) (blocks_of k journal) q.end.refusals =
     subst (λ (ds : List ℕ). HasKept p.end.line.places (others_of p.end) t (due_blocks h.sent) ds (blocks_of k journal) q.end.refusals) (ap due_blocks a.split
-        ∙ dues_append more q1.left) h.kept in
+    ∙ dues_append more q1.left) h.kept in
     let few : q.end.refusals ≤ t = subst (λ (n : ℕ). n ≤ t) (sym kept.late)
-        (few_late (due_blocks h.sent ++ (due_blocks more ++ due_blocks q1.left)) (blocks_of k journal) t) in
+    (few_late (due_blocks h.sent ++ (due_blocks more ++ due_blocks q1.left)) (blocks_of k journal) t) in
     let after : HasKept p.end.line.places (others_of p.end) (t + 1) (due_blocks h.sent ++ due_blocks more) (due_blocks q1.left) (blocks_of k journal
-        ++ replicate (length (due_blocks more)) t) q1.end.refusals =
+    ++ replicate (length (due_blocks more)) t) q1.end.refusals =
     one_turn p.end.line.places (others_of p.end) t (due_blocks h.sent) (due_blocks more) (due_blocks q1.left) (blocks_of k journal) q.end.refusals
-        q1.end.refusals kept a.due
+    q1.end.refusals kept a.due
     (ended turned.1 few place others count) in
     record {
       sent = h.sent ++ more;
@@ -109,7 +109,7 @@ player_more t k journal xs p q q1 q2 small h turned end left logged met =
       ended : (Stayed t q q1 ⊎ WasStopped t q q1) → q.end.refusals ≤ t → q1.end.line ≡ p.end.line → others_of q1.end ≡ others_of p.end
           → length q1.end.list ≡ length (due_blocks h.sent ++ due_blocks turned.0.sent)
           → Ended p.end.line.places (others_of p.end) t (length (due_blocks h.sent ++ due_blocks turned.0.sent)) (due_blocks q1.left) q.end.refusals
-              q1.end.refusals
+          q1.end.refusals
       ended (inl s) few place others count = inl s
       ended (inr s) few place others count =
           inr (
@@ -187,9 +187,9 @@ turn_more t line before r r1 r2 ps ps1 ps2 small h turned many logs logs2 counte
           let is = counted.each k d in_ps1 in
           subst (λ (j : List LoggedData). HadTurns (t + 1) j k (get_or before k d) (get_or ps2 k d)) (sym log)
           (player_more t k r.journal all.1.entries (get_or before k d) (get_or ps k d) (get_or ps1 k d) (get_or ps2 k d) small (h.played k d lt)
-              (turned.1 k d in_ps)
+          (turned.1 k d in_ps)
           (ap (λ (p : PlayerView). p.end) is) (ap (λ (p : PlayerView). p.left) is) (ap (λ (p : PlayerView). p.logged) is
-              ∙ ap (λ (j : List LoggedData). length (blocks_of k j)) log) (met k d in_ps2));
+          ∙ ap (λ (j : List LoggedData). length (blocks_of k j)) log) (met k d in_ps2));
       ready = λ k d lt.
           let in_ps1 : k < length ps1 = omega (arith, lt, counted.many) in
           let is = counted.each k d in_ps1 in
@@ -214,8 +214,8 @@ turns_none line r ps fresh new = record {
 pub turn_after : (t : ℕ) (line : LineView) (r r1 r2 : RendererView) (items : List Logged) (ps ps1 ps2 : List PlayerView)
     → t < 4294967295 → HaveTurned line t ps ps1 → length ps1 ≡ length ps → LogsSome (at_block t r) r1 → journal_data items ≡ r.journal → LogsSome r1 r2
     → ((b : List PlayerView) → HaveCounted (take (length items) r1.journal) b ps1 → HaveCounted r2.journal b ps2)
-        → All (λ (p : PlayerView). p.logged ≡ length p.end.list) ps2
+    → All (λ (p : PlayerView). p.logged ≡ length p.end.list) ps2
     → (before : List PlayerView) → AfterTurns t line before r ps → AfterTurns (t + 1) line before r2 ps2
 turn_after t line r r1 r2 items ps ps1 ps2 small turned many logs same logs2 counted met before h =
     turn_more t line before r r1 r2 ps ps1 ps2 small h turned many logs logs2
-        (counted ps1 (counted_start t line before r r1 items ps ps1 h turned many logs same)) met
+    (counted ps1 (counted_start t line before r r1 items ps ps1 h turned many logs same)) met

@@ -66,7 +66,7 @@ cause_from (Err e) before now other_before other_now first other_first P same ot
 lines_prefix : (before journal : List LoggedData) (n : ℕ) → take n journal ≡ before → order_lines journal ≡ order_lines before ++ order_lines (drop n journal)
 lines_prefix before journal n prefix =
     ap order_lines (sym (take-append-drop n journal)) ∙ flat_map-append order_line (take n journal) (drop n journal)
-        ∙ ap (λ (j : List LoggedData). order_lines j ++ order_lines (drop n journal)) prefix
+    ∙ ap (λ (j : List LoggedData). order_lines j ++ order_lines (drop n journal)) prefix
 
 module _ (sound_name order : List ℕ) (ne : sound_name ≢ order) (o : Option Files) where
   -- before the first turn
@@ -80,18 +80,18 @@ module _ (sound_name order : List ℕ) (ne : sound_name ≢ order) (o : Option F
 
   pub block_stopped : (before now : Option Files) (t blocks n : ℕ) (old journal : List LoggedData) (samples : List ℤ) → t ≤ blocks
       → before ≡ option_map (both_appended sound_name (wav_blocks old (t - 1)) order (order_lines old)) o
-          → AppendedSome sound_name (block_before t samples) before now
+      → AppendedSome sound_name (block_before t samples) before now
       → wav_blocks journal t ≡ wav_blocks old (t - 1) ++ block_before t samples → take n journal ≡ old
       → BothBegun sound_name (wav_blocks journal blocks) order (order_lines journal) o now
   block_stopped before now t blocks n old journal samples le was some heard prefix =
       let w = wav_prefix journal t blocks le in
       sound_stopped sound_name order ne o before now (wav_blocks old (t - 1)) (order_lines old) (block_before t samples) (wav_blocks journal blocks)
-          (order_lines journal) w.0 (order_lines (drop n journal)) was some
+      (order_lines journal) w.0 (order_lines (drop n journal)) was some
       (w.1 ∙ ap (λ (xs : List ℕ). xs ++ w.0) heard) (lines_prefix old journal n prefix)
 
   pub block_written : (before now : Option Files) (t : ℕ) (old journal : List LoggedData) (samples : List ℤ)
       → before ≡ option_map (both_appended sound_name (wav_blocks old (t - 1)) order (order_lines old)) o
-          → now ≡ option_map (appended sound_name (block_before t samples)) before
+      → now ≡ option_map (appended sound_name (block_before t samples)) before
       → wav_blocks journal t ≡ wav_blocks old (t - 1) ++ block_before t samples
       → now ≡ option_map (both_appended sound_name (wav_blocks journal t) order (order_lines old)) o
   block_written before now t old journal samples was is heard =
@@ -105,12 +105,12 @@ module _ (sound_name order : List ℕ) (ne : sound_name ≢ order) (o : Option F
   lines_stopped before now t blocks old journal new le was some lines =
       let w = wav_prefix journal t blocks le in
       order_stopped sound_name order ne o before now (wav_blocks journal t) (order_lines old) (order_lines new) (wav_blocks journal blocks)
-          (order_lines journal) w.0 [] was some w.1
+      (order_lines journal) w.0 [] was some w.1
       (lines ∙ sym (append-nil (order_lines old ++ order_lines new)))
 
   pub lines_written : (before now : Option Files) (t : ℕ) (old journal new : List LoggedData)
       → before ≡ option_map (both_appended sound_name (wav_blocks journal t) order (order_lines old)) o
-          → now ≡ option_map (appended order (order_lines new)) before
+      → now ≡ option_map (appended order (order_lines new)) before
       → order_lines journal ≡ order_lines old ++ order_lines new
       → now ≡ option_map (both_appended sound_name (wav_blocks journal ((t + 1) - 1)) order (order_lines journal)) o
   lines_written before now t old journal new was is lines =
@@ -126,7 +126,7 @@ module _ (sound_name order : List ℕ) (ne : sound_name ≢ order) (o : Option F
   last (suc n) b old journal out some at heard same =
       let e : suc n - 1 ≡ n = omega arith in
       ap (λ (j : List LoggedData). wav_blocks j (suc n)) same ∙ wav_more old n
-          ∙ sym (λ i. wav_blocks old (e i) ++ wav_block ((heard ∙ ap (sound old) (at ∙ e)) i))
+      ∙ sym (λ i. wav_blocks old (e i) ++ wav_block ((heard ∙ ap (sound old) (at ∙ e)) i))
 
   pub last_stopped : (before now : Option Files) (t b : ℕ) (old journal : List LoggedData) (out : List ℤ) → 1 ≤ t → b ≡ t - 1 → out ≡ sound old b
       → journal ≡ old
@@ -134,14 +134,14 @@ module _ (sound_name order : List ℕ) (ne : sound_name ≢ order) (o : Option F
       → BothBegun sound_name (wav_blocks journal t) order (order_lines journal) o now
   last_stopped before now t b old journal out some at heard same was stopped =
       sound_stopped sound_name order ne o before now (wav_blocks old (t - 1)) (order_lines old) (wav_block out) (wav_blocks journal t) (order_lines journal) []
-          [] was stopped
+      [] was stopped
       (last t b old journal out some at heard same ∙ sym (append-nil (wav_blocks old (t - 1) ++ wav_block out))) (ap order_lines same
-          ∙ sym (append-nil (order_lines old)))
+      ∙ sym (append-nil (order_lines old)))
 
   pub last_written : (before now : Option Files) (t b : ℕ) (old journal : List LoggedData) (out : List ℤ) → 1 ≤ t → b ≡ t - 1 → out ≡ sound old b
       → journal ≡ old
       → before ≡ option_map (both_appended sound_name (wav_blocks old (t - 1)) order (order_lines old)) o
-          → now ≡ option_map (appended sound_name (wav_block out)) before
+      → now ≡ option_map (appended sound_name (wav_block out)) before
       → now ≡ option_map (both_appended sound_name (wav_blocks journal t) order (order_lines journal)) o
   last_written before now t b old journal out some at heard same was is =
       sound_grows sound_name order ne o before now (wav_blocks old (t - 1)) (order_lines old) (wav_block out) was is

@@ -25,7 +25,7 @@ returns-in-Ok-new-clause-read c =
     let packs = c.is_payload.ensures.0 c.if-not-is_payload.false in
     let said = cartridge_read c.args.word.now c.decode_lower.new.into packs (c.decode_lower.ensures.decoded c.if-not-decode_lower.false) in
     let is : c.in-Ok-new.cartridge.value ≡ voices_of c.decode_lower.new.into = c.in-Ok-new.ensures.ok
-        ∙ c.in-Ok.ensures.back (voices_of c.decode_lower.new.into) packs in
+    ∙ c.in-Ok.ensures.back (voices_of c.decode_lower.new.into) packs in
     rw is said
 
 pub returns-clause-memory : goal.returns-clause-memory

@@ -9,4 +9,4 @@ returns-in-Err-clause-refused c =
     let n = c.in-Some.numbers in
     c.in-Err.ensures.refused (same_fault _ _ e) l.entry.command w.command
     (entry_command c.args.line.now c.in-Some.text.now n.block n.due n.script n.seq l c.in-Some.ensures.read (search rules) (search rules) (search rules)
-        (search rules) w is)
+    (search rules) w is)

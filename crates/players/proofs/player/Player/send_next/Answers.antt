@@ -10,7 +10,7 @@ returns-in-Ok-clause-sent g c =
     let first = planned_data c.in-Some.planned in
     let end = ap (λ (v : PlayerView). v.end) c.self.view_is in
     let left = ap (λ (v : PlayerView). v.left) (sym c.self.view_is) ∙ c.in-Some.ensures.some
-        ∙ ap (λ o. first ∷ left_of o c.pop_first.new.script) (sym c.pop_first.ensures.empty) in (
+    ∙ ap (λ o. first ∷ left_of o c.pop_first.new.script) (sym c.pop_first.ensures.empty) in (
       first,
       left,
       first_is_due c.args.turn first c.args.self.now.left _ left c.if-not-is_due.ensures,

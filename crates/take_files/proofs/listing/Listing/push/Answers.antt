@@ -11,7 +11,7 @@ overflow_add-index_mut c =
     let s = c.args.self.now in
     let few : c.index_mut.result.now ≤ length (journal_data s.entries.items) =
     counted_few (journal_data s.entries.items) s.scripts s.last c.args.logged.entry.script c.index_mut.result.now s.counts.items c.requires.listing.tally
-        c.requires.follows.script
+    c.requires.follows.script
     c.index_mut.ensures.value in
     omega (arith, c.requires.room)
 

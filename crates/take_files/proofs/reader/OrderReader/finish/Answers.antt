@@ -18,6 +18,6 @@ returns-in-None-clause-exact c =
     let s = c.self.inside in
     let line : c.as_slice.result.now ≡ s.line.value.items = search rules in
     let read = subst (λ (x : Standing). HasFed x fed) (sym c.self.view_is
-        ∙ ap (λ (f : Option OrderFault). standing f s.listing s.line.value.items) c.in-None.is) h in
+    ∙ ap (λ (f : Option OrderFault). standing f s.listing s.line.value.items) c.in-None.is) h in
     read_exact (lines_read s.listing ++ c.as_slice.result.now) fed c.finish_lines.result o (ap (λ (l : List ℕ). lines_read s.listing ++ l) line ∙ read.0)
     c.finish_lines.ensures.order c.finish_lines.ensures.refused is
