@@ -16,7 +16,8 @@ use Rattle.command_set.specs.Command.{CommandData, StartsNote, EndsNote, Bends, 
 use Rattle.command_set.specs.declared.message.CommandFault.{CommandFault}
 use Rattle.command_set.specs.declared.message.CommandFault.TheVariants as faults
 
--- the outcome of a message: a command; or nothing, it is passed over; or it is a SysEx one of more than 5000 bytes, by their count, or with this fault
+-- the outcome of a message: a command; or nothing, it is passed over; or it is a SysEx one of more than 5000 bytes, by their
+-- count, or with this fault
 pub data MessageOutcome : Type 0 where
   Yields : CommandData → MessageOutcome
   PassedOver : MessageOutcome

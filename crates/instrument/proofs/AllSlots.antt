@@ -1,5 +1,6 @@
 -- Slots that a loop has gone through up to an index, and a slot that a note occupies.
-use Rattle.std.proofs.Common.{ℕ, Bool, true, false, Option, Some, List, length, get_or, set, eqb, cond, eqb-true, ◌+◌, ◌<◌, ◌≤◌, ◌≢◌, ◌≡◌, refl, arith, below_more, get_or-set_other, get_or-set_same, subst}
+use Rattle.std.proofs.Common.{ℕ, Bool, true, false, Option, Some, List, length, get_or, set, eqb, cond, eqb-true, ◌+◌, ◌<◌, ◌≤◌, ◌≢◌, ◌≡◌, refl, arith}
+use Rattle.std.proofs.Common.{below_more, get_or-set_other, get_or-set_same, subst}
 use Rattle.std.proofs.lemmas.Bool.{eqb-false}
 use Rattle.dx_tables.proofs.Loops.{set_more, set_rest}
 use Rattle.instrument.specs.declared.slot.Slot.{Slot}

@@ -1,5 +1,6 @@
 -- Slots whose blocks begin and end, up to an index.
-use Rattle.std.proofs.Common.{zero, suc, false, ap, refl, ◌+ℤ◌, ℕ, Option, Some, None, List, length, get_or, set, ◌+◌, ◌<◌, ◌≤◌, ◌≢◌, ◌≡◌, ℤ, arith, below_more, get_or-set_other, get_or-set_same}
+use Rattle.std.proofs.Common.{zero, suc, false, ap, refl, ◌+ℤ◌, ℕ, Option, Some, None, List, length, get_or, set, ◌+◌, ◌<◌, ◌≤◌, ◌≢◌, ◌≡◌, ℤ, arith, below_more}
+use Rattle.std.proofs.Common.{get_or-set_other, get_or-set_same}
 use Rattle.algorithm_bus.specs.declared.note_block.NoteBlock.{NoteBlock}
 use Rattle.operator_kernel.specs.Operator.{feedback_state_of}
 use Rattle.algorithm_bus.specs.Signals.{feedback_state_left, note_output}

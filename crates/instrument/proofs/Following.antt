@@ -3,7 +3,7 @@ use Rattle.std.proofs.Common.{ℕ, ◌≡◌, List, [], ◌∷◌, true, false, 
 use Rattle.std.specs.Prelude.{◌==◌, Bool}
 use Rattle.command_set.specs.Command.{CommandData, StartsNote, EndsNote, Bends, Controls, PicksProgram, SetsParameter, StoresVoice, LoadsVoice, LoadsCartridge}
 use Rattle.command_set.specs.VoiceAfter.{voice_after, IsEdit, TurnsAll}
-use Rattle.instrument.specs.State.{State, apply}
+use Rattle.instrument.specs.State.{State, apply, passed}
 use Rattle.instrument.specs.Journal.{applied}
 
 with_parameter_voice : (b : Bool) (s : State) (value : ℕ) (voice : List ℕ)
@@ -30,3 +30,8 @@ applied_voice s [] new h = h
 applied_voice s (c ∷ cs) new h =
     let here : (apply s c).voice ≡ h.0 = apply_voice s c h.1.0.edit ∙ h.1.0.voice in
     applied_voice (apply s c) cs new (rw here h.1.1)
+
+-- a block leaves the voice
+pub passed_voice : (s : State) → (passed s).voice ≡ s.voice
+unfolding passed
+passed_voice s = refl

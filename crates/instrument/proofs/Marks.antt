@@ -1,5 +1,6 @@
 -- Blocks that were run are marked, one after the other in any order; their sum grows by one each time.
-use Rattle.std.proofs.Common.{ℕ, zero, suc, ℤ, pos, ◌+ℤ◌, Bool, true, false, cond, inl, inr, refl, List, length, get_or, set, ◌+◌, ◌<◌, ◌≤◌, ◌≢◌, ◌≡◌, ◌∙◌, ap, sym, subst, arith, get_or-set_other, get_or-set_same, length-set}
+use Rattle.std.proofs.Common.{ℕ, zero, suc, ℤ, pos, ◌+ℤ◌, Bool, true, false, cond, inl, inr, refl, List, length, get_or, set, ◌+◌, ◌<◌, ◌≤◌, ◌≢◌, ◌≡◌, ◌∙◌, ap}
+use Rattle.std.proofs.Common.{sym, subst, arith, get_or-set_other, get_or-set_same, length-set}
 use Rattle.std.proofs.lemmas.Bool.{cases_eq}
 use Rattle.std.proofs.lemmas.Int.{ints}
 use Rattle.std.proofs.lemmas.List.{get_or_default}

@@ -16,9 +16,9 @@ use crate::state::ParserState;
 
 /// Where a stream stands after a byte, and the message that ended with it.
 #[derive(Clone, Copy, Debug, Drop)]
-pub struct ByteEffect {
-    pub state: ParserState,
-    pub message: Option<MidiMessage>,
+pub(crate) struct ByteEffect {
+    pub(crate) state: ParserState,
+    pub(crate) message: Option<MidiMessage>,
 }
 
 /// A data byte after whole messages of a channel status.
@@ -56,7 +56,7 @@ fn second_data(status: u8, first: u8, byte: u8) -> ByteEffect
 }
 
 /// What a data byte does.
-pub fn with_data(state: ParserState, byte: u8) -> ByteEffect
+pub(crate) fn with_data(state: ParserState, byte: u8) -> ByteEffect
     requires byte { byte < 128 }
     requires holds { holds_data state ≡ true }
     ensures { Advances state byte extended result }
@@ -127,7 +127,7 @@ fn status_in_sysex(count: u32, byte: u8) -> ByteEffect
 }
 
 /// What a status byte does that is not a real-time byte.
-pub fn with_status_byte(state: ParserState, byte: u8) -> ByteEffect
+pub(crate) fn with_status_byte(state: ParserState, byte: u8) -> ByteEffect
     requires low { 128 ≤ byte }
     requires high { byte < 248 }
     ensures { Advances state byte with_status result }
@@ -142,7 +142,7 @@ pub fn with_status_byte(state: ParserState, byte: u8) -> ByteEffect
 }
 
 /// What a byte does that is not a real-time byte.
-pub fn effect_of(state: ParserState, byte: u8) -> ByteEffect
+pub(crate) fn effect_of(state: ParserState, byte: u8) -> ByteEffect
     requires byte { byte < 248 }
     requires holds { holds_data state ≡ true }
     ensures { Advances state byte with_byte result }

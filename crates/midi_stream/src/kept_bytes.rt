@@ -10,7 +10,7 @@ use arrayvec::ArrayVec;
 const KEPT: usize = 5000;
 
 /// The bytes that are kept. It has its room from the start and asks for no memory later.
-pub type KeptBytes = ArrayVec<u8, KEPT>;
+pub(crate) type KeptBytes = ArrayVec<u8, KEPT>;
 
 /// Puts a byte at the end, where there is room left.
 fn push(kept: &mut KeptBytes, byte: u8)
@@ -22,7 +22,7 @@ fn push(kept: &mut KeptBytes, byte: u8)
 }
 
 /// Keeps the next byte of a stream, if it belongs to a SysEx message.
-pub fn keep(kept: &mut KeptBytes, state: ParserState, byte: u8)
+pub(crate) fn keep(kept: &mut KeptBytes, state: ParserState, byte: u8)
     ensures { kept.new.items ≡ kept_with state kept.old.items byte }
 {
     if byte == 0xF0 {

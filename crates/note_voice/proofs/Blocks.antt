@@ -1,5 +1,6 @@
 -- A whole note, from block to block and at its release.
-use Rattle.std.proofs.Common.{ℕ, zero, suc, ℤ, pos, ◌+ℤ◌, ◌+◌, ◌-◌, ◌<◌, ◌≤◌, ◌≡◌, ◌∙◌, ap, refl, sym, subst, add-one, List, [], ◌∷◌, length, get_or, set, None, cond, arith}
+use Rattle.std.proofs.Common.{ℕ, zero, suc, ℤ, pos, ◌+ℤ◌, ◌+◌, ◌-◌, ◌<◌, ◌≤◌, ◌≡◌, ◌∙◌, ap, refl, sym, subst, add-one, List, [], ◌∷◌, length, get_or, set, None}
+use Rattle.std.proofs.Common.{cond, arith}
 use Rattle.std.proofs.lemmas.List.{same_lists}
 use Rattle.dx_tables.proofs.Loops.{set_more, set_rest}
 use Rattle.block_rates.specs.declared.pitch_envelope.PitchEnvelope.{PitchEnvelope}
@@ -13,7 +14,8 @@ use Rattle.algorithm_bus.specs.Audible.{muted}
 use Rattle.algorithm_bus.specs.Buses.{HaveGains, IsBus, op_of, no_operator, block_input_of}
 use Rattle.note_voice.specs.declared.operator.Operator.{Operator}
 use Rattle.note_voice.specs.Modulation.{Modulation, bend_pitch, pitch_modulation, vibrato, vibrato_depth}
-use Rattle.note_voice.specs.Note.{NoteData, begun, note_released, after_block, played_note, four_from, pitch_settings, pitch_shift_in, increment_in, attenuation_in, operator_in, is_on, audible_in, operators_in, feedback_state_before, note_input, note_sample}
+use Rattle.note_voice.specs.Note.{NoteData, begun, note_released, after_block, played_note, four_from, pitch_settings, pitch_shift_in, increment_in}
+use Rattle.note_voice.specs.Note.{attenuation_in, operator_in, is_on, audible_in, operators_in, feedback_state_before, note_input, note_sample}
 use Rattle.note_voice.specs.Running.{IsOperator, AreOperators, IsModulated}
 use Rattle.note_voice.proofs.Prefix.{agrees_released, agrees_after_block, state_same}
 use Rattle.note_voice.proofs.Steps.{length_more, modulation_last}

@@ -1,5 +1,6 @@
 -- What a note does in a block depends on what moved it up to that block, and on nothing later.
-use Rattle.std.proofs.Common.{ℕ, zero, suc, ◌+ℤ◌, ◌+◌, ◌<◌, ◌≤◌, ◌≡◌, ◌∙◌, ap, refl, List, [], ◌∷◌, ◌++◌, length, get_or, Option, None, Some, leb, true, le-leb, arith}
+use Rattle.std.proofs.Common.{ℕ, zero, suc, ◌+ℤ◌, ◌+◌, ◌<◌, ◌≤◌, ◌≡◌, ◌∙◌, ap, refl, List, [], ◌∷◌, ◌++◌, length, get_or, Option, None, Some, leb, true, le-leb}
+use Rattle.std.proofs.Common.{arith}
 use Rattle.std.proofs.lemmas.List.{get_or_append_left}
 use Rattle.dx_tables.specs.Powers.{frequency}
 use Rattle.block_rates.specs.Levels.{EnvelopeSettings, envelope_level}
@@ -11,7 +12,8 @@ use Rattle.operator_kernel.specs.Operator.{FeedbackState}
 use Rattle.algorithm_bus.specs.Signals.{BlockInput, feedback_state_left}
 use Rattle.algorithm_bus.specs.Buses.{op_of}
 use Rattle.note_voice.specs.Modulation.{Modulation}
-use Rattle.note_voice.specs.Note.{NoteData, continued, modulation_in, played_note, envelope_settings, pitch_settings, pitch_shift_in, increment_in, increments_before, attenuation_in, gain_after, gain_before, audible_in, operators_in, block_input_in, feedback_state_before}
+use Rattle.note_voice.specs.Note.{NoteData, continued, modulation_in, played_note, envelope_settings, pitch_settings, pitch_shift_in, increment_in}
+use Rattle.note_voice.specs.Note.{increments_before, attenuation_in, gain_after, gain_before, audible_in, operators_in, block_input_in, feedback_state_before}
 
 -- a note with this past and release has the same first k blocks
 pub record AgreesUpTo (k : ℕ) (n : NoteData) (off : Option ℕ) (past : List Modulation) : Type 0 where

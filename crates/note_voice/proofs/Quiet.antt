@@ -1,5 +1,6 @@
 -- Operators of the opening voice that are not heard, and what does not move it.
-use Rattle.std.proofs.Common.{ℕ, zero, suc, ℤ, pos, negsuc, ◌-ℤ◌, ◌*ℤ◌, ◌+◌, ◌-◌, ◌*◌, ◌/◌, ◌^◌, ◌<◌, ◌≤◌, ◌≡◌, ◌∙◌, ap, refl, add-one, List, [], ◌∷◌, get_or, Option, None, Some, Bool, true, false, cond, min, max, unsigned_abs, arith}
+use Rattle.std.proofs.Common.{ℕ, zero, suc, ℤ, pos, negsuc, ◌-ℤ◌, ◌*ℤ◌, ◌+◌, ◌-◌, ◌*◌, ◌/◌, ◌^◌, ◌<◌, ◌≤◌, ◌≡◌, ◌∙◌, ap, refl, add-one, List, [], ◌∷◌, get_or}
+use Rattle.std.proofs.Common.{Option, None, Some, Bool, true, false, cond, min, max, unsigned_abs, arith}
 use Rattle.std.specs.Int.{int_max}
 use Rattle.std.proofs.lemmas.Int.{ints, clamps}
 use Rattle.dx_tables.specs.Constants.{level, pitch_level, pitch_sensitivity, amplitude_sensitivity}

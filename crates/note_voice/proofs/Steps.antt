@@ -1,5 +1,6 @@
 -- An operator of a note, from block to block and at its release.
-use Rattle.std.proofs.Common.{ℕ, ℤ, pos, negsuc, ◌+ℤ◌, ◌*ℤ◌, ◌+◌, ◌*◌, ◌/◌, ◌%◌, ◌^◌, ◌<◌, ◌≡◌, ◌∙◌, ap, refl, sym, subst, add-one, List, [], ◌∷◌, ◌++◌, length, None, SFits, to_z, of_z, w32, unsigned_abs, length-append, ◌-◌, arith}
+use Rattle.std.proofs.Common.{ℕ, ℤ, pos, negsuc, ◌+ℤ◌, ◌*ℤ◌, ◌+◌, ◌*◌, ◌/◌, ◌%◌, ◌^◌, ◌<◌, ◌≡◌, ◌∙◌, ap, refl, sym, subst, add-one, List, [], ◌∷◌, ◌++◌, length}
+use Rattle.std.proofs.Common.{None, SFits, to_z, of_z, w32, unsigned_abs, length-append, ◌-◌, arith}
 use Rattle.std.specs.Int.{int_wrap}
 use Rattle.std.proofs.lemmas.Int.{ints, to_z-of_z, wrapping_add-bits, wrapping_mul_is, int_wrap-add_left, int_wrap-add_right, int_wrap_fits}
 use Rattle.std.proofs.Math.Seq.{get_or-append_seam}
@@ -13,7 +14,8 @@ use Rattle.operator_kernel.specs.declared.OpBlock.{OpBlock}
 use Rattle.dx_tables.specs.Powers.{frequency}
 use Rattle.key_scale.specs.Pitch.{pitch_of_operator}
 use Rattle.note_voice.specs.Modulation.{Modulation, gain_of, attenuation_of, tremolo, tremolo_depth, amp_mod_depth_of}
-use Rattle.note_voice.specs.Note.{NoteData, begun, note_released, after_block, modulation_in, played_note, four_from, settings_at, envelope_settings, pitch_shift_in, increment_in, increments_before, attenuation_in, gain_after, gain_before, operator_in}
+use Rattle.note_voice.specs.Note.{NoteData, begun, note_released, after_block, modulation_in, played_note, four_from, settings_at, envelope_settings}
+use Rattle.note_voice.specs.Note.{pitch_shift_in, increment_in, increments_before, attenuation_in, gain_after, gain_before, operator_in}
 use Rattle.note_voice.specs.Running.{IsRunning}
 use Rattle.note_voice.proofs.Prefix.{agrees_released, agrees_after_block, increments_same, gain_before_same}
 

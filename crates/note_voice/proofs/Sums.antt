@@ -1,5 +1,6 @@
 -- A sum of notes grows sample by sample, and stays far from the ends of 64 bits.
-use Rattle.std.proofs.Common.{ℕ, ℤ, pos, ◌+ℤ◌, refl, List, length, get_or, set, ◌+◌, ◌^◌, ◌<◌, ◌≤◌, ◌≡◌, ◌∙◌, ap, arith, length-set, SFits, w32, w64, unsigned_abs}
+use Rattle.std.proofs.Common.{ℕ, ℤ, pos, ◌+ℤ◌, refl, List, length, get_or, set, ◌+◌, ◌^◌, ◌<◌, ◌≤◌, ◌≡◌, ◌∙◌, ap, arith, length-set, SFits, w32, w64}
+use Rattle.std.proofs.Common.{unsigned_abs}
 use Rattle.dx_tables.proofs.Loops.{set_more, set_rest}
 use Rattle.dx_tables.proofs.Ranges.{abs_Within, Within_abs, Within-add, Within_from_fits32, fits_from_Within}
 use Rattle.std.proofs.lemmas.Int.{ints}

@@ -1,5 +1,6 @@
 -- What each call makes of a world's fields stands for the core one step on.
-use Rattle.std.proofs.Common.{◌≡◌, ℕ, zero, suc, ◌+◌, ◌-◌, ◌^◌, ◌<◌, min, List, [], ◌∷◌, ◌++◌, length, get_or, set, replicate, map, refl, sym, ◌∙◌, ap, subst, arith}
+use Rattle.std.proofs.Common.{◌≡◌, ℕ, zero, suc, ◌+◌, ◌-◌, ◌^◌, ◌<◌, min, List, [], ◌∷◌, ◌++◌, length, get_or, set, replicate, map, refl, sym, ◌∙◌, ap, subst}
+use Rattle.std.proofs.Common.{arith}
 use Rattle.std.specs.Prelude.{◌==◌, ◌&&◌, ◌↔◌, IsTrue, nat_lt, Bool, true, false, cond}
 use Rattle.std.proofs.lemmas.Bool.{both_ways, lt-ltb, le-ltb, eqb-true, cond-true, cond-false}
 use Rattle.std.proofs.lemmas.List.{map-append, length-map, length_push, length-set, length-replicate, get_or-replicate, ext_get_or, replicate_more}
@@ -17,11 +18,13 @@ use Rattle.instrument.specs.State.{opening as opening_state}
 use Rattle.instrument.specs.Journal.{state_at}
 use Rattle.schedule_core.specs.declared.mark.Mark.{Mark}
 use Rattle.instrument.specs.Logging.{logged_at}
-use Rattle.schedule_core.specs.Core.{Core, Sends, no_sends, sends_of, accepted_of, refusals_of, first_of, with_entry, with_refusal, opening, Send, Take, Render, Settle, step, run, queued, refused, taken, next_entry}
+use Rattle.schedule_core.specs.Core.{Core, Sends, no_sends, sends_of, accepted_of, refusals_of, first_of, with_entry, with_refusal, opening, Send, Take, Render}
+use Rattle.schedule_core.specs.Core.{Settle, step, run, queued, refused, taken, next_entry}
 use Rattle.schedule_core.specs.Schedule.{IsLegal}
 use Rattle.schedule_core.specs.Fields.{fresh_mark, core_of, mark_in, mark_of, sends_in, Stands}
 use Rattle.instrument.proofs.Journals.{state_opening, state_logged, state_passed}
-use Rattle.schedule_core.proofs.Legal.{at_set, fresh_at, accepted_queued, refusals_queued, accepted_refused, refusals_refused, opening_legal, step_legal, accepts, refuses}
+use Rattle.schedule_core.proofs.Legal.{at_set, fresh_at, accepted_queued, refusals_queued, accepted_refused, refusals_refused, opening_legal, step_legal}
+use Rattle.schedule_core.proofs.Legal.{accepts, refuses}
 use Rattle.schedule_core.proofs.Sounds.{run_appended}
 use Rattle.schedule_core.proofs.Settling.{settles_by_taking}
 

@@ -1,4 +1,4 @@
-//! Reading one message.
+//! A message, read from its bytes: what it holds, or its first fault.
 
 ghost use Rattle.std.specs.Prelude.{ℕ, ◌≡◌, ◌+◌, ◌-◌, ◌%◌, ◌<◌, ◌≤◌, ◌↔◌, ◌&&◌, ◌==◌};
 ghost use Rattle.std.specs.Prelude.{not, nat_le, length, slice_index, slice_range};

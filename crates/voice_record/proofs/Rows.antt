@@ -1,5 +1,6 @@
 -- What the bit table is like: the fields of a byte lie one above the other from bit 0 on, and each fits its bits.
-use Rattle.std.proofs.Common.{◌≡◌, ℕ, zero, suc, ◌+◌, ◌-◌, ◌*◌, get_or, ◌/◌, ◌%◌, ◌^◌, ◌<◌, ◌≤◌, ◌&&◌, true, if◌then◌else◌, refl, arith, subst, inl, inr, nat_le, nat_lt, ◌==◌}
+use Rattle.std.proofs.Common.{◌≡◌, ℕ, zero, suc, ◌+◌, ◌-◌, ◌*◌, get_or, ◌/◌, ◌%◌, ◌^◌, ◌<◌, ◌≤◌, ◌&&◌, true, if◌then◌else◌, refl, arith, subst, inl, inr}
+use Rattle.std.proofs.Common.{nat_le, nat_lt, ◌==◌}
 use Rattle.std.proofs.lemmas.Bool.{lt-ltb, le-ltb, leb-true, ltb-true, eqb-true, eq-eqb, ne_eqb, cases_eq, cases_lt, and_parts}
 use Rattle.voice_record.specs.Voice.{greatest_value}
 use Rattle.voice_record.specs.Packing.{row_of, placed, operator_rows, common_rows, IsUsed}

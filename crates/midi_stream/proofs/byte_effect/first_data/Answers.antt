@@ -11,7 +11,8 @@ returns-then-has_one_data_byte-clause-begun c =
     let one = sym c.has_one_data_byte.ensures ∙ c.if-has_one_data_byte.true in
     record {
       stands = λ kept parts h. running_one c.args.status parts c.args.byte one h.channel;
-      answer = λ kept parts h. answer_one c.args.status parts c.args.byte one h.channel ∙ ap (λ (m : MidiMessage). messages_of parts ++ m ∷ []) (sym c.message_of_one.ensures.value);
+      answer = λ kept parts h. answer_one c.args.status parts c.args.byte one h.channel
+          ∙ ap (λ (m : MidiMessage). messages_of parts ++ m ∷ []) (sym c.message_of_one.ensures.value);
       bytes = λ kept parts h. c.message_of_one.ensures.bytes (sysex_at_end (extended parts c.args.byte));
       range = c.message_of_one.ensures.range;
       holds = refl;
@@ -22,7 +23,8 @@ returns-then-has_one_data_byte-clause-running c =
     let one = sym c.has_one_data_byte.ensures ∙ c.if-has_one_data_byte.true in
     record {
       stands = λ kept parts h. running_one c.args.status parts c.args.byte one h.channel;
-      answer = λ kept parts h. answer_one c.args.status parts c.args.byte one h.channel ∙ ap (λ (m : MidiMessage). messages_of parts ++ m ∷ []) (sym c.message_of_one.ensures.value);
+      answer = λ kept parts h. answer_one c.args.status parts c.args.byte one h.channel
+          ∙ ap (λ (m : MidiMessage). messages_of parts ++ m ∷ []) (sym c.message_of_one.ensures.value);
       bytes = λ kept parts h. c.message_of_one.ensures.bytes (sysex_at_end (extended parts c.args.byte));
       range = c.message_of_one.ensures.range;
       holds = refl;

@@ -17,7 +17,8 @@ returns-then-byte-eq247 c = record {
       ∙ ap (λ (m : MidiMessage). messages_of parts ++ m ∷ []) (sym (c.sysex_message.ensures.value (length (last_segment parts).data_bytes + 2) n));
   bytes = λ kept parts h.
       subst (λ (o : Option (List ℕ)). HasBytes c.sysex_message.result o) (sym (bytes_at_end c.args.count kept parts c.args.byte c.if-byte-eq247.true h))
-      (c.sysex_message.ensures.bytes (240 ∷ (last_segment parts).data_bytes ++ 247 ∷ []) (length_at_end c.args.count _ kept (last_segment parts) h c.saturating_add.ensures));
+      (c.sysex_message.ensures.bytes (240 ∷ (last_segment parts).data_bytes ++ 247
+          ∷ []) (length_at_end c.args.count _ kept (last_segment parts) h c.saturating_add.ensures));
   range = c.sysex_message.ensures.range;
   holds = refl;
 }

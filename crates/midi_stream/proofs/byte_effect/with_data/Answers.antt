@@ -26,7 +26,8 @@ returns-in-Half c = subst (λ (s : ParserState). Advances s c.args.byte extended
 
 pub returns-in-InSysEx : goal.returns-in-InSysEx
 returns-in-InSysEx c = record {
-  stands = λ kept parts h. stands_sysex_data c.args.state c.in-InSysEx.count _ kept parts c.args.byte c.in-InSysEx.is c.requires.byte c.saturating_add.ensures h;
+  stands = λ kept parts h. stands_sysex_data c.args.state c.in-InSysEx.count _ kept parts c.args.byte c.in-InSysEx.is c.requires.byte c.saturating_add.ensures
+      h;
   answer = λ kept parts h. answer_sysex_data c.args.state c.in-InSysEx.count kept parts c.args.byte c.in-InSysEx.is h;
   bytes = λ kept parts h. tt;
   range = tt;

@@ -8,7 +8,8 @@ use Rattle.algorithm_bus.specs.Buses.{op_of}
 use Rattle.algorithm_bus.proofs.Sends.{signals_meet_equation}
 use Rattle.block_rates.specs.Levels.{envelope_level}
 use Rattle.block_rates.specs.Pitches.{pitch_envelope_level}
-use Rattle.note_voice.specs.Note.{NoteData, played_note, envelope_settings, pitch_settings, pitch_shift_in, attenuation_in, gain_after, gain_before, audible_in, is_on, operator_in, operators_in, note_input}
+use Rattle.note_voice.specs.Note.{NoteData, played_note, envelope_settings, pitch_settings, pitch_shift_in, attenuation_in, gain_after, gain_before, audible_in}
+use Rattle.note_voice.specs.Note.{is_on, operator_in, operators_in, note_input}
 use Rattle.note_voice.specs.Opening.{OthersAreSilent, IsUnmodulated}
 use Rattle.note_voice.proofs.Quiet.{HasNoLevel, off_level, off_in_opening, gain_low, no_tremolo, no_vibrato, no_bend, pitch_still}
 use Rattle.note_voice.proofs.opening.opening_is_plain.Goals as goal

@@ -1,7 +1,8 @@
 use Rattle.std.proofs.Common.{◌+◌, SFits, w32, length-set, arith, rules}
 use Rattle.std.proofs.lemmas.Int.{to_z-of_z}
 use Rattle.note_voice.specs.Note.{after_block}
-use Rattle.note_voice.proofs.Blocks.{audible_is, passed_none, passed_next, passed_all, audible_none, audible_next, audible_all, gains_none, gains_next, gains_all}
+use Rattle.note_voice.proofs.Blocks.{audible_is, passed_none, passed_next, passed_all, audible_none, audible_next, audible_all, gains_none, gains_next}
+use Rattle.note_voice.proofs.Blocks.{gains_all}
 use Rattle.note_voice.proofs.operators.pass_all.Goals as goal
 
 pub loop-k-init : goal.loop-k-init

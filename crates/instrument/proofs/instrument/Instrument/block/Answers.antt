@@ -1,4 +1,5 @@
-use Rattle.std.proofs.Common.{◌∙◌, ◌≢◌, ◌<◌, length, pos, get_or, ap, subst, SFits, w16, w64, below_more, length-set, get_or-set_other, get_or-set_same, arith, rules}
+use Rattle.std.proofs.Common.{◌∙◌, ◌≢◌, ◌<◌, length, pos, get_or, ap, subst, SFits, w16, w64, below_more, length-set, get_or-set_other, get_or-set_same, arith}
+use Rattle.std.proofs.Common.{rules}
 use Rattle.std.proofs.lemmas.Int.{to_z-of_z}
 use Rattle.std.proofs.lemmas.List.FromFn.{fill_by_all}
 use Rattle.instrument.specs.Running.{AreSlots}
