@@ -8,7 +8,7 @@ use voice_record::Voice;
 use voice_record::parameter::PITCH_RATES;
 
 /// 10,000,032 acts at depth 100: runs of 64 changed fields, each with 24 acts undone and 8 of these redone after it.
-pub fn edit_voice(alloc: Global) -> Result<u32, AllocError> {
+pub(crate) fn edit_voice(alloc: Global) -> Result<u32, AllocError> {
     let mut editor = Editor::new(alloc, &Voice::init(), 100)?;
     let mut acts = 0u32;
     for run in 0..104_167u32 {

@@ -22,7 +22,7 @@ const INSTRUMENT_BLOCKS: u32 = 10_000;
 const COMMANDS: u32 = 1_000_000;
 
 /// One note of six operators, three of them carriers, and feedback. Where its key is released at once it soon has died away.
-pub fn render_note(alloc: Global, is_released: bool) -> Result<i64, AllocError> {
+pub(crate) fn render_note(alloc: Global, is_released: bool) -> Result<i64, AllocError> {
     let tables = Tables::new(alloc)?;
     let mut voice = Voice::init();
     for operator in 0..6u8 {
@@ -52,7 +52,7 @@ fn nothing() -> [i64; 64]
 }
 
 /// Sixteen notes of the same voice on the instrument.
-pub fn render_sixteen(alloc: Global) -> Result<i32, AllocError> {
+pub(crate) fn render_sixteen(alloc: Global) -> Result<i32, AllocError> {
     let mut instrument = Instrument::new(alloc, Engine::One)?;
     for operator in 0..6u8 {
         set(
@@ -88,7 +88,7 @@ pub fn render_sixteen(alloc: Global) -> Result<i32, AllocError> {
 }
 
 /// Commands of every kind but a cartridge, in turn.
-pub fn apply_commands(alloc: Global) -> Result<u32, AllocError> {
+pub(crate) fn apply_commands(alloc: Global) -> Result<u32, AllocError> {
     let mut instrument = Instrument::new(alloc, Engine::One)?;
     let mut sum = 0u32;
     for i in 0..COMMANDS {
