@@ -3,11 +3,11 @@
 
 mod fields;
 mod levels;
-mod operators;
+mod operator_at_note;
 mod pitch;
 mod scaling;
 
-pub use operators::{operator_pitch, out_level, rate_scale};
+pub use operator_at_note::{operator_pitch, out_level, rate_scale};
 
 #[cfg(test)]
 mod tests {

@@ -33,7 +33,8 @@ bend_pitch bend = (pos bend -ℤ pos 8192) *ℤ pos 512
 -- what is added to the pitch of all operators of a voice, where the pitch envelope is at this level
 abbrev pub pitch_modulation : List ℕ → Modulation → ℤ → ℤ
 pitch_modulation voice m level =
-    level +ℤ vibrato (vibrato_depth (slice_index voice LFO_PITCH_DEPTH) m.lfo_depth m.wheel) (slice_index voice PITCH_SENSITIVITY) m.lfo +ℤ bend_pitch m.bend
+    level +ℤ vibrato (vibrato_depth (slice_index voice LFO_PITCH_DEPTH) m.lfo_depth m.wheel) (slice_index voice PITCH_SENSITIVITY) m.lfo
+    +ℤ bend_pitch m.bend
 
 -- how deep the LFO moves the gain, in parts of 2 ^ 16
 unfoldable pub tremolo_depth : ℕ → ℕ → ℕ → ℕ
@@ -41,7 +42,8 @@ tremolo_depth setting sensitivity lfo_depth = depth_part setting * amplitude_sen
 
 -- the same of an operator of a voice, once the LFO's delay is over
 abbrev pub amp_mod_depth_of : List ℕ → ℕ → ℕ
-amp_mod_depth_of voice operator = depth_part (slice_index voice LFO_AMPLITUDE_DEPTH) * amplitude_sensitivity (operator_field voice operator AMPLITUDE_SENSITIVITY)
+amp_mod_depth_of voice operator =
+    depth_part (slice_index voice LFO_AMPLITUDE_DEPTH) * amplitude_sensitivity (operator_field voice operator AMPLITUDE_SENSITIVITY)
 
 -- how far the LFO attenuates a level
 unfoldable pub tremolo : ℕ → ℤ → ℤ
@@ -49,7 +51,8 @@ tremolo depth lfo = int_shr (pos depth *ℤ (pos (2 ^ 24) -ℤ lfo)) 13
 
 -- how far the level of an operator of a voice is attenuated
 abbrev pub attenuation_of : List ℕ → ℕ → Modulation → ℤ
-attenuation_of voice operator m = tremolo (tremolo_depth (slice_index voice LFO_AMPLITUDE_DEPTH) (operator_field voice operator AMPLITUDE_SENSITIVITY) m.lfo_depth) m.lfo
+attenuation_of voice operator m =
+    tremolo (tremolo_depth (slice_index voice LFO_AMPLITUDE_DEPTH) (operator_field voice operator AMPLITUDE_SENSITIVITY) m.lfo_depth) m.lfo
 
 -- the gain at a level of the envelope that is lowered by an attenuation; 14 octaves of level are a gain of 1.0
 unfoldable pub gain_of : ℤ → ℤ → ℤ

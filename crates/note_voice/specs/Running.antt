@@ -35,8 +35,10 @@ abbrev pub AreOperators : List Operator → ℤ → NoteData → Type 0
 AreOperators os shift n = (k : ℕ) (d : Operator) → k < 6 → IsOperator (slice_index_or os k d) shift (k + 1) n
 
 -- what is kept of a note that sounds stands for it, but for its feedback state
-pub record IsSet (algorithm feedback pitch_mod_depth pitch_mod_sensitivity switch : ℕ) (operators : List Operator) (pitch_shift : ℤ) (pitch_envelope : PitchEnvelope)
-    (n : NoteData) : Type 0 where
+pub record IsSet
+    (algorithm feedback pitch_mod_depth pitch_mod_sensitivity switch : ℕ) (operators : List Operator) (pitch_shift : ℤ)
+    (pitch_envelope : PitchEnvelope) (n : NoteData)
+    : Type 0 where
   pub algorithm_is : algorithm ≡ slice_index n.voice ALGORITHM
   pub feedback_is : feedback ≡ slice_index n.voice FEEDBACK
   pub pitch_mod_depth_is : pitch_mod_depth ≡ slice_index n.voice LFO_PITCH_DEPTH

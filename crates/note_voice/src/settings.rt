@@ -2,8 +2,8 @@
 
 ghost use Rattle.std.specs.Prelude.{◌≡◌, ◌≤◌, ◌-◌, ◌+◌, ◌*◌, pos, neg_ℤ, ◌≤ℤ◌, All, slice_index};
 ghost use Rattle.voice_record.specs.Voice.{IsVoice};
-ghost use Rattle.voice_record.specs.declared.parameter.TheConstants.{ALGORITHM, FEEDBACK, LFO_PITCH_DEPTH, LFO_AMPLITUDE_DEPTH, OPERATOR_FIELDS, PITCH_LEVELS};
-ghost use Rattle.voice_record.specs.declared.parameter.TheConstants.{PITCH_RATES, PITCH_SENSITIVITY, TRANSPOSE};
+ghost use Rattle.voice_record.specs.declared.parameter.TheConstants.{ALGORITHM, FEEDBACK, LFO_PITCH_DEPTH, LFO_AMPLITUDE_DEPTH};
+ghost use Rattle.voice_record.specs.declared.parameter.TheConstants.{OPERATOR_FIELDS, PITCH_LEVELS, PITCH_RATES, PITCH_SENSITIVITY, TRANSPOSE};
 ghost use Rattle.voice_record.specs.declared.operator_parameter.TheConstants.{AMPLITUDE_SENSITIVITY, LEVELS, RATES};
 ghost use Rattle.key_scale.specs.Operator.{operator_field};
 ghost use Rattle.note_voice.specs.Note.{four_from, played_note};

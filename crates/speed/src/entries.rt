@@ -14,7 +14,10 @@ use std::thread::Threads;
 const ENTRIES: u32 = 500_000;
 
 /// Two threads send, the caller takes; it answers the sum of the entries' numbers.
-pub fn pass_entries<R: Threads + Wait + Sync>(rt: &R, alloc: Global) -> Result<u64, AllocError> {
+pub(crate) fn pass_entries<R: Threads + Wait + Sync>(
+    rt: &R,
+    alloc: Global,
+) -> Result<u64, AllocError> {
     let (line, mut taker, mut ends) = Line::new(alloc, 64, &[ENTRIES, ENTRIES])?;
     let mut sum = 0u64;
     pass(rt, &line, ends.as_mut_slice(), &mut taker, &mut sum);

@@ -4,9 +4,9 @@
 //! `frames` reads a cartridge's message.
 #![tactic(auto)]
 
-mod acts;
-mod engine;
-mod line;
+mod edits;
+mod entries;
+mod notes;
 
 ghost use Rattle.std.specs.Prelude.{◌≤◌};
 ghost use Rattle.operator_kernel.specs.Operator.{HasGains};
@@ -28,27 +28,27 @@ fn main(rt: HostRuntime) -> Result<(), anyhow::Error> {
                 println!(rt; "notes sum {sum}")?;
             }
             "note" => {
-                let sum = engine::render_note(rt.alloc(), false)?;
+                let sum = notes::render_note(rt.alloc(), false)?;
                 println!(rt; "note sum {sum}")?;
             }
             "died" => {
-                let sum = engine::render_note(rt.alloc(), true)?;
+                let sum = notes::render_note(rt.alloc(), true)?;
                 println!(rt; "died sum {sum}")?;
             }
             "sixteen" => {
-                let sum = engine::render_sixteen(rt.alloc())?;
+                let sum = notes::render_sixteen(rt.alloc())?;
                 println!(rt; "sixteen sum {sum}")?;
             }
             "commands" => {
-                let sum = engine::apply_commands(rt.alloc())?;
+                let sum = notes::apply_commands(rt.alloc())?;
                 println!(rt; "commands sum {sum}")?;
             }
             "entries" => {
-                let sum = line::pass_entries(&rt, rt.alloc())?;
+                let sum = entries::pass_entries(&rt, rt.alloc())?;
                 println!(rt; "entries sum {sum}")?;
             }
             "acts" => {
-                let acts = acts::edit_voice(rt.alloc())?;
+                let acts = edits::edit_voice(rt.alloc())?;
                 println!(rt; "acts {acts}")?;
             }
             "frames" => {

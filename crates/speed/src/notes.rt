@@ -3,12 +3,14 @@
 ghost use Rattle.std.specs.Prelude.{◌≤◌, ◌^◌};
 ghost use Rattle.note_voice.specs.Mix.{IsSmall};
 
-use command_set::Command;
+use command_set::{Command, HOLD_PEDAL, MODULATION_WHEEL};
 use dx_tables::{Engine, Tables};
 use instrument::Instrument;
 use note_voice::Note;
 use std::alloc::{AllocError, Global};
 use voice_record::Voice;
+use voice_record::operator_parameter::{COARSE, OUTPUT_LEVEL};
+use voice_record::parameter::{ALGORITHM, FEEDBACK, OPERATOR_FIELDS, OPERATOR_SWITCH};
 
 /// How many blocks a note alone is rendered.
 const NOTE_BLOCKS: u32 = 100_000;
@@ -20,15 +22,15 @@ const INSTRUMENT_BLOCKS: u32 = 10_000;
 const COMMANDS: u32 = 1_000_000;
 
 /// One note of six operators, three of them carriers, and feedback. Where its key is released at once it soon has died away.
-pub fn render_note(alloc: Global, is_released: bool) -> Result<i64, AllocError> {
+pub(crate) fn render_note(alloc: Global, is_released: bool) -> Result<i64, AllocError> {
     let tables = Tables::new(alloc)?;
     let mut voice = Voice::init();
     for operator in 0..6u8 {
-        let _ = voice.set(21 * operator + 16, 99);
-        let _ = voice.set(21 * operator + 18, 1 + operator);
+        let _ = voice.set(OPERATOR_FIELDS * operator + OUTPUT_LEVEL, 99);
+        let _ = voice.set(OPERATOR_FIELDS * operator + COARSE, 1 + operator);
     }
-    let _ = voice.set(134, 4);
-    let _ = voice.set(135, 7);
+    let _ = voice.set(ALGORITHM, 4);
+    let _ = voice.set(FEEDBACK, 7);
     let mut note = Note::idle();
     note.start(&tables, &voice, 63, 60, 100);
     if is_released {
@@ -50,14 +52,22 @@ fn nothing() -> [i64; 64]
 }
 
 /// Sixteen notes of the same voice on the instrument.
-pub fn render_sixteen(alloc: Global) -> Result<i32, AllocError> {
+pub(crate) fn render_sixteen(alloc: Global) -> Result<i32, AllocError> {
     let mut instrument = Instrument::new(alloc, Engine::One)?;
     for operator in 0..6u8 {
-        set(&mut instrument, 21 * operator + 16, 99);
-        set(&mut instrument, 21 * operator + 18, 1 + operator);
+        set(
+            &mut instrument,
+            OPERATOR_FIELDS * operator + OUTPUT_LEVEL,
+            99,
+        );
+        set(
+            &mut instrument,
+            OPERATOR_FIELDS * operator + COARSE,
+            1 + operator,
+        );
     }
-    set(&mut instrument, 134, 4);
-    set(&mut instrument, 135, 7);
+    set(&mut instrument, ALGORITHM, 4);
+    set(&mut instrument, FEEDBACK, 7);
     for k in 0..16u8 {
         let on = Command::NoteOn {
             channel: 0,
@@ -78,7 +88,7 @@ pub fn render_sixteen(alloc: Global) -> Result<i32, AllocError> {
 }
 
 /// Commands of every kind but a cartridge, in turn.
-pub fn apply_commands(alloc: Global) -> Result<u32, AllocError> {
+pub(crate) fn apply_commands(alloc: Global) -> Result<u32, AllocError> {
     let mut instrument = Instrument::new(alloc, Engine::One)?;
     let mut sum = 0u32;
     for i in 0..COMMANDS {
@@ -110,12 +120,12 @@ fn command(i: u32) -> Command {
         },
         4 => Command::Control {
             channel,
-            number: 1,
+            number: MODULATION_WHEEL,
             value,
         },
         5 => Command::Control {
             channel,
-            number: 64,
+            number: HOLD_PEDAL,
             value,
         },
         6 => Command::Program {
@@ -123,7 +133,7 @@ fn command(i: u32) -> Command {
             number: value,
         },
         7 => Command::Param {
-            number: 155,
+            number: OPERATOR_SWITCH,
             value: value % 64,
         },
         _ => Command::Store { slot: value % 32 },

@@ -12,8 +12,7 @@ silent delay delay_state rate a b u s e p h q k f =
     rw (lt-ltb delay_state (2 ^ 31) lt, q, k, f, e)
 
 fading : (delay delay_state rate a b u s : ℕ) → rate ≡ delay_rate delay → a ≡ delay_state → 2 ^ 31 ≤ a → b ≡ delay_state → u ≡ rate_unit
-    → s ≡ max (rate - rate % 128) 128
-    → b + u * s ≡ raised_delay_state delay delay_state
+    → s ≡ max (rate - rate % 128) 128 → b + u * s ≡ raised_delay_state delay delay_state
 unfolding raised_delay_state
 fading delay delay_state rate a b u s e p h q k f =
     let le : 2 ^ 31 ≤ delay_state = omega arith in
@@ -22,9 +21,8 @@ fading delay delay_state rate a b u s e p h q k f =
 pub returns-clause-value : goal.returns-clause-value
 returns-clause-value c =
     elim c.if-from-lt-RISE.branch [
-      | then-from-lt-RISE w ↦ silent _ _ _ _ _ _ _ c.delay_rate-rate.ensures.value c.from.ensures w.if-from-lt-RISE.true c.from-2.ensures c.from-3.ensures
-          w.increment-is
-      | else-from-lt-RISE w ↦ fading _ _ _ _ _ _ _ c.delay_rate-rate.ensures.value c.from.ensures w.if-from-lt-RISE.false c.from-2.ensures c.from-3.ensures
-          (w.increment-is
-          ∙ w.max-increment.ensures)
+      | then-from-lt-RISE w ↦ silent _ _ _ _ _ _ _ c.delay_rate-rate.ensures.value c.from.ensures
+          w.if-from-lt-RISE.true c.from-2.ensures c.from-3.ensures w.increment-is
+      | else-from-lt-RISE w ↦ fading _ _ _ _ _ _ _ c.delay_rate-rate.ensures.value c.from.ensures
+          w.if-from-lt-RISE.false c.from-2.ensures c.from-3.ensures (w.increment-is ∙ w.max-increment.ensures)
     ]
