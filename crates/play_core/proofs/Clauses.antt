@@ -20,8 +20,8 @@ use Rattle.take_files.proofs.Laws.{orders_unique}
 use Rattle.turns.specs.Turns.{blocks_of, others_than, plan_of, many_commands}
 use Rattle.turns.specs.Timed.{ArePlayed, IsTimed}
 use Rattle.play_core.specs.declared.totals.Totals.{Totals}
-use Rattle.play_core.specs.declared.refusal.Refusal.{Refusal}
-use Rattle.play_core.specs.declared.refusal.Refusal.TheVariants as why
+use Rattle.play_core.specs.declared.refusal.PlayRefusal.{PlayRefusal}
+use Rattle.play_core.specs.declared.refusal.PlayRefusal.TheVariants as why
 use Rattle.play_core.specs.Words.{RequestData, requested_by}
 use Rattle.play_core.specs.Limits.{command_limit}
 use Rattle.play_core.specs.Verdict.{Verdict, Lacking, LongFile, LongScripts, Faulty, ManyCommands, ManyBlocks, Plays, IsPlayed, verdict, plans_in, blocks_of_run, places_of_run, nothing, with_script, with_plan, of_plan, of_file, of_blocks, of_scripts}
@@ -56,7 +56,7 @@ left_status left status is = by_test (left == 0) is
     by_test true e = inl e
     by_test false e = inr e
 
-pub refused_status : (why : Refusal) (status : ℕ) → status ≡ refusal_status why → WasPlayed status ⊎ (status ≡ 3) → ⊥
+pub refused_status : (why : PlayRefusal) (status : ℕ) → status ≡ refusal_status why → WasPlayed status ⊎ (status ≡ 3) → ⊥
 refused_status (why.Unread k) status is (inl (inl e)) = absurd (omega arith)
 refused_status (why.Unread k) status is (inl (inr e)) = absurd (omega arith)
 refused_status (why.Unread k) status is (inr e) = absurd (omega arith)
@@ -99,7 +99,7 @@ module _ (a : RequestData) (before now : Snapshot) (status : ℕ) where
   pub statuses : IsRun a before now status → IsOneOf status (0 ∷ 1 ∷ 2 ∷ 3 ∷ 4 ∷ 5 ∷ 6 ∷ 8 ∷ [])
   statuses (inl r) = of_refusal r.why r.status_is
     where
-      of_refusal : (why : Refusal) → status ≡ refusal_status why → IsOneOf status (0 ∷ 1 ∷ 2 ∷ 3 ∷ 4 ∷ 5 ∷ 6 ∷ 8 ∷ [])
+      of_refusal : (why : PlayRefusal) → status ≡ refusal_status why → IsOneOf status (0 ∷ 1 ∷ 2 ∷ 3 ∷ 4 ∷ 5 ∷ 6 ∷ 8 ∷ [])
       of_refusal (why.Unread k) is = inr (inr (inl is))
       of_refusal why.LongFile is = inr (inr (inr (inr (inr (inr (inl is))))))
       of_refusal why.LongScripts is = inr (inr (inr (inr (inr (inr (inl is))))))
@@ -113,7 +113,7 @@ module _ (a : RequestData) (before now : Snapshot) (status : ℕ) where
   pub not_usage : IsRun a before now status → status ≢ 1
   not_usage (inl r) is = of_refusal r.why r.status_is
     where
-      of_refusal : (why : Refusal) → status ≡ refusal_status why → ⊥
+      of_refusal : (why : PlayRefusal) → status ≡ refusal_status why → ⊥
       of_refusal (why.Unread k) e = omega arith
       of_refusal why.LongFile e = omega arith
       of_refusal why.LongScripts e = omega arith
@@ -219,7 +219,7 @@ eight ManyCommands status is = inr (inl is)
 eight ManyBlocks status is = inr (inl is)
 
 module _ (a : RequestData) (before now : Snapshot) (status : ℕ) where
-  refused_answers : (told : Files) → before.files ≡ Some told → ¬ (Rose before.reading now.reading) → (why : Refusal) → status ≡ refusal_status why
+  refused_answers : (told : Files) → before.files ≡ Some told → ¬ (Rose before.reading now.reading) → (why : PlayRefusal) → status ≡ refusal_status why
       → IsCaused why a.blocks before.files a.scripts before.reading now.reading → AgreesWith why (verdict a told) → Answers (verdict a told) status
   refused_answers told is none (why.Unread k) e cause tells =
       rw (lacking_verdict a told k before.reading now.reading (subst (λ (o : Option Files). IsUnread k a.blocks o a.scripts before.reading now.reading) is cause) none) (inl e)
@@ -239,7 +239,7 @@ module _ (a : RequestData) (before now : Snapshot) (status : ℕ) where
   reads_of : IsRun a before now status → status ≢ 2 → now.reading ≡ before.reading
   reads_of (inl r) other = by_why r.why r.status_is r.cause
     where
-      by_why : (why : Refusal) → status ≡ refusal_status why → IsCaused why a.blocks before.files a.scripts before.reading now.reading → now.reading ≡ before.reading
+      by_why : (why : PlayRefusal) → status ≡ refusal_status why → IsCaused why a.blocks before.files a.scripts before.reading now.reading → now.reading ≡ before.reading
       by_why (why.Unread k) e cause = absurd (other e)
       by_why why.LongFile e cause = cause
       by_why why.LongScripts e cause = cause
@@ -259,7 +259,7 @@ module _ (a : RequestData) (before now : Snapshot) (status : ℕ) where
       × Says (cannot_read (slice_index_or a.scripts k [])) before.written now.written before.faults now.faults
   unread_of r two = by_why r.why r.status_is r.cause r.line
     where
-      by_why : (why : Refusal) → status ≡ refusal_status why → IsCaused why a.blocks before.files a.scripts before.reading now.reading
+      by_why : (why : PlayRefusal) → status ≡ refusal_status why → IsCaused why a.blocks before.files a.scripts before.reading now.reading
           → Says (refusal_line why a.scripts) before.written now.written before.faults now.faults
           → (k : ℕ) × IsUnread k a.blocks before.files a.scripts before.reading now.reading × Says (cannot_read (slice_index_or a.scripts k [])) before.written now.written before.faults now.faults
       by_why (why.Unread k) e cause line = (k, cause, line)
@@ -273,7 +273,7 @@ module _ (a : RequestData) (before now : Snapshot) (status : ℕ) where
   memory_of : IsRefused a before now status → status ≡ 8 → Says out_of_memory before.written now.written before.faults now.faults
   memory_of r is = by_why r.why r.status_is r.line
     where
-      by_why : (why : Refusal) → status ≡ refusal_status why → Says (refusal_line why a.scripts) before.written now.written before.faults now.faults
+      by_why : (why : PlayRefusal) → status ≡ refusal_status why → Says (refusal_line why a.scripts) before.written now.written before.faults now.faults
           → Says out_of_memory before.written now.written before.faults now.faults
       by_why (why.Unread k) e line = absurd (omega arith)
       by_why why.LongFile e line = absurd (omega arith)
@@ -293,7 +293,7 @@ module _ (a : RequestData) (before now : Snapshot) (status : ℕ) where
       × Says (fault_line k place what) before.written now.written before.faults now.faults
   fault_of words asks r four = by_why r.why r.status_is (λ told is. if_told (λ x. AgreesWith r.why (verdict a x)) before.files told is r.tells) r.line
     where
-      by_why : (why : Refusal) → status ≡ refusal_status why → ((told : Files) → before.files ≡ Some told → AgreesWith why (verdict a told))
+      by_why : (why : PlayRefusal) → status ≡ refusal_status why → ((told : Files) → before.files ≡ Some told → AgreesWith why (verdict a told))
           → Says (refusal_line why a.scripts) before.written now.written before.faults now.faults
           → (k : ℕ) × (place : Place) × (what : ScriptKind) × Told words before.files (λ b told. verdict b told ≡ Faulty k place what)
           × Says (fault_line k place what) before.written now.written before.faults now.faults
@@ -309,7 +309,7 @@ module _ (a : RequestData) (before now : Snapshot) (status : ℕ) where
       → (v : Verdict) × IsLimit v × Told words before.files (λ b told. verdict b told ≡ v) × Says (limit_line v) before.written now.written before.faults now.faults
   limit_of words asks r six = by_why r.why r.status_is (λ told is. if_told (λ x. AgreesWith r.why (verdict a x)) before.files told is r.tells) r.line
     where
-      by_why : (why : Refusal) → status ≡ refusal_status why → ((told : Files) → before.files ≡ Some told → AgreesWith why (verdict a told))
+      by_why : (why : PlayRefusal) → status ≡ refusal_status why → ((told : Files) → before.files ≡ Some told → AgreesWith why (verdict a told))
           → Says (refusal_line why a.scripts) before.written now.written before.faults now.faults
           → (v : Verdict) × IsLimit v × Told words before.files (λ b told. verdict b told ≡ v) × Says (limit_line v) before.written now.written before.faults now.faults
       by_why (why.Unread k) e tells line = absurd (omega arith)
@@ -322,7 +322,7 @@ module _ (a : RequestData) (before now : Snapshot) (status : ℕ) where
 
   -- a refusal that the told files don't bear out
   refused_complete : (told : Files) (plans : List (List PlannedData)) → before.files ≡ Some told → verdict a told ≡ Plays plans → ¬ (Rose before.reading now.reading)
-      → (why : Refusal) → status ≡ refusal_status why → IsCaused why a.blocks before.files a.scripts before.reading now.reading → AgreesWith why (verdict a told) → status ≡ 8
+      → (why : PlayRefusal) → status ≡ refusal_status why → IsCaused why a.blocks before.files a.scripts before.reading now.reading → AgreesWith why (verdict a told) → status ≡ 8
   refused_complete told plans is right none (why.Unread k) e cause tells =
       let lacks = lacking_verdict a told k before.reading now.reading (subst (λ (o : Option Files). IsUnread k a.blocks o a.scripts before.reading now.reading) is cause) none in absurd (cc)
   refused_complete told plans is right none why.LongFile e cause tells = absurd (cc)

@@ -4,7 +4,8 @@ pub mod Writes
 pub mod Counts
 pub mod Clauses
 pub mod Runs
-pub mod Stages
+pub mod Setups
 pub mod Following
 pub mod NeverFailing
 pub mod Prompt
+pub mod Failing

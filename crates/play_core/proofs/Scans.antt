@@ -13,8 +13,8 @@ use Rattle.script_plan.specs.Plan.{PlannedData}
 use Rattle.script_outcome.specs.Plan.{Plan, Commands, Refused, TooMany}
 use Rattle.script_read.specs.Plan.{plan}
 use Rattle.play_core.specs.declared.totals.Totals.{Totals}
-use Rattle.play_core.specs.declared.refusal.Refusal.{Refusal}
-use Rattle.play_core.specs.declared.refusal.Refusal.TheVariants as why
+use Rattle.play_core.specs.declared.refusal.PlayRefusal.{PlayRefusal}
+use Rattle.play_core.specs.declared.refusal.PlayRefusal.TheVariants as why
 use Rattle.instrument.specs.Limits.{block_limit}
 use Rattle.play_core.specs.Limits.{command_limit, script_limit, scripts_limit}
 use Rattle.turns.specs.Turns.{many_commands}
@@ -77,7 +77,7 @@ unfolding of_scripts
 reads_whole told blocks names plans t so_far =
     ap (of_scripts told blocks nothing) (sym (append-nil names)) ∙ so_far [] ∙ ap (λ (l : List (List PlannedData)). Plays l) (append-nil plans)
 
-tells_all : (why : Refusal) (plans : List (List PlannedData)) (said : Verdict) → AgreesWith why said → AgreesWith why (with_all plans said)
+tells_all : (why : PlayRefusal) (plans : List (List PlannedData)) (said : Verdict) → AgreesWith why said → AgreesWith why (with_all plans said)
 tells_all (why.Unread number) plans said tells = tt
 tells_all why.LongFile plans said tells = rw tells refl
 tells_all why.LongScripts plans said tells = rw tells refl
@@ -86,7 +86,7 @@ tells_all why.ManyCommands plans said tells = rw tells refl
 tells_all why.ManyBlocks plans said tells = rw tells refl
 tells_all why.Memory plans said tells = tt
 
-pub tells_whole : (why : Refusal) (told : Files) (blocks : Option ℕ) (names before : List (List ℕ)) (name : List ℕ) (rest : List (List ℕ)) (plans : List (List PlannedData)) (t : Totals)
+pub tells_whole : (why : PlayRefusal) (told : Files) (blocks : Option ℕ) (names before : List (List ℕ)) (name : List ℕ) (rest : List (List ℕ)) (plans : List (List PlannedData)) (t : Totals)
     → names ≡ before ++ name ∷ rest → AreRead told blocks before plans t
     → ((after : List ℕ → List PlannedData → Verdict) → AgreesWith why (of_file blocks t name (get told name) after))
     → AgreesWith why (of_scripts told blocks nothing names)
@@ -128,7 +128,7 @@ all_read (Some told) blocks names i plans t over so_far =
     reads_whole told blocks (map string_bytes names) plans t
     (subst (λ (l : List (String Global)). AreRead told blocks (map string_bytes l) plans t) (take_all i names over) so_far)
 
-pub refused_tells : (why : Refusal) (files : Option Files) (blocks : Option ℕ) (names : List (String Global)) (i : ℕ) (name : String Global) (q : List ℕ) (plans : List (List PlannedData)) (t : Totals)
+pub refused_tells : (why : PlayRefusal) (files : Option Files) (blocks : Option ℕ) (names : List (String Global)) (i : ℕ) (name : String Global) (q : List ℕ) (plans : List (List PlannedData)) (t : Totals)
     → i < length names → name ≡ get_or names i name → q ≡ string_bytes name → AreReadOf files blocks names i plans t → NextTells why files blocks q t
     → IfSome files (λ told. AgreesWith why (of_scripts told blocks nothing (map string_bytes names)))
 refused_tells why None blocks names i name q plans t below is text so_far tells = so_far
@@ -143,7 +143,7 @@ good_before None blocks names i plans t so_far = so_far
 good_before (Some told) blocks names i plans t so_far =
     rw (take-map string_bytes i names, reads_whole told blocks (map string_bytes (take i names)) plans t so_far) tt
 
-pub refused_cause : (why : Refusal) (files : Option Files) (blocks : Option ℕ) (names : List (String Global)) (i number : ℕ) (name : String Global) (q : List ℕ) (plans : List (List PlannedData)) (t : Totals) (before now : ℕ)
+pub refused_cause : (why : PlayRefusal) (files : Option Files) (blocks : Option ℕ) (names : List (String Global)) (i number : ℕ) (name : String Global) (q : List ℕ) (plans : List (List PlannedData)) (t : Totals) (before now : ℕ)
     → i < length names → name ≡ get_or names i name → q ≡ string_bytes name → number ≡ i → AreReadOf files blocks names i plans t → NextCause why number files q before now
     → IsCaused why blocks files (map string_bytes names) before now
 refused_cause (why.Unread k) files blocks names i number name q plans t before now below is text counted so_far cause =
@@ -171,7 +171,7 @@ below_pushed (Some b) plans one all last = All-append (λ (l : List PlannedData)
 
 -- what decides of a run with its number of blocks
 
-tells_blocks : (why : Refusal) (blocks : Option ℕ) (said : Verdict) → AgreesWith why said → AgreesWith why (of_blocks blocks said)
+tells_blocks : (why : PlayRefusal) (blocks : Option ℕ) (said : Verdict) → AgreesWith why said → AgreesWith why (of_blocks blocks said)
 tells_blocks (why.Unread number) blocks said tells = tt
 tells_blocks why.LongFile blocks said tells = rw tells refl
 tells_blocks why.LongScripts blocks said tells = rw tells refl
@@ -180,7 +180,7 @@ tells_blocks why.ManyCommands blocks said tells = rw tells refl
 tells_blocks why.ManyBlocks blocks said tells = rw tells refl
 tells_blocks why.Memory blocks said tells = tt
 
-pub tells_verdict : (why : Refusal) (a : RequestData) (files : Option Files)
+pub tells_verdict : (why : PlayRefusal) (a : RequestData) (files : Option Files)
     → IfSome files (λ told. AgreesWith why (of_scripts told a.blocks nothing a.scripts)) → IfSome files (λ told. AgreesWith why (verdict a told))
 unfolding verdict
 tells_verdict why a None tells = tt

@@ -18,7 +18,7 @@ Asks words P = IfSome (requested_by words) P
 
 -- the words ask for this, and the files are told
 abbrev pub Told : List (List ℕ) → Option Files → (RequestData → Files → Type 0) → Type 0
-Told words files P = IfSome (requested_by words) (λ a. IfSome files (λ told. P a told))
+Told words files P = IfSome (requested_by words) (λ request. IfSome files (λ told. P request told))
 
 -- all turns were played
 abbrev pub WasPlayed : ℕ → Type 0
@@ -26,15 +26,16 @@ WasPlayed status = (status ≡ 0) ⊎ (status ≡ 5)
 
 -- where all turns were played over told files: this holds of what was asked for and of the plans of the scripts' bytes as they were at entry
 abbrev pub Played : List (List ℕ) → ℕ → Option Files → (RequestData → List (List PlannedData) → Type 0) → Type 0
-Played words status files P = WasPlayed status → Told words files (λ a told. P a (plans_in (verdict a told)))
+Played words status files P = WasPlayed status → Told words files (λ request told. P request (plans_in (verdict request told)))
 
 -- the named file is the order that says this
 abbrev pub Lists : Option Files → List ℕ → OrderData → Type 0
-Lists files name o = IsSomeAnd (file_of files name) (λ text. IsOrder text o)
+Lists files name order = IsSomeAnd (file_of files name) (λ text. IsOrder text order)
 
 -- the same of the journal, the blocks and the scripts that the order file lists
 abbrev pub PlayedAs : List (List ℕ) → ℕ → Option Files → Option Files → (RequestData → List (List PlannedData) → OrderData → Type 0) → Type 0
-PlayedAs words status files now P = Played words status files (λ a plans. (o : OrderData) → Lists now a.order o → P a plans o)
+PlayedAs words status files now P =
+    Played words status files (λ request plans. (order : OrderData) → Lists now request.order order → P request plans order)
 
 -- the journal has each command of each script exactly once, in the script's order, numbered from 0 on, with the block that it was due at
 abbrev pub HasAll : List LoggedData → List (List PlannedData) → Type 0
@@ -87,6 +88,6 @@ Answers ManyBlocks status = IsOneOf status (6 ∷ 8 ∷ [])
 -- where all is right and nothing fails: all commands are played, where the line has a place for each, and else some may be left; unless
 -- memory runs out
 abbrev pub IsComplete : RequestData → Verdict → ℕ → Type 0
-IsComplete a said status =
+IsComplete request said status =
     (plans : List (List PlannedData)) → said ≡ Plays plans
-    → IsOneOf status (0 ∷ 5 ∷ 8 ∷ []) × (many_commands plans ≤ places_of_run a.places plans → IsOneOf status (0 ∷ 8 ∷ []))
+    → IsOneOf status (0 ∷ 5 ∷ 8 ∷ []) × (many_commands plans ≤ places_of_run request.places plans → IsOneOf status (0 ∷ 8 ∷ []))

@@ -6,5 +6,5 @@ pub mod Scan
 pub mod Lines
 pub mod Files
 pub mod Run
-pub mod Stage
+pub mod Setup
 pub mod Headline

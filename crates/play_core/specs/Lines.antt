@@ -5,8 +5,8 @@ use Rattle.script_outcome.specs.declared.fault.Place.{Place}
 use Rattle.script_outcome.specs.declared.fault.Place.TheVariants.{Line, Byte}
 use Rattle.script_outcome.specs.declared.fault.ScriptKind.{ScriptKind}
 use Rattle.script_outcome.specs.Text.{script_text}
-use Rattle.play_core.specs.declared.refusal.Refusal.{Refusal}
-use Rattle.play_core.specs.declared.refusal.Refusal.TheVariants as why
+use Rattle.play_core.specs.declared.refusal.PlayRefusal.{PlayRefusal}
+use Rattle.play_core.specs.declared.refusal.PlayRefusal.TheVariants as why
 
 -- the words are not of the grammar
 unfoldable pub usage : List ℕ
@@ -46,7 +46,7 @@ abbrev pub report : ℕ → ℕ → ℕ → List ℕ
 report left blocks commands = if left == 0 then ok_line blocks commands else left_line left blocks commands
 
 -- the line of a refusal, of scripts with these names
-abbrev pub refusal_line : Refusal → List (List ℕ) → List ℕ
+abbrev pub refusal_line : PlayRefusal → List (List ℕ) → List ℕ
 refusal_line (why.Unread k) names = cannot_read (slice_index_or names k [])
 refusal_line why.LongFile names = limit_file
 refusal_line why.LongScripts names = limit_scripts
@@ -56,7 +56,7 @@ refusal_line why.ManyBlocks names = limit_blocks
 refusal_line why.Memory names = out_of_memory
 
 -- the status of a refusal
-abbrev pub refusal_status : Refusal → ℕ
+abbrev pub refusal_status : PlayRefusal → ℕ
 refusal_status (why.Unread k) = 2
 refusal_status why.LongFile = 6
 refusal_status why.LongScripts = 6

@@ -1,7 +1,7 @@
 -- What a run comes to.
-use Rattle.std.specs.Prelude.{◌≡◌, ◌⊎◌, ℕ, ◌-◌, ◌≤◌, ◌==◌, List, length, Option, IfSome, IsSomeAnd, option_map, if◌then◌else◌}
+use Rattle.std.specs.Prelude.{◌≡◌, ◌⊎◌, ℕ, ◌-◌, ◌≤◌, ◌==◌, List, ◌++◌, length, Option, Some, IfSome, IsSomeAnd, option_map, if◌then◌else◌}
 use Rattle.outside.specs.Files.{Files, SaidSome, said}
-use Rattle.outside.specs.Faults.{Rose}
+use Rattle.outside.specs.Faults.{Rose, FailedFirst}
 use Rattle.outside.specs.Snapshot.{Snapshot}
 use Rattle.fault_lines.specs.Lines.{Says, cannot_write}
 use Rattle.command_set.specs.Entries.{LoggedData}
@@ -9,7 +9,7 @@ use Rattle.script_plan.specs.Plan.{PlannedData}
 use Rattle.take_files.specs.Files.{order, wav}
 use Rattle.take_files.specs.Orders.{IsOrdered}
 use Rattle.turns.specs.Timed.{ArePlayed, IsTimed}
-use Rattle.play_core.specs.declared.refusal.Refusal.{Refusal}
+use Rattle.play_core.specs.declared.refusal.PlayRefusal.{PlayRefusal}
 use Rattle.play_core.specs.Words.{RequestData}
 use Rattle.turns.specs.Turns.{many_commands}
 use Rattle.play_core.specs.Verdict.{Plays, verdict, blocks_of_run, places_of_run}
@@ -19,7 +19,7 @@ use Rattle.play_core.specs.Files.{AreBegun, with_two}
 
 -- nothing was played: no file was touched, and the line of the refusal was put
 pub record IsRefused (a : RequestData) (before now : Snapshot) (status : ℕ) : Type 0 where
-  pub why : Refusal
+  pub why : PlayRefusal
   pub status_is : status ≡ refusal_status why
   pub files : now.files ≡ before.files
   pub writing : now.writing ≡ before.writing
@@ -99,3 +99,15 @@ abbrev pub HasReported : List ℕ → ℕ → Option (List ℕ) → Option (List
 HasReported line status before now faults_before faults_now result =
     ((result ≡ status) × (now ≡ option_map (said line) before) × (faults_now ≡ faults_before))
     ⊎ ((result ≡ 3) × Rose faults_before faults_now × ((now ≡ before) ⊎ SaidSome line before now))
+
+-- what failed since comes after what had failed before
+abbrev pub FailedLater : Option (List (List ℕ)) → Option (List (List ℕ)) → Type 0
+FailedLater before now = IfSome now (λ names. (later : List (List ℕ)) × (option_map (λ old. old ++ later) before ≡ Some names))
+
+-- The file that is named is the one of the two whose write failed first, where the shelf tells that; or it tells of none that failed.
+abbrev pub NamesFailed : List ℕ → List ℕ → Option (List (List ℕ)) → Option (List (List ℕ))
+    → Option (List ℕ) → Option (List ℕ) → ℕ → ℕ → Type 0
+NamesFailed out order failed_before failed_now before now faults_before faults_now =
+    (failed_now ≡ failed_before)
+    ⊎ (FailedFirst out failed_before failed_now × Says (cannot_write out) before now faults_before faults_now)
+    ⊎ (FailedFirst order failed_before failed_now × Says (cannot_write order) before now faults_before faults_now)

@@ -7,8 +7,8 @@ use Rattle.script_plan.specs.Plan.{PlannedData}
 use Rattle.script_outcome.specs.Plan.{Commands}
 use Rattle.script_read.specs.Plan.{plan}
 use Rattle.play_core.specs.declared.totals.Totals.{Totals}
-use Rattle.play_core.specs.declared.refusal.Refusal.{Refusal}
-use Rattle.play_core.specs.declared.refusal.Refusal.TheVariants as why
+use Rattle.play_core.specs.declared.refusal.PlayRefusal.{PlayRefusal}
+use Rattle.play_core.specs.declared.refusal.PlayRefusal.TheVariants as why
 use Rattle.play_core.specs.Limits.{command_limit, script_limit, scripts_limit}
 use Rattle.play_core.specs.Verdict.{Verdict, Lacking, LongFile, LongScripts, Faulty, ManyCommands, ManyBlocks, Plays, nothing, with_script, of_file, of_scripts}
 use Rattle.play_core.specs.Refused.{AgreesWith}
@@ -46,12 +46,12 @@ AreRead told blocks names plans t =
     (rest : List (List ℕ)) → of_scripts told blocks nothing (names ++ rest) ≡ with_all plans (of_scripts told blocks t rest)
 
 -- what a refusal of the next script tells, whatever comes after it
-abbrev pub NextTells : Refusal → Option Files → Option ℕ → List ℕ → Totals → Type 0
+abbrev pub NextTells : PlayRefusal → Option Files → Option ℕ → List ℕ → Totals → Type 0
 NextTells why files blocks name t =
     IfSome files (λ told. (after : List ℕ → List PlannedData → Verdict) → AgreesWith why (of_file blocks t name (get told name) after))
 
 -- why the next script, which has this number, was refused
-abbrev pub NextCause : Refusal → ℕ → Option Files → List ℕ → ℕ → ℕ → Type 0
+abbrev pub NextCause : PlayRefusal → ℕ → Option Files → List ℕ → ℕ → ℕ → Type 0
 NextCause (why.Unread k) number files name before now = (k ≡ number) × (Rose before now ⊎ Lacks files name)
 NextCause why.LongFile number files name before now = now ≡ before
 NextCause why.LongScripts number files name before now = now ≡ before

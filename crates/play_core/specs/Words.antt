@@ -1,7 +1,7 @@
 -- The words of the program's command line.
 use Rattle.std.specs.Prelude.{◌≢◌, ℕ, ◌≤◌, List, [], ◌∷◌, Option, Some, None, IfSome, option_map, option_and_then, Bool, not, ◌&&◌, nat_lt, nat_le, length, map, string_bytes, bytes_eq, codes, if◌then◌else◌}
 use Rattle.std.specs.List.{list_all}
-use Rattle.play_core.specs.declared.words.Request.{Request}
+use Rattle.play_core.specs.declared.words.PlayRequest.{PlayRequest}
 use Rattle.plain_text.specs.Number.{number}
 use Rattle.instrument.specs.Limits.{block_limit}
 use Rattle.play_core.specs.Limits.{place_limit}
@@ -16,11 +16,11 @@ pub record RequestData : Type 0 where
   pub scripts : List (List ℕ)
 
 -- the same of a value of the program
-abbrev pub request_data : Request → RequestData
+abbrev pub request_data : PlayRequest → RequestData
 request_data r = record { out = r.out.now; order = r.order.now; blocks = r.blocks; places = r.places; scripts = map string_bytes r.scripts.now }
 
 -- what the words may ask for: two names that differ, one to 256 scripts, and numbers of blocks and places within their limits
-pub record IsRequest (r : Request) : Type 0 where
+pub record IsRequest (r : PlayRequest) : Type 0 where
   pub differ : r.out.now ≢ r.order.now
   pub scripts : (1 ≤ length r.scripts.now) × (length r.scripts.now ≤ 256)
   pub blocks : IfSome r.blocks (λ b. (1 ≤ b) × (b ≤ block_limit))

@@ -4,7 +4,7 @@ ghost use Rattle.fault_lines.specs.Lines.{Says, cannot_read};
 ghost use Rattle.play_core.specs.Lines as lines;
 ghost use Rattle.play_core.specs.Refused.{IsWithin};
 
-use crate::refusal::Refusal;
+use crate::refusal::PlayRefusal;
 use fault_lines::{say, say_cannot_read, say_limit_commands, say_limit_file, say_out_of_memory};
 use outside::Out;
 use plain_text::{LineText, push_number, push_text};
@@ -66,26 +66,26 @@ fn say_fault<O: Out>(out: &mut O, script: u32, place: Place, kind: &ScriptKind)
 }
 
 /// Puts the line of a refusal, of scripts with these names, and answers its status.
-pub(crate) fn refuse<O: Out>(out: &mut O, why: Refusal, names: &[String]) -> u8
+pub(crate) fn refuse<O: Out>(out: &mut O, why: PlayRefusal, names: &[String]) -> u8
     requires { IsWithin why (length names.now) }
     ensures status { result ≡ lines.refusal_status why }
     ensures line { Says (lines.refusal_line why (map string_bytes names.now))
         (O.written out.old) (O.written out.new) (O.faults out.old) (O.faults out.new) }
 {
     match why {
-        Refusal::Unread(number) => {
+        PlayRefusal::Unread(number) => {
             say_unread(out, names, number);
             2
         }
-        Refusal::LongFile => {
+        PlayRefusal::LongFile => {
             say_limit_file(out);
             6
         }
-        Refusal::LongScripts => {
+        PlayRefusal::LongScripts => {
             say_limit_scripts(out);
             6
         }
-        Refusal::Fault {
+        PlayRefusal::Fault {
             script,
             place,
             kind,
@@ -93,15 +93,15 @@ pub(crate) fn refuse<O: Out>(out: &mut O, why: Refusal, names: &[String]) -> u8
             say_fault(out, script, place, &kind);
             4
         }
-        Refusal::ManyCommands => {
+        PlayRefusal::ManyCommands => {
             say_limit_commands(out);
             6
         }
-        Refusal::ManyBlocks => {
+        PlayRefusal::ManyBlocks => {
             say_limit_blocks(out);
             6
         }
-        Refusal::Memory => {
+        PlayRefusal::Memory => {
             say_out_of_memory(out);
             8
         }

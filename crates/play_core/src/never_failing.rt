@@ -33,13 +33,13 @@ pub fn play_never_failing<R: Threads + Wait + Sync, O: Out, G: Gate>(
     ensures words { result ≡ 1 ↔ requested_by (map string_bytes words.now) ≡ None }
     ensures write { result ≡ 3 → Rose (O.faults out.old) (O.faults out.new) }
     ensures puts { WasPlayed result → O.faults out.new ≡ O.faults out.old }
-    ensures line { WasPlayed result → Asks (map string_bytes words.now) (λ a. (left : ℕ) × (blocks : ℕ) × (commands : ℕ)
-        × (result ≡ (if left == 0 then 0 else 5)) × IfSome a.blocks (λ b. blocks ≡ b)
+    ensures line { WasPlayed result → Asks (map string_bytes words.now) (λ request. (left : ℕ) × (blocks : ℕ) × (commands : ℕ)
+        × (result ≡ (if left == 0 then 0 else 5)) × IfSome request.blocks (λ b. blocks ≡ b)
         × (O.written out.new ≡ option_map (said (report left blocks commands)) (O.written out.old))) }
-    ensures stopped { result ≡ 3 → Asks (map string_bytes words.now) (λ a. (left : ℕ) × (blocks : ℕ) × (commands : ℕ)
-        × IfSome a.blocks (λ b. blocks ≡ b)
+    ensures stopped { result ≡ 3 → Asks (map string_bytes words.now) (λ request. (left : ℕ) × (blocks : ℕ) × (commands : ℕ)
+        × IfSome request.blocks (λ b. blocks ≡ b)
         × ((O.written out.new ≡ O.written out.old) ⊎ SaidSome (report left blocks commands) (O.written out.old) (O.written out.new))) }
-    ensures places { result ≡ 5 → Asks (map string_bytes words.now) (λ a. a.places ≢ None) }
+    ensures places { result ≡ 5 → Asks (map string_bytes words.now) (λ request. request.places ≢ None) }
     ensures usage { result ≡ 1 → Says usage (O.written out.old) (O.written out.new) (O.faults out.old) (O.faults out.new) }
     ensures fault { result ≡ 4 → (k : ℕ) × (place : Place) × (kind : ScriptKind)
         × Says (fault_line k place kind) (O.written out.old) (O.written out.new) (O.faults out.old) (O.faults out.new) }

@@ -6,11 +6,11 @@ ghost use Rattle.play_core.specs.Limits.{command_limit};
 ghost use Rattle.play_core.specs.Verdict.{verdict};
 ghost use Rattle.play_core.specs.Refused.{IsCaused, IsWithin, AgreesWith};
 ghost use Rattle.outside.specs.Snapshot.{snapshot};
-ghost use Rattle.play_core.specs.Run.{HavePlans, HasReported, IsPlayedRun, IsRun};
+ghost use Rattle.play_core.specs.Run.{FailedLater, HavePlans, HasReported, IsPlayedRun, IsRun, NamesFailed};
 ghost use Rattle.play_core.specs.Headline.{WasPlayed};
-ghost use Rattle.play_core.specs.Stage.{IsStage};
+ghost use Rattle.play_core.specs.Setup.{IsSetup};
 ghost use Rattle.turns.specs.Turns.{plans_of, many_commands};
-ghost use Rattle.turns.specs.Written.{HoldsNothing};
+ghost use Rattle.turns.specs.Written.{Blames, HoldsNothing, name_of};
 ghost use Rattle.outside.specs.Faults.{HasCause};
 ghost use Rattle.fault_lines.specs.Lines.{Says, cannot_write};
 ghost use Rattle.take_files.specs.Files.{wav_header as wav_bytes, order_header as order_bytes};
@@ -19,10 +19,10 @@ ghost use Rattle.play_core.specs.Files.{IsStopped, with_two};
 
 use crate::files::write_files;
 use crate::lines::{refuse, report_of};
-use crate::refusal::Refusal;
+use crate::refusal::PlayRefusal;
 use crate::scan::read_scripts;
-use crate::stage::{Stage, choose_blocks, set_stage};
-use crate::words::Request;
+use crate::setup::{Setup, choose_blocks};
+use crate::words::PlayRequest;
 use fault_lines::say_cannot_write;
 use instrument::Engine;
 use outside::{Gate, Out, Shelf, put_all, write_out};
@@ -38,7 +38,7 @@ use velocity_map::MapSet;
 pub(crate) fn play<R: Threads + Wait + Sync, S: Shelf, O: Out, G: Gate>(
     rt: &R,
     alloc: Global,
-    request: Request<'_>,
+    request: PlayRequest<'_>,
     shelf: &mut S,
     out: &mut O,
     gate: &G,
@@ -48,10 +48,12 @@ pub(crate) fn play<R: Threads + Wait + Sync, S: Shelf, O: Out, G: Gate>(
     ensures run { IsRun (request_data request.entry)
         (snapshot (S.files shelf.old) (S.reading shelf.old) (S.writing shelf.old) (O.written out.old) (O.faults out.old))
         (snapshot (S.files shelf.new) (S.reading shelf.new) (S.writing shelf.new) (O.written out.new) (O.faults out.new)) result }
+    ensures names { result ≡ 3 → NamesFailed request.entry.out.now request.entry.order.now (S.failed shelf.old) (S.failed shelf.new)
+        (O.written out.old) (O.written out.new) (O.faults out.old) (O.faults out.new) }
     ensures written_out { WasPlayed result → HoldsNothing (S.held shelf.new) request.entry.out.now request.entry.order.now }
 {
     match prepare(alloc, shelf, request, maps) {
-        Ok(stage) => perform(rt, shelf, out, request, stage, gate),
+        Ok(setup) => perform(rt, shelf, out, request, setup, gate),
         Err(why) => refuse(out, why, request.scripts),
     }
 }
@@ -60,18 +62,19 @@ pub(crate) fn play<R: Threads + Wait + Sync, S: Shelf, O: Out, G: Gate>(
 fn prepare<S: Shelf>(
     alloc: Global,
     shelf: &mut S,
-    request: Request<'_>,
+    request: PlayRequest<'_>,
     maps: &MapSet,
-) -> Result<Stage, Refusal>
+) -> Result<Setup, PlayRefusal>
     requires { IsRequest request }
-    ensures stage { IfOk result (λ stage. IsStage request.entry.blocks request.entry.places (plans_of stage.players.items) stage) }
-    ensures plans { IfOk result (λ stage. HavePlans (request_data request.entry) (S.files shelf.old) (plans_of stage.players.items)) }
+    ensures setup { IfOk result (λ setup. IsSetup request.entry.blocks request.entry.places (plans_of setup.cast.players.items) setup) }
+    ensures plans { IfOk result (λ setup. HavePlans (request_data request.entry) (S.files shelf.old) (plans_of setup.cast.players.items)) }
     ensures kept { OnOk result (S.reading shelf.new ≡ S.reading shelf.old) }
     ensures tells { IfErr result (λ why. IfSome (S.files shelf.old) (λ told. AgreesWith why (verdict (request_data request.entry) told))) }
     ensures cause { IfErr result (λ why. IsCaused why request.entry.blocks (S.files shelf.old) (map string_bytes request.entry.scripts.now)
         (S.reading shelf.old) (S.reading shelf.new)) }
-    ensures few { IfOk result (λ stage. many_commands (plans_of stage.players.items) ≤ command_limit) }
+    ensures few { IfOk result (λ setup. many_commands (plans_of setup.cast.players.items) ≤ command_limit) }
     ensures within { IfErr result (λ why. IsWithin why (length request.entry.scripts.now)) }
+    ensures failed { S.failed shelf.new ≡ S.failed shelf.old }
     ensures files { S.files shelf.new ≡ S.files shelf.old }
     ensures writing { S.writing shelf.new ≡ S.writing shelf.old }
 {
@@ -81,16 +84,16 @@ fn prepare<S: Shelf>(
     };
     let blocks = match choose_blocks(request.blocks, &scripts) {
         Some(blocks) => blocks,
-        None => return Err(Refusal::ManyBlocks),
+        None => return Err(PlayRefusal::ManyBlocks),
     };
-    match set_stage(alloc, scripts, blocks, request.places) {
-        Ok(stage) => Ok(stage),
-        Err(_) => Err(Refusal::Memory),
+    match Setup::new(alloc, scripts, blocks, request.places) {
+        Ok(setup) => Ok(setup),
+        Err(_) => Err(PlayRefusal::Memory),
     }
 }
 
 // Makes both files with their first bytes.
-fn begin_files<S: Shelf>(shelf: &mut S, request: Request<'_>, blocks: u32) -> Result<(), Target>
+fn begin_files<S: Shelf>(shelf: &mut S, request: PlayRequest<'_>, blocks: u32) -> Result<(), Target>
     requires request { IsRequest request }
     requires blocks { blocks ≤ block_limit }
     ensures whole { OnOk result (S.files shelf.new ≡ option_map
@@ -99,6 +102,7 @@ fn begin_files<S: Shelf>(shelf: &mut S, request: Request<'_>, blocks: u32) -> Re
     ensures stopped { IfErr result (λ target. IsStopped target (S.files shelf.old) (S.files shelf.new)
         request.entry.out.now (wav_bytes blocks) request.entry.order.now (order_bytes blocks (length request.entry.scripts.now))) }
     ensures cause { HasCause (S.writing shelf.old) (S.writing shelf.new) (S.reading shelf.old) (S.reading shelf.new) ⊥ result }
+    ensures blames { Blames result request.entry.out.now request.entry.order.now (S.failed shelf.old) (S.failed shelf.new) }
 {
     let mut line = LineText::new();
     let scripts = request.scripts.len() as u32;
@@ -113,31 +117,30 @@ fn perform<R: Threads + Wait + Sync, S: Shelf, O: Out, G: Gate>(
     rt: &R,
     shelf: &mut S,
     out: &mut O,
-    request: Request<'_>,
-    stage: Stage,
+    request: PlayRequest<'_>,
+    setup: Setup,
     gate: &G,
 ) -> u8
     requires request { IsRequest request }
-    requires stage { IsStage request.blocks request.places (plans_of stage.players.items) stage }
-    requires plans { HavePlans (request_data request) (S.files shelf.old) (plans_of stage.players.items) }
-    requires few { many_commands (plans_of stage.players.items) ≤ command_limit }
+    requires setup { IsSetup request.blocks request.places (plans_of setup.cast.players.items) setup }
+    requires plans { HavePlans (request_data request) (S.files shelf.old) (plans_of setup.cast.players.items) }
+    requires few { many_commands (plans_of setup.cast.players.items) ≤ command_limit }
     ensures run { IsPlayedRun (request_data request.entry)
         (snapshot (S.files shelf.old) (S.reading shelf.old) (S.writing shelf.old) (O.written out.old) (O.faults out.old))
         (snapshot (S.files shelf.new) (S.reading shelf.new) (S.writing shelf.new) (O.written out.new) (O.faults out.new)) result }
+    ensures names { result ≡ 3 → NamesFailed request.entry.out.now request.entry.order.now (S.failed shelf.old) (S.failed shelf.new)
+        (O.written out.old) (O.written out.new) (O.faults out.old) (O.faults out.new) }
     ensures written_out { WasPlayed result → HoldsNothing (S.held shelf.new) request.entry.out.now request.entry.order.now }
 {
-    let blocks = stage.blocks;
-    let commands = stage.commands;
+    let blocks = setup.blocks;
+    let commands = setup.commands;
     match begin_files(shelf, request, blocks) {
         Ok(()) => {}
         Err(target) => return stop(shelf, out, request, target),
     }
     let (journal, result) = play_scripts(
         rt,
-        stage.line,
-        stage.renderer,
-        stage.players,
-        stage.ends,
+        setup.cast,
         blocks,
         shelf,
         request.out,
@@ -151,13 +154,19 @@ fn perform<R: Threads + Wait + Sync, S: Shelf, O: Out, G: Gate>(
 }
 
 // Names the file that could not be written. What the shelf holds back of the two files is written out before, as far as that goes.
-fn stop<S: Shelf, O: Out>(shelf: &mut S, out: &mut O, request: Request<'_>, target: Target) -> u8
+fn stop<S: Shelf, O: Out>(
+    shelf: &mut S,
+    out: &mut O,
+    request: PlayRequest<'_>,
+    target: Target,
+) -> u8
     ensures status { result ≡ 3 }
     ensures files { S.files shelf.new ≡ S.files shelf.old }
     ensures reading { S.reading shelf.new ≡ S.reading shelf.old }
     ensures writing { S.writing shelf.old ≤ S.writing shelf.new }
-    ensures line { Says (cannot_write request.entry.out.now) (O.written out.old) (O.written out.new) (O.faults out.old) (O.faults out.new)
-        ⊎ Says (cannot_write request.entry.order.now) (O.written out.old) (O.written out.new) (O.faults out.old) (O.faults out.new) }
+    ensures later { FailedLater (S.failed shelf.old) (S.failed shelf.new) }
+    ensures line { Says (cannot_write (name_of target request.entry.out.now request.entry.order.now))
+        (O.written out.old) (O.written out.new) (O.faults out.old) (O.faults out.new) }
 {
     let _ = write_out(shelf, request.out);
     let _ = write_out(shelf, request.order);

@@ -4,7 +4,7 @@ use script_outcome::{Place, ScriptKind};
 
 /// Why nothing is played and no file is touched.
 #[derive(Clone, Copy, Debug, PartialEq, Eq)]
-pub enum Refusal {
+pub(crate) enum PlayRefusal {
     /// The script with this number was not read.
     Unread(u32),
     /// A script has more than 16,777,216 bytes.

@@ -11,7 +11,7 @@ ghost use Rattle.play_core.specs.Verdict.{Verdict, nothing, of_text, of_scripts,
 ghost use Rattle.play_core.specs.Refused.{IsCaused, IsOfContent, AgreesWith};
 ghost use Rattle.play_core.specs.Scan.{IsNext, NextCause, NextTells, AreBelow};
 
-use crate::refusal::Refusal;
+use crate::refusal::PlayRefusal;
 use crate::totals::Totals;
 use outside::{ReadFault, Shelf, read_all};
 use script_outcome::{Bounds, ScriptFault};
@@ -33,7 +33,7 @@ pub(crate) fn read_scripts<S: Shelf>(
     names: &[String],
     maps: &MapSet,
     blocks: Option<u32>,
-) -> Result<Vec<Script>, Refusal>
+) -> Result<Vec<Script>, PlayRefusal>
     requires many { length names.now ≤ 256 }
     requires some { IfSome blocks (λ b. 0 < b) }
     ensures plans { IfOk result (λ scripts. IfSome (S.files shelf.old) (λ told.
@@ -46,12 +46,13 @@ pub(crate) fn read_scripts<S: Shelf>(
         AgreesWith why (of_scripts told blocks nothing (map string_bytes names.now)))) }
     ensures cause { IfErr result (λ why. IsCaused why blocks (S.files shelf.old) (map string_bytes names.now)
         (S.reading shelf.old) (S.reading shelf.new)) }
+    ensures failed { S.failed shelf.new ≡ S.failed shelf.old }
     ensures files { S.files shelf.new ≡ S.files shelf.old }
     ensures writing { S.writing shelf.new ≡ S.writing shelf.old }
 {
     let mut scripts = match Vec::with_capacity(alloc, names.len()) {
         Ok(scripts) => scripts,
-        Err(_) => return Err(Refusal::Memory),
+        Err(_) => return Err(PlayRefusal::Memory),
     };
     let mut totals = Totals {
         scripts: 0,
@@ -65,7 +66,7 @@ pub(crate) fn read_scripts<S: Shelf>(
         };
         match scripts.push(script) {
             Ok(()) => {}
-            Err(_) => return Err(Refusal::Memory),
+            Err(_) => return Err(PlayRefusal::Memory),
         }
     }
     Ok(scripts)
@@ -79,7 +80,7 @@ fn read_next<S: Shelf>(
     maps: &MapSet,
     blocks: Option<u32>,
     totals: &mut Totals,
-) -> Result<Script, Refusal>
+) -> Result<Script, PlayRefusal>
     requires scripts { totals.old.scripts < 256 }
     requires some { IfSome blocks (λ b. 0 < b) }
     requires bytes { totals.old.bytes ≤ scripts_limit }
@@ -94,14 +95,15 @@ fn read_next<S: Shelf>(
     ensures kept { OnOk result (S.reading shelf.new ≡ S.reading shelf.old) }
     ensures tells { IfErr result (λ why. NextTells why (S.files shelf.old) blocks name.now totals.old) }
     ensures cause { IfErr result (λ why. NextCause why totals.old.scripts (S.files shelf.old) name.now (S.reading shelf.old) (S.reading shelf.new)) }
+    ensures failed { S.failed shelf.new ≡ S.failed shelf.old }
     ensures files { S.files shelf.new ≡ S.files shelf.old }
     ensures writing { S.writing shelf.new ≡ S.writing shelf.old }
 {
     let text = match read_all(alloc, shelf, name, SCRIPT_LIMIT) {
         Ok(text) => text,
-        Err(ReadFault::Failed) => return Err(Refusal::Unread(totals.scripts)),
-        Err(ReadFault::TooLong) => return Err(Refusal::LongFile),
-        Err(ReadFault::Memory) => return Err(Refusal::Memory),
+        Err(ReadFault::Failed) => return Err(PlayRefusal::Unread(totals.scripts)),
+        Err(ReadFault::TooLong) => return Err(PlayRefusal::LongFile),
+        Err(ReadFault::Memory) => return Err(PlayRefusal::Memory),
     };
     match judge_text(alloc, &text, maps, blocks, *totals) {
         Ok(script) => {
@@ -121,7 +123,7 @@ fn judge_text(
     maps: &MapSet,
     blocks: Option<u32>,
     totals: Totals,
-) -> Result<Script, Refusal>
+) -> Result<Script, PlayRefusal>
     requires text { length text.now ≤ script_limit }
     requires some { IfSome blocks (λ b. 0 < b) }
     requires bytes { totals.bytes ≤ scripts_limit }
@@ -135,7 +137,7 @@ fn judge_text(
 {
     let bytes = totals.bytes + text.len() as u64;
     if bytes > SCRIPTS_LIMIT {
-        return Err(Refusal::LongScripts);
+        return Err(PlayRefusal::LongScripts);
     }
     let bounds = Bounds {
         blocks,
@@ -143,12 +145,12 @@ fn judge_text(
     };
     match read_script(alloc, text, maps, bounds) {
         Ok(script) => Ok(script),
-        Err(ScriptFault::Refused { place, kind }) => Err(Refusal::Fault {
+        Err(ScriptFault::Refused { place, kind }) => Err(PlayRefusal::Fault {
             script: totals.scripts,
             place,
             kind,
         }),
-        Err(ScriptFault::TooMany) => Err(Refusal::ManyCommands),
-        Err(ScriptFault::Memory) => Err(Refusal::Memory),
+        Err(ScriptFault::TooMany) => Err(PlayRefusal::ManyCommands),
+        Err(ScriptFault::Memory) => Err(PlayRefusal::Memory),
     }
 }

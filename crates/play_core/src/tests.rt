@@ -582,7 +582,7 @@ impl Gate for AfterScript {
     fn pass(&self, actor: u32) {
         if actor == 1 {
             let wanted = self.passes.fetch_add(1, Ordering::SeqCst).wrapping_add(1);
-            for _ in 0..1_000_000u64 {
+            for _ in 0..10_000_000u64 {
                 if self.turns.load(Ordering::SeqCst) >= wanted {
                     break;
                 }
@@ -595,6 +595,57 @@ impl Gate for AfterScript {
             self.turns.fetch_add(1, Ordering::SeqCst);
         }
     }
+}
+
+/// Script 0 waits until the renderer, actor 2, has taken for the last time in its half of the turn.
+#[derive(Drop)]
+struct AfterTaker {
+    taken: AtomicU64,
+}
+
+impl Gate for AfterTaker {
+    fn pass(&self, actor: u32) {
+        if actor == 0 {
+            for _ in 0..10_000_000u64 {
+                if self.taken.load(Ordering::SeqCst) == 1 {
+                    break;
+                }
+                thread::yield_now();
+            }
+        }
+    }
+
+    fn done(&self, actor: u32) {
+        if actor == 2 {
+            self.taken.store(1, Ordering::SeqCst);
+        }
+    }
+}
+
+/// One place, one block and two scripts with one command each: the second sends before the renderer takes, and the first after that. It
+/// finds a place only where the renderer took in its own half of the turn, and not all at the end.
+fn renderer_takes_beside_scripts<R: Threads + Wait + Sync + Abort>(
+    rt: &R,
+    alloc: Global,
+    maps: &MapSet,
+) -> Result<(), Fail> {
+    let mut shelf = MemShelf::new(alloc, &[])?;
+    shelf.put_file(alloc, "a.txt", b"midi 1\n0 off 0 60\n")?;
+    shelf.put_file(alloc, "b.txt", b"midi 1\n0 off 0 64\n")?;
+    let mut out = MemOut::new(alloc, &[])?;
+    let words = words_of(alloc, "o.wav o.txt 1 1 a.txt b.txt")?;
+    let gate = AfterTaker {
+        taken: AtomicU64::new(0),
+    };
+    assert_eq!(rt;
+        play_main(rt, alloc, &words, &mut shelf, &mut out, &gate, maps),
+        0
+    );
+    assert_eq!(rt; out.bytes(), b"ok blocks 1 commands 2\n".as_slice());
+    let order =
+        b"order engine 1 blocks 1 scripts 2\n0 0 1 0 off 0 64\n0 0 0 0 off 0 60\n".as_slice();
+    assert_eq!(rt; shelf.file("o.txt").unwrap_or(b""), order);
+    Ok(())
 }
 
 fn scripts_run_side_by_side<R: Threads + Wait + Sync + Abort>(
@@ -670,6 +721,7 @@ fn small_runs(rt: HostRuntime) -> Result<(), Fail> {
     failing_calls_are_told(&rt, alloc, &maps)?;
     held_back_is_written_out(&rt, alloc, &maps)?;
     scripts_run_side_by_side(&rt, alloc, &maps)?;
+    renderer_takes_beside_scripts(&rt, alloc, &maps)?;
     limits_are_told(&rt, alloc, &maps)?;
     many_notes_are_played(&rt, alloc, &maps)?;
     many_scripts_are_played(&rt, alloc, &maps)?;

@@ -19,7 +19,7 @@ ghost use Rattle.play_core.specs.Refused.{IsUnread};
 ghost use Rattle.play_core.specs.Lines.{fault_line, report, usage};
 ghost use Rattle.play_core.specs.Files.{AreBegun};
 ghost use Rattle.outside.specs.Snapshot.{snapshot};
-ghost use Rattle.play_core.specs.Run.{HavePlans, SaysOfStop, report_of, sound_of, order_of};
+ghost use Rattle.play_core.specs.Run.{HavePlans, NamesFailed, SaysOfStop, report_of, sound_of, order_of};
 ghost use Rattle.play_core.specs.Headline.{Answers, ArePrompt, Asks, HasAll, IsComplete, IsLimit, LacksSome, Lists, Played, PlayedAs, Told, WasPlayed, journal_alone, limit_line};
 
 use crate::lines::say_usage;
@@ -50,77 +50,86 @@ pub fn play_main<R: Threads + Wait + Sync, S: Shelf, O: Out, G: Gate>(
     // The headline: 0 and 5 over told files. ORDER is the order of one journal and of no other, with as many scripts as were named. All that
     // follows speaks of this journal.
     ensures order { Played (map string_bytes words.now) result (S.files shelf.old)
-        (λ a plans. (o : OrderData) × Lists (S.files shelf.new) a.order o × (o.scripts ≡ length a.scripts)
-        × ((other : OrderData) → Lists (S.files shelf.new) a.order other → other ≡ o)) }
+        (λ request plans. (order : OrderData) × Lists (S.files shelf.new) request.order order × (order.scripts ≡ length request.scripts)
+        × ((other : OrderData) → Lists (S.files shelf.new) request.order other → other ≡ order)) }
     // It has as many blocks as were asked for, or 201 more than the greatest block that a command is due at.
     ensures blocks { PlayedAs (map string_bytes words.now) result (S.files shelf.old) (S.files shelf.new)
-        (λ a plans o. o.blocks ≡ blocks_of_run a.blocks plans) }
+        (λ request plans order. order.blocks ≡ blocks_of_run request.blocks plans) }
     // OUT is, block by block and bit for bit, what one thread renders after the commands that the journal lists up to that block.
     ensures sound { PlayedAs (map string_bytes words.now) result (S.files shelf.old) (S.files shelf.new)
-        (λ a plans o. file_of (S.files shelf.new) a.out ≡ Some (wav o.journal o.blocks)) }
+        (λ request plans order. file_of (S.files shelf.new) request.out ≡ Some (wav order.journal order.blocks)) }
     // 0: the journal has each command of each script's plan exactly once, in order; and no others.
     ensures all { result ≡ 0 → PlayedAs (map string_bytes words.now) result (S.files shelf.old) (S.files shelf.new)
-        (λ a plans o. HasAll o.journal plans) }
+        (λ request plans order. HasAll order.journal plans) }
     // 0 and 5: of each script it has the first commands; with 5 not all of some script's.
-    ensures played { PlayedAs (map string_bytes words.now) result (S.files shelf.old) (S.files shelf.new) (λ a plans o. ArePlayed o.journal plans) }
+    ensures played { PlayedAs (map string_bytes words.now) result (S.files shelf.old) (S.files shelf.new)
+        (λ request plans order. ArePlayed order.journal plans) }
     ensures left { result ≡ 5 → PlayedAs (map string_bytes words.now) result (S.files shelf.old) (S.files shelf.new)
-        (λ a plans o. LacksSome o.journal plans) }
+        (λ request plans order. LacksSome order.journal plans) }
     // Each is logged at its due block or above; above it, or not at all, only where the line has few places.
     ensures timed { PlayedAs (map string_bytes words.now) result (S.files shelf.old) (S.files shelf.new)
-        (λ a plans o. IsTimed o.journal plans (places_of_run a.places plans)) }
+        (λ request plans order. IsTimed order.journal plans (places_of_run request.places plans)) }
     // Where the line has a place for each command, as it has with PLACES `-`, each is logged at its due block.
     ensures prompt { PlayedAs (map string_bytes words.now) result (S.files shelf.old) (S.files shelf.new)
-        (λ a plans o. many_commands plans ≤ places_of_run a.places plans → ArePrompt o.journal plans) }
+        (λ request plans order. many_commands plans ≤ places_of_run request.places plans → ArePrompt order.journal plans) }
     // One script alone then has the journal of its plan: its bytes and BLOCKS decide every byte of both files.
     ensures alone { PlayedAs (map string_bytes words.now) result (S.files shelf.old) (S.files shelf.new)
-        (λ a plans o. many_commands plans ≤ places_of_run a.places plans → length plans ≡ 1 → o.journal ≡ journal_alone 0 (plan_of plans 0)) }
+        (λ request plans order. many_commands plans ≤ places_of_run request.places plans → length plans ≡ 1
+        → order.journal ≡ journal_alone 0 (plan_of plans 0)) }
     // All other files are as before, and just the report was added.
-    ensures others { Played (map string_bytes words.now) result (S.files shelf.old) (λ a plans.
-        (other : List ℕ) → other ≢ a.out → other ≢ a.order → file_of (S.files shelf.new) other ≡ file_of (S.files shelf.old) other) }
+    ensures others { Played (map string_bytes words.now) result (S.files shelf.old) (λ request plans.
+        (other : List ℕ) → other ≢ request.out → other ≢ request.order
+        → file_of (S.files shelf.new) other ≡ file_of (S.files shelf.old) other) }
     ensures report { PlayedAs (map string_bytes words.now) result (S.files shelf.old) (S.files shelf.new)
-        (λ a plans o. O.written out.new ≡ option_map (said (report_of a plans o.journal)) (O.written out.old)) }
+        (λ request plans order. O.written out.new ≡ option_map (said (report_of request plans order.journal)) (O.written out.old)) }
     // The report stands on every output that tells, whether or not the files are told.
-    ensures line { WasPlayed result → Asks (map string_bytes words.now) (λ a. (left : ℕ) × (blocks : ℕ) × (commands : ℕ)
-        × (result ≡ (if left == 0 then 0 else 5)) × IfSome a.blocks (λ b. blocks ≡ b)
+    ensures line { WasPlayed result → Asks (map string_bytes words.now) (λ request. (left : ℕ) × (blocks : ℕ) × (commands : ℕ)
+        × (result ≡ (if left == 0 then 0 else 5)) × IfSome request.blocks (λ b. blocks ≡ b)
         × (O.written out.new ≡ option_map (said (report left blocks commands)) (O.written out.old))) }
     // Every script was there, within the limits, and had a plan; so it was after 3.
     ensures right { WasPlayed result ⊎ (result ≡ 3)
-        → Told (map string_bytes words.now) (S.files shelf.old) (λ a told. IsPlayed (verdict a told)) }
+        → Told (map string_bytes words.now) (S.files shelf.old) (λ request told. IsPlayed (verdict request told)) }
 
     // 1 exactly where the words are not of the grammar.
     ensures words { result ≡ 1 ↔ requested_by (map string_bytes words.now) ≡ None }
     // 2 only where a read of a script failed and was counted, or the told files lack it, and all scripts before it are good; the line names it.
-    ensures unread { result ≡ 2 → Asks (map string_bytes words.now) (λ a. (k : ℕ)
-        × IsUnread k a.blocks (S.files shelf.old) a.scripts (S.reading shelf.old) (S.reading shelf.new)
-        × Says (cannot_read (slice_index_or a.scripts k [])) (O.written out.old) (O.written out.new) (O.faults out.old) (O.faults out.new)) }
+    ensures unread { result ≡ 2 → Asks (map string_bytes words.now) (λ request. (k : ℕ)
+        × IsUnread k request.blocks (S.files shelf.old) request.scripts (S.reading shelf.old) (S.reading shelf.new)
+        × Says (cannot_read (slice_index_or request.scripts k [])) (O.written out.old) (O.written out.new) (O.faults out.old) (O.faults out.new)) }
     // 3 only where a write or a put failed and was counted.
     ensures write { result ≡ 3 → Rose (S.writing shelf.old) (S.writing shelf.new) ⊎ Rose (O.faults out.old) (O.faults out.new) }
     // Then there is one journal, such as an order lists, of the first commands of each script's plan. Each of both files is as before or a
     // prefix of what this journal gives, and all others are as before. The line names one of the two; or no write failed, both are whole, and
     // no more than a prefix of the journal's report was put.
-    ensures stopped { result ≡ 3 → Asks (map string_bytes words.now) (λ a. (plans : List (List PlannedData)) × (journal : List LoggedData)
-        × HavePlans a (S.files shelf.old) plans
-        × IsOrdered journal (blocks_of_run a.blocks plans) (length plans) × ArePlayed journal plans
-        × AreBegun (S.files shelf.old) (S.files shelf.new) a.out (sound_of a plans journal) a.order (order_of a plans journal)
-        × SaysOfStop a plans journal
+    ensures stopped { result ≡ 3 → Asks (map string_bytes words.now) (λ request. (plans : List (List PlannedData)) × (journal : List LoggedData)
+        × HavePlans request (S.files shelf.old) plans
+        × IsOrdered journal (blocks_of_run request.blocks plans) (length plans) × ArePlayed journal plans
+        × AreBegun (S.files shelf.old) (S.files shelf.new)
+        request.out (sound_of request plans journal) request.order (order_of request plans journal)
+        × SaysOfStop request plans journal
         (snapshot (S.files shelf.old) (S.reading shelf.old) (S.writing shelf.old) (O.written out.old) (O.faults out.old))
         (snapshot (S.files shelf.new) (S.reading shelf.new) (S.writing shelf.new) (O.written out.new) (O.faults out.new))) }
+    // The file that is named is the one whose write failed first, on a shelf that tells the names; where no write failed, the output did.
+    ensures names { result ≡ 3 → Asks (map string_bytes words.now) (λ request.
+        NamesFailed request.out request.order (S.failed shelf.old) (S.failed shelf.new)
+        (O.written out.old) (O.written out.new) (O.faults out.old) (O.faults out.new)) }
     // 4 and 6 only where the told files say so, by the line that was put.
     ensures fault { result ≡ 4 → (k : ℕ) × (place : Place) × (kind : ScriptKind)
-        × Told (map string_bytes words.now) (S.files shelf.old) (λ a told. verdict a told ≡ Faulty k place kind)
+        × Told (map string_bytes words.now) (S.files shelf.old) (λ request told. verdict request told ≡ Faulty k place kind)
         × Says (fault_line k place kind) (O.written out.old) (O.written out.new) (O.faults out.old) (O.faults out.new) }
     ensures limit { result ≡ 6 → (why : Verdict) × IsLimit why
-        × Told (map string_bytes words.now) (S.files shelf.old) (λ a told. verdict a told ≡ why)
+        × Told (map string_bytes words.now) (S.files shelf.old) (λ request told. verdict request told ≡ why)
         × Says (limit_line why) (O.written out.old) (O.written out.new) (O.faults out.old) (O.faults out.new) }
     // What the told files say decides, where no read fails.
-    ensures judged { Told (map string_bytes words.now) (S.files shelf.old) (λ a told.
-        ¬ (Rose (S.reading shelf.old) (S.reading shelf.new)) → Answers (verdict a told) result) }
+    ensures judged { Told (map string_bytes words.now) (S.files shelf.old) (λ request told.
+        ¬ (Rose (S.reading shelf.old) (S.reading shelf.new)) → Answers (verdict request told) result) }
     // 5 only where a number of places was asked for that is below the number of commands.
-    ensures places { result ≡ 5 → Asks (map string_bytes words.now) (λ a. (plans : List (List PlannedData))
-        × HavePlans a (S.files shelf.old) plans × IsSomeAnd a.places (λ p. p < many_commands plans)) }
+    ensures places { result ≡ 5 → Asks (map string_bytes words.now) (λ request. (plans : List (List PlannedData))
+        × HavePlans request (S.files shelf.old) plans × IsSomeAnd request.places (λ p. p < many_commands plans)) }
 
     // What the shelf holds back of both files was written out.
-    ensures written_out { WasPlayed result → Asks (map string_bytes words.now) (λ a. HoldsNothing (S.held shelf.new) a.out a.order) }
+    ensures written_out { WasPlayed result → Asks (map string_bytes words.now) (λ request.
+        HoldsNothing (S.held shelf.new) request.out request.order) }
 
     // No counted fault is passed over, and after all other statuses no file has changed.
     ensures reads { result ≢ 2 → S.reading shelf.new ≡ S.reading shelf.old }
@@ -133,7 +142,7 @@ pub fn play_main<R: Threads + Wait + Sync, S: Shelf, O: Out, G: Gate>(
     // Where all is right and nothing fails, all commands are played where the line has places for them, unless memory runs out.
     ensures complete { ¬ (Rose (S.reading shelf.old) (S.reading shelf.new)) → ¬ (Rose (S.writing shelf.old) (S.writing shelf.new))
         → ¬ (Rose (O.faults out.old) (O.faults out.new))
-        → Told (map string_bytes words.now) (S.files shelf.old) (λ a told. IsComplete a (verdict a told) result) }
+        → Told (map string_bytes words.now) (S.files shelf.old) (λ request told. IsComplete request (verdict request told) result) }
 {
     match read_words(words) {
         Some(request) => play(rt, alloc, request, shelf, out, gate, maps),

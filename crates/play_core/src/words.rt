@@ -8,7 +8,7 @@ use plain_text::parse_number;
 /// What the words ask for: the two files to write, the number of blocks (1 to 1048576) and of places (1 to 1000000), or `None` where the
 /// word is `-`, and the names of 1 to 256 scripts.
 #[derive(Clone, Copy)]
-pub struct Request<'a> {
+pub(crate) struct PlayRequest<'a> {
     pub out: &'a str,
     pub order: &'a str,
     pub blocks: Option<u32>,
@@ -17,7 +17,7 @@ pub struct Request<'a> {
 }
 
 /// What the words ask for, and `None` where they are not of the grammar.
-pub fn read_words(words: &[String]) -> Option<Request<'_>>
+pub(crate) fn read_words(words: &[String]) -> Option<PlayRequest<'_>>
     ensures asked { option_map grammar.request_data result ≡ grammar.requested_by (map string_bytes words.now) }
     ensures request { IfSome result grammar.IsRequest }
 {
@@ -33,7 +33,7 @@ fn read_five<'a>(
     blocks: &str,
     places: &str,
     scripts: &'a [String],
-) -> Option<Request<'a>>
+) -> Option<PlayRequest<'a>>
     ensures asked { option_map grammar.request_data result
         ≡ grammar.request_of out.entry.now order.entry.now blocks.now places.now (map string_bytes scripts.entry.now) }
     ensures request { IfSome result grammar.IsRequest }
@@ -43,7 +43,7 @@ fn read_five<'a>(
     }
     let blocks = choice(blocks, 1, 1_048_576)?;
     let places = choice(places, 1, 1_000_000)?;
-    Some(Request {
+    Some(PlayRequest {
         out,
         order,
         blocks,
@@ -77,10 +77,10 @@ fn are_scripts(out: &str, order: &str, scripts: &[String]) -> bool
     ensures value { result ≡ grammar.are_scripts out.now order.now (map string_bytes scripts.now) }
     ensures many { IsTrue result → (1 ≤ length scripts.now) × (length scripts.now ≤ 256) }
 {
-    is_some_scripts(scripts) && have_own_names(out, order, scripts)
+    has_valid_count(scripts) && have_own_names(out, order, scripts)
 }
 
-fn is_some_scripts(scripts: &[String]) -> bool
+fn has_valid_count(scripts: &[String]) -> bool
     ensures value { result ≡ (nat_lt 0 (length (map string_bytes scripts.now)) && nat_le (length (map string_bytes scripts.now)) 256) }
     ensures many { IsTrue result → (1 ≤ length scripts.now) × (length scripts.now ≤ 256) }
 {

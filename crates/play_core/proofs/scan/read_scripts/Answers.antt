@@ -30,6 +30,7 @@ loop-name-preserved g c =
       short = e.bytes;
       below = rw c.in-Ok-push.ensures.items (below_pushed c.args.blocks c.loop-name.scripts.items c.in-Ok-read_next.script i.below e.below);
       files = e.files ∙ i.files;
+      failed = e.failed ∙ i.failed;
       reading = e.kept ∙ i.reading;
       writing = e.writing ∙ i.writing;
     }

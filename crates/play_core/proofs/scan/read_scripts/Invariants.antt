@@ -15,6 +15,7 @@ invariant-loop-name g l = record {
   short : l.totals.bytes ≤ scripts_limit;
   below : IfSome l.fn.blocks (λ b. All (λ one. AreBelow b one) l.scripts.items);
   files : g.S.Shelf.files l.shelf ≡ g.S.Shelf.files l.fn.shelf;
+  failed : g.S.Shelf.failed l.shelf ≡ g.S.Shelf.failed l.fn.shelf;
   reading : g.S.Shelf.reading l.shelf ≡ g.S.Shelf.reading l.fn.shelf;
   writing : g.S.Shelf.writing l.shelf ≡ g.S.Shelf.writing l.fn.shelf;
 }

@@ -1,6 +1,7 @@
 use Rattle.std.proofs.Common.{map, string_bytes, sym}
 use Rattle.turns.specs.Written.{HoldsNothing}
 use Rattle.play_core.specs.Words.{request_data}
+use Rattle.play_core.specs.Run.{NamesFailed}
 use Rattle.outside.specs.Snapshot.{snapshot}
 use Rattle.play_core.proofs.Clauses.{asked_for, clause_order, clause_blocks, clause_sound, clause_all, clause_played, clause_left, clause_timed, clause_prompt, clause_alone, clause_others, clause_report, clause_unread, clause_fault, clause_limit, clause_judged, clause_places, clause_complete, clause_stopped}
 use Rattle.play_core.proofs.top.play_main.Goals as goal
@@ -135,3 +136,10 @@ pub returns-in-Some-clause-written_out : goal.returns-in-Some-clause-written_out
 returns-in-Some-clause-written_out g c = λ was.
     asked_for (map string_bytes c.args.words.now) (request_data c.in-Some.request) (λ b. HoldsNothing (g.S.Shelf.held c.play.new.shelf) b.out b.order)
     (sym c.in-Some.ensures.asked) (c.play.ensures.written_out was)
+
+pub returns-in-Some-clause-names : goal.returns-in-Some-clause-names
+returns-in-Some-clause-names g c = λ three.
+    asked_for (map string_bytes c.args.words.now) (request_data c.in-Some.request)
+    (λ b. NamesFailed b.out b.order (g.S.Shelf.failed c.args.shelf.now) (g.S.Shelf.failed c.play.new.shelf)
+    (g.O.Out.written c.args.out.now) (g.O.Out.written c.play.new.out) (g.O.Out.faults c.args.out.now) (g.O.Out.faults c.play.new.out))
+    (sym c.in-Some.ensures.asked) (c.play.ensures.names three)

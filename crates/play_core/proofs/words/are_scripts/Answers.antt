@@ -4,8 +4,8 @@ use Rattle.play_core.specs.Words as grammar
 use Rattle.play_core.proofs.Grammar.{true_and}
 use Rattle.play_core.proofs.words.are_scripts.Goals as goal
 
-pub returns-then-is_some_scripts-clause-value : goal.returns-then-is_some_scripts-clause-value
-returns-then-is_some_scripts-clause-value c =
+pub returns-then-has_valid_count-clause-value : goal.returns-then-has_valid_count-clause-value
+returns-then-has_valid_count-clause-value c =
     c.have_own_names.ensures
     ∙ sym (list_all-map (λ name. grammar.is_script c.args.out.now c.args.order.now name) string_bytes c.args.scripts.now)
-    ∙ true_and _ _ (sym c.is_some_scripts.ensures.value ∙ c.if-is_some_scripts.true)
+    ∙ true_and _ _ (sym c.has_valid_count.ensures.value ∙ c.if-has_valid_count.true)

@@ -1,6 +1,6 @@
 use Rattle.std.proofs.Common.{◌∙◌, ap, max, arith}
-use Rattle.play_core.proofs.Stages.{greatest_more, in_time_more}
-use Rattle.play_core.proofs.stage.greatest.Goals as goal
+use Rattle.play_core.proofs.Setups.{greatest_more, in_time_more}
+use Rattle.play_core.proofs.setup.greatest.Goals as goal
 
 pub loop-script-preserved : goal.loop-script-preserved
 loop-script-preserved c =

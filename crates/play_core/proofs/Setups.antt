@@ -12,7 +12,7 @@ use Rattle.script_plan.specs.Plan.{PlannedData, due_blocks, last_due, last_due_o
 use Rattle.players.specs.Players.{PlayerView}
 use Rattle.turns.specs.Turns.{plans_of, many_commands}
 use Rattle.play_core.specs.Verdict.{greatest_due}
-use Rattle.play_core.specs.Stage.{AreInTime}
+use Rattle.play_core.specs.Setup.{AreInTime}
 
 max_zero : (n : ℕ) → max n 0 ≡ n
 max_zero n = grind arith

@@ -4,26 +4,20 @@ ghost use Rattle.instrument.specs.Limits.{block_limit};
 ghost use Rattle.play_core.specs.Limits.{command_limit};
 ghost use Rattle.turns.specs.Turns.{many_commands};
 ghost use Rattle.play_core.specs.Verdict.{blocks_of_run, greatest_due, places_of_run};
-ghost use Rattle.play_core.specs.Stage.{IsStage, AreInTime};
+ghost use Rattle.play_core.specs.Setup.{IsSetup, AreInTime};
 ghost use Rattle.play_core.specs.Scan.{AreBelow};
 
-use command_queue::{Line, SendEnd};
-use instrument::Engine;
+use command_queue::Line;
+use instrument::{BLOCK_LIMIT, Engine};
 use live_renderer::LiveRenderer;
-use players::Player;
 use script_plan::Script;
 use std::alloc::{AllocError, Global};
-use turns::new_players;
+use turns::{Cast, new_players};
 
-const BLOCK_LIMIT: u32 = 1_048_576;
-
-/// The line, the renderer, a player for each script, room for the ends when they come back, and the numbers of blocks and of commands.
+/// Who takes part in a run, and its numbers of blocks and of commands.
 #[derive(Drop)]
-pub struct Stage {
-    pub line: Line,
-    pub renderer: LiveRenderer,
-    pub players: Vec<Player>,
-    pub ends: Vec<SendEnd>,
+pub(crate) struct Setup {
+    pub cast: Cast,
     pub blocks: u32,
     pub commands: u32,
 }
@@ -95,7 +89,8 @@ fn sum_of(quotas: &[u32]) -> u32
     quotas.iter().map(|q| *q as u64).sum::<u64>() as u32
 }
 
-// The number of places: that which was asked for, or one for each command, and one at least.
+// The number of places: that which was asked for, or one for each command, and one at least. That a run has no more than it was asked for
+// is a matter of tests: with more places no command is later, so no clause of the top call tells.
 fn choose_places(places: Option<u32>, commands: u32) -> u32
     ensures some { IfSome places (λ p. result ≡ p) }
     ensures none { IfNone places (result ≡ max 1 commands) }
@@ -106,36 +101,46 @@ fn choose_places(places: Option<u32>, commands: u32) -> u32
     }
 }
 
-/// Everything for a run of these scripts.
-///
-/// The one error is want of memory.
-pub(crate) fn set_stage(
-    alloc: Global,
-    scripts: Vec<Script>,
-    blocks: u32,
-    places: Option<u32>,
-) -> Result<Stage, AllocError>
-    requires many { (1 ≤ length scripts.items) × (length scripts.items ≤ 256) }
-    requires few { many_commands scripts.items ≤ command_limit }
-    requires blocks { (1 ≤ blocks) × (blocks ≤ block_limit) }
-    requires places { IfSome places (λ p. (1 ≤ p) × (p ≤ 1000000)) }
-    requires due { AreInTime blocks scripts.items }
-    ensures { IfOk result (λ stage. (asked : Option ℕ) → blocks ≡ blocks_of_run asked scripts.items → IsStage asked places scripts.items stage) }
-{
-    let quotas = quotas_of(alloc, &scripts)?;
-    let commands = sum_of(&quotas);
-    let (line, taker, own) = Line::new(alloc, choose_places(places, commands) as usize, &quotas)?;
-    let Ok(renderer) = LiveRenderer::new(alloc, taker, Engine::One, commands as usize) else {
-        return Err(AllocError);
-    };
-    let ends = Vec::with_capacity(alloc, scripts.len())?;
-    let players = new_players(alloc, &line, own, scripts)?;
-    Ok(Stage {
-        line,
-        renderer,
-        players,
-        ends,
-        blocks,
-        commands,
-    })
+impl Setup {
+    /// Everything for a run of these scripts.
+    ///
+    /// The one error is want of memory.
+    pub(crate) fn new(
+        alloc: Global,
+        scripts: Vec<Script>,
+        blocks: u32,
+        places: Option<u32>,
+    ) -> Result<Setup, AllocError>
+        requires many { (1 ≤ length scripts.items) × (length scripts.items ≤ 256) }
+        requires few { many_commands scripts.items ≤ command_limit }
+        requires blocks { (1 ≤ blocks) × (blocks ≤ block_limit) }
+        requires places { IfSome places (λ p. (1 ≤ p) × (p ≤ 1000000)) }
+        requires due { AreInTime blocks scripts.items }
+        ensures { IfOk result (λ setup. (asked : Option ℕ) → blocks ≡ blocks_of_run asked scripts.items
+            → IsSetup asked places scripts.items setup) }
+    {
+        let quotas = quotas_of(alloc, &scripts)?;
+        let commands = sum_of(&quotas);
+        let (line, taker, own) = Line::new(
+            alloc,
+            choose_places(places, commands) as usize,
+            &quotas,
+        )?;
+        let Ok(renderer) = LiveRenderer::new(alloc, taker, Engine::One, commands as usize) else {
+            return Err(AllocError);
+        };
+        let ends = Vec::with_capacity(alloc, scripts.len())?;
+        let players = new_players(alloc, &line, own, scripts)?;
+        let cast = Cast {
+            line,
+            renderer,
+            players,
+            ends,
+        };
+        Ok(Setup {
+            cast,
+            blocks,
+            commands,
+        })
+    }
 }

@@ -1,7 +1,7 @@
 use Rattle.std.proofs.Common.{◌≡◌, ◌+◌, take}
 use Rattle.play_core.specs.Verdict.{greatest_due}
-use Rattle.play_core.specs.Stage.{AreInTime}
-use Rattle.play_core.proofs.stage.greatest.Given as goal
+use Rattle.play_core.specs.Setup.{AreInTime}
+use Rattle.play_core.proofs.setup.greatest.Given as goal
 
 abbrev pub invariant-loop-script : goal.invariant-loop-script
 invariant-loop-script l = record {

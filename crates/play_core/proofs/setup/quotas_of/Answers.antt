@@ -1,6 +1,6 @@
 use Rattle.std.proofs.Common.{length, ap, ◌∙◌, arith}
-use Rattle.play_core.proofs.Stages.{lengths_more, one_fits}
-use Rattle.play_core.proofs.stage.quotas_of.Goals as goal
+use Rattle.play_core.proofs.Setups.{lengths_more, one_fits}
+use Rattle.play_core.proofs.setup.quotas_of.Goals as goal
 
 pub overflow_cast-len : goal.overflow_cast-len
 overflow_cast-len c =

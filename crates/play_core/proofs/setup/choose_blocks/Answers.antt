@@ -1,8 +1,8 @@
 use Rattle.std.proofs.Common.{ℕ, subst}
 use Rattle.std.specs.Prelude.{All, IfSome, Option}
 use Rattle.play_core.specs.Scan.{AreBelow}
-use Rattle.play_core.proofs.Stages.{in_time_of, some_in_time}
-use Rattle.play_core.proofs.stage.choose_blocks.Goals as goal
+use Rattle.play_core.proofs.Setups.{in_time_of, some_in_time}
+use Rattle.play_core.proofs.setup.choose_blocks.Goals as goal
 
 pub returns-in-Some-clause-in_time : goal.returns-in-Some-clause-in_time
 returns-in-Some-clause-in_time c =

@@ -1,6 +1,6 @@
 use Rattle.std.proofs.Common.{ap, arith, length, rules}
-use Rattle.play_core.proofs.Stages.{players_many}
-use Rattle.play_core.proofs.stage.set_stage.Goals as goal
+use Rattle.play_core.proofs.Setups.{players_many}
+use Rattle.play_core.proofs.setup.Setup.new.Goals as goal
 
 pub returns : goal.returns
 returns c = λ request_data is. record {
