@@ -1,5 +1,6 @@
 -- The history that kept changes stand for, after an act and after a revision.
-use Rattle.std.proofs.Common.{◌≡◌, ◌≢◌, ℕ, zero, suc, ◌<◌, List, [], ◌∷◌, length, take, drop, set, get_or, Some, None, Result, Ok, Err, OnErr, refl, ap, arith}
+use Rattle.std.proofs.Common.{◌≡◌, ◌≢◌, ℕ, zero, suc, ◌<◌, List, [], ◌∷◌, length, take, drop, set, get_or, Some, None, Result, Ok, Err, OnErr, refl}
+use Rattle.std.proofs.Common.{ap, arith}
 use Rattle.std.specs.Prelude.{slice_get}
 use Rattle.std.proofs.lemmas.Bool.{ne_eqb}
 use Rattle.std.proofs.lemmas.List.{set-set, set-get_or}
@@ -53,7 +54,8 @@ stepped_by voice new (c ∷ cs) from' to to' x y command s n a o k f t =
     rw (t, f, ← a, o, k, n, xc) refl
 
 -- where a first change's command wants memory, the change is of a whole voice
-pub whole_first : (voice : List ℕ) (cs : List Change) (boxed : Change) → Some boxed ≡ slice_get cs 0 → kind_of boxed ≡ WholeVoice → IsWholeNext (left_by voice cs)
+pub whole_first : (voice : List ℕ) (cs : List Change) (boxed : Change) → Some boxed ≡ slice_get cs 0 → kind_of boxed ≡ WholeVoice
+    → IsWholeNext (left_by voice cs)
 whole_first voice [] boxed e k = cc
 whole_first voice (c ∷ cs) boxed e k = let same : boxed ≡ c = cc in rw (← same) k
 
