@@ -11,17 +11,17 @@ use voice_record::Voice;
 
 /// A value of a parameter.
 #[derive(Clone, Copy)]
-pub struct Setting {
+pub(crate) struct Setting {
     /// The number of the parameter, 0 to 154.
-    pub number: u8,
+    pub(crate) number: u8,
     /// The value, at most the parameter's greatest.
-    pub value: u8,
+    pub(crate) value: u8,
     ghost within: { (number ≤ 154) × (value ≤ greatest_value number) },
 }
 
 /// A change of a voice: of one parameter, or of all at once.
 #[derive(Drop)]
-pub enum Change {
+pub(crate) enum Change {
     /// One parameter gets a value.
     Parameter(Setting),
     /// Another voice takes its place.

@@ -14,7 +14,7 @@ use std::alloc::{AllocError, Global};
 use voice_record::Voice;
 
 /// Changes, the latest first.
-pub type Changes = HeapCircularBuffer<Change>;
+pub(crate) type Changes = HeapCircularBuffer<Change>;
 
 /// Keeps the change that undoes an act, and forgets what could be redone.
 pub(crate) fn keep(past: &mut Changes, future: &mut Changes, change: Change)

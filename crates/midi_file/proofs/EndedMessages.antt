@@ -25,7 +25,8 @@ use Rattle.script_outcome.proofs.EndedMessages.{take_next}
 
 -- ---- first faults
 
-fault_after : (es : List TimedData) (at : ℕ) (why : ScriptKind) (more : List TrackOutcome) → first_fault (all_come es ++ Breaks at why ∷ more) ≡ Fails (place.Byte at) why ∷ []
+fault_after : (es : List TimedData) (at : ℕ) (why : ScriptKind) (more : List TrackOutcome)
+    → first_fault (all_come es ++ Breaks at why ∷ more) ≡ Fails (place.Byte at) why ∷ []
 fault_after [] at why more = refl
 fault_after (e ∷ es) at why more = fault_after es at why more
 
@@ -49,19 +50,23 @@ faults_among why es fs xs ys is h = subst (λ (hs : List TrackOutcome). Faults w
 pub come_more : (es fs : List TimedData) (e : TimedData) → fs ≡ es ++ e ∷ [] → all_come fs ≡ all_come es ++ Comes e ∷ []
 come_more es fs e is = ap all_come is ∙ map-append Comes es (e ∷ [])
 
-by_message : (why : ScriptFault) (es : List TimedData) (tick at : ℕ) (wrong : ScriptKind) (t told : MessageOutcome) → told ≡ t → why ≡ faults.Refused (place.Byte at) wrong
+by_message : (why : ScriptFault) (es : List TimedData) (tick at : ℕ) (wrong : ScriptKind) (t told : MessageOutcome) → told ≡ t
+    → why ≡ faults.Refused (place.Byte at) wrong
     → Faults (faults.Refused (place.Byte at) wrong) (all_come es ++ message_outcomes tick at t) → Faults why (all_come es ++ message_outcomes tick at told)
 by_message why es tick at wrong t told is refused fault =
     subst (λ (f : ScriptFault). Faults f (all_come es ++ message_outcomes tick at told)) (sym refused)
     (subst (λ (x : MessageOutcome). Faults (faults.Refused (place.Byte at) wrong) (all_come es ++ message_outcomes tick at x)) (sym is) fault)
 
-pub fault_overlong : (why : ScriptFault) (es : List TimedData) (tick at count : ℕ) (told : MessageOutcome) → told ≡ Overlong count → why ≡ faults.Refused (place.Byte at) kind.Long
+pub fault_overlong : (why : ScriptFault) (es : List TimedData) (tick at count : ℕ) (told : MessageOutcome) → told ≡ Overlong count
+    → why ≡ faults.Refused (place.Byte at) kind.Long
     → Faults why (all_come es ++ message_outcomes tick at told)
 fault_overlong why es tick at count told is refused = by_message why es tick at kind.Long (Overlong count) told is refused (fault_here es at kind.Long)
 
-pub fault_faulty : (why : ScriptFault) (es : List TimedData) (tick at : ℕ) (fault : FrameFault) (told : MessageOutcome) → told ≡ Faulty fault → why ≡ faults.Refused (place.Byte at) (kind.Message fault)
+pub fault_faulty : (why : ScriptFault) (es : List TimedData) (tick at : ℕ) (fault : FrameFault) (told : MessageOutcome) → told ≡ Faulty fault
+    → why ≡ faults.Refused (place.Byte at) (kind.Message fault)
     → Faults why (all_come es ++ message_outcomes tick at told)
-fault_faulty why es tick at fault told is refused = by_message why es tick at (kind.Message fault) (Faulty fault) told is refused (fault_here es at (kind.Message fault))
+fault_faulty why es tick at fault told is refused = by_message why es tick at (kind.Message fault) (Faulty fault) told is refused
+    (fault_here es at (kind.Message fault))
 
 -- ---- one more byte
 
@@ -73,10 +78,12 @@ message_is_ended m before byte sysex tick at answers range has same =
     ap (message_outcomes tick at) (told_same m (last_sysex (before ++ byte ∷ [])) sysex Linear range has same)
     ∙ ap (ended_outcomes tick at) (sym (ended_is (Some m) before byte answers))
 
-pub none_ended : (before : List ℕ) (byte tick at : ℕ) → Answers None (messages before) (messages (before ++ byte ∷ [])) → ended_outcomes tick at (ended_message before byte) ≡ []
+pub none_ended : (before : List ℕ) (byte tick at : ℕ) → Answers None (messages before) (messages (before ++ byte ∷ []))
+    → ended_outcomes tick at (ended_message before byte) ≡ []
 none_ended before byte tick at answers = ap (ended_outcomes tick at) (ended_is None before byte answers)
 
-pub fed_append : (tick at : ℕ) (before xs ys : List ℕ) → bytes_outcomes tick at before (xs ++ ys) ≡ bytes_outcomes tick at before xs ++ bytes_outcomes tick at (before ++ xs) ys
+pub fed_append : (tick at : ℕ) (before xs ys : List ℕ) → bytes_outcomes tick at before (xs ++ ys) ≡ bytes_outcomes tick at before xs
+    ++ bytes_outcomes tick at (before ++ xs) ys
 unfolding bytes_outcomes
 fed_append tick at before [] ys = rw (append-nil before) refl
 fed_append tick at before (x ∷ xs) ys =
@@ -95,7 +102,8 @@ unfolding bytes_outcomes
 fed_none tick at before = refl
 
 fed_more : (tick at : ℕ) (before bytes : List ℕ) (k byte : ℕ) → k < length bytes → get_or bytes k 0 ≡ byte
-    → bytes_outcomes tick at before (take (k + 1) bytes) ≡ bytes_outcomes tick at before (take k bytes) ++ ended_outcomes tick at (ended_message (before ++ take k bytes) byte)
+    → bytes_outcomes tick at before (take (k + 1) bytes) ≡ bytes_outcomes tick at before (take k bytes)
+        ++ ended_outcomes tick at (ended_message (before ++ take k bytes) byte)
 fed_more tick at before bytes k byte below is =
     ap (bytes_outcomes tick at before) (take_next bytes k byte below is)
     ∙ fed_append tick at before (take k bytes) (byte ∷ [])
@@ -115,13 +123,15 @@ pub fed_faults : (tick at : ℕ) (before bytes : List ℕ) (k byte : ℕ) (why :
     → Faults why (all_come now ++ ended_outcomes tick at (ended_message (before ++ take k bytes) byte))
     → Faults why (all_come old ++ bytes_outcomes tick at before bytes)
 fed_faults tick at before bytes k byte why old now below is was fault =
-    let front : all_come now ++ ended_outcomes tick at (ended_message (before ++ take k bytes) byte) ≡ all_come old ++ bytes_outcomes tick at before (take (k + 1) bytes) =
+    let front : all_come now ++ ended_outcomes tick at (ended_message (before ++ take k bytes) byte) ≡ all_come old
+        ++ bytes_outcomes tick at before (take (k + 1) bytes) =
     ap (λ (hs : List TrackOutcome). hs ++ ended_outcomes tick at (ended_message (before ++ take k bytes) byte)) was
     ∙ append_assoc (all_come old) _ _
     ∙ ap (λ (hs : List TrackOutcome). all_come old ++ hs) (sym (fed_more tick at before bytes k byte below is)) in
     let all : (all_come old ++ bytes_outcomes tick at before (take (k + 1) bytes)) ++ bytes_outcomes tick at (before ++ take (k + 1) bytes) (drop (k + 1) bytes)
     ≡ all_come old ++ bytes_outcomes tick at before bytes =
     append_assoc (all_come old) _ _
-    ∙ ap (λ (hs : List TrackOutcome). all_come old ++ hs) (sym (fed_append tick at before (take (k + 1) bytes) (drop (k + 1) bytes)) ∙ ap (bytes_outcomes tick at before) (take-append-drop (k + 1) bytes)) in
+    ∙ ap (λ (hs : List TrackOutcome). all_come old ++ hs) (sym (fed_append tick at before (take (k + 1) bytes) (drop (k + 1) bytes))
+        ∙ ap (bytes_outcomes tick at before) (take-append-drop (k + 1) bytes)) in
     subst (λ (hs : List TrackOutcome). Faults why hs) all
     (faults_more why _ _ (subst (λ (hs : List TrackOutcome). Faults why hs) front fault))

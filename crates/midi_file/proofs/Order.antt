@@ -1,5 +1,6 @@
 -- What happens in a file, in the order of ticks.
-use Rattle.std.proofs.Common.{◌≡◌, ℕ, suc, ◌<◌, ◌≤◌, List, [], ◌∷◌, length, get_or, Bool, true, false, cond, refl, ap, sym, ◌∙◌, arith, lt-ltb, ltb-true, leb-true, leb-false}
+use Rattle.std.proofs.Common.{◌≡◌, ℕ, suc, ◌<◌, ◌≤◌, List, [], ◌∷◌, length, get_or, Bool, true, false, cond, refl, ap, sym, ◌∙◌, arith, lt-ltb}
+use Rattle.std.proofs.Common.{ltb-true, leb-true, leb-false}
 use Rattle.std.proofs.lemmas.Bool.{le-ltb}
 use Rattle.std.specs.Prelude.{filter, nat_lt, nat_le, ◌==◌, not, ◌&&◌}
 use Rattle.std.specs.List.Sorted.{IsNonDecreasingBy, IsStableByKey, ties}
@@ -15,7 +16,8 @@ unfolding put_in_order
 put_in_time least e [] low time = (low, tt)
 put_in_time least e (f ∷ later) low time = by_test (nat_le e.tick f.tick) refl (λ (above : f.tick ≤ e.tick). put_in_time f.tick e later above time.1)
   where
-    by_test : (t : Bool) → nat_le e.tick f.tick ≡ t → (f.tick ≤ e.tick → IsInTime f.tick (put_in_order e later)) → IsInTime least (cond t (e ∷ f ∷ later) (f ∷ put_in_order e later))
+    by_test : (t : Bool) → nat_le e.tick f.tick ≡ t → (f.tick ≤ e.tick → IsInTime f.tick (put_in_order e later))
+        → IsInTime least (cond t (e ∷ f ∷ later) (f ∷ put_in_order e later))
     by_test true is put = (low, (leb-true e.tick f.tick is, time.1))
     by_test false is put =
         let above : f.tick < e.tick = leb-false e.tick f.tick is in
@@ -81,8 +83,10 @@ passed_by p e f later es same apart = by_tests (p e) (p f) refl refl
   where
     by_tests : (s t : Bool) → p e ≡ s → p f ≡ t → filter p (f ∷ es) ≡ filter p (e ∷ f ∷ later)
     by_tests true true x y = absurd (apart x y)
-    by_tests true false x y = skip p f es y ∙ same ∙ keep p e later x ∙ ap (λ (r : List TimedData). e ∷ r) (sym (skip p f later y)) ∙ sym (keep p e (f ∷ later) x)
-    by_tests false true x y = keep p f es y ∙ ap (λ (r : List TimedData). f ∷ r) (same ∙ skip p e later x) ∙ sym (keep p f later y) ∙ sym (skip p e (f ∷ later) x)
+    by_tests true false x y = skip p f es y ∙ same ∙ keep p e later x ∙ ap (λ (r : List TimedData). e ∷ r) (sym (skip p f later y))
+        ∙ sym (keep p e (f ∷ later) x)
+    by_tests false true x y = keep p f es y ∙ ap (λ (r : List TimedData). f ∷ r) (same ∙ skip p e later x) ∙ sym (keep p f later y)
+        ∙ sym (skip p e (f ∷ later) x)
     by_tests false false x y = skip p f es y ∙ same ∙ skip p e later x ∙ sym (skip p f later y) ∙ sym (skip p e (f ∷ later) x)
 
 put_keeps : (x e : TimedData) (es : List TimedData) → filter (ties less x) (put_in_order e es) ≡ filter (ties less x) (e ∷ es)
@@ -116,7 +120,8 @@ none_above x least (e ∷ later) below time =
     skip (ties less x) e later (apart_below x e (let low : least ≤ e.tick = time.0 in omega arith))
     ∙ none_above x e.tick later (let low : least ≤ e.tick = time.0 in omega arith) time.1
 
-not_above : (x y : TimedData) (xs ys : List TimedData) → IsInTime y.tick (y ∷ ys) → filter (ties less x) (x ∷ xs) ≡ filter (ties less x) (y ∷ ys) → y.tick ≤ x.tick
+not_above : (x y : TimedData) (xs ys : List TimedData) → IsInTime y.tick (y ∷ ys) → filter (ties less x) (x ∷ xs) ≡ filter (ties less x) (y ∷ ys)
+    → y.tick ≤ x.tick
 not_above x y xs ys time same = by_test (nat_lt x.tick y.tick) refl
   where
     by_test : (t : Bool) → nat_lt x.tick y.tick ≡ t → y.tick ≤ x.tick
@@ -174,5 +179,6 @@ pub rises_in_time : (es : List TimedData) → IsNonDecreasingBy (λ (e : TimedDa
 rises_in_time es up = rises 0 es (λ d some. omega arith) up
 
 -- a stable sort by the tick
-pub sorted_is : (old new : List TimedData) → IsNonDecreasingBy (λ (e : TimedData). e.tick) new → IsStableByKey (λ (e : TimedData). e.tick) nat_cmp old new → new ≡ in_order old
+pub sorted_is : (old new : List TimedData) → IsNonDecreasingBy (λ (e : TimedData). e.tick) new → IsStableByKey (λ (e : TimedData). e.tick) nat_cmp old new
+    → new ≡ in_order old
 sorted_is old new up stable = one_order 0 0 new (in_order old) (rises_in_time new up) (order_in_time old) (λ z. stable z ∙ sym (order_keeps z old))

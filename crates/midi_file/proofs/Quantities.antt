@@ -1,5 +1,6 @@
 -- One more byte of a variable-length quantity.
-use Rattle.std.proofs.Common.{◌≡◌, ℕ, zero, suc, ◌+◌, ◌-◌, ◌*◌, ◌^◌, ◌%◌, ◌<◌, ◌≤◌, List, [], ◌∷◌, refl, ap, sym, ◌∙◌, subst, arith, pow-suc, mul-le-mul_left, mul-le-mul_right, mul_assoc, mul_comm, lt-ltb}
+use Rattle.std.proofs.Common.{◌≡◌, ℕ, zero, suc, ◌+◌, ◌-◌, ◌*◌, ◌^◌, ◌%◌, ◌<◌, ◌≤◌, List, [], ◌∷◌, refl, ap, sym, ◌∙◌, subst, arith, pow-suc}
+use Rattle.std.proofs.Common.{mul-le-mul_left, mul-le-mul_right, mul_assoc, mul_comm, lt-ltb}
 use Rattle.std.proofs.lemmas.Bool.{le-ltb}
 use Rattle.std.proofs.Math.Nat.{one-le-pow}
 use Rattle.script_outcome.specs.declared.fault.ScriptKind.TheVariants as kind
@@ -43,7 +44,8 @@ has_room (suc more) so_far some room =
     let least : ((so_far + 1) * 128) * 1 ≤ ((so_far + 1) * 128) * 128 ^ more = mul-le-mul_left ((so_far + 1) * 128) one in
     omega arith
 
-pub room_left : (more so_far bits : ℕ) → 0 < more → bits < 128 → (so_far + 1) * 128 ^ more ≤ 268435456 → (so_far * 128 + bits + 1) * 128 ^ (more - 1) ≤ 268435456
+pub room_left : (more so_far bits : ℕ) → 0 < more → bits < 128 → (so_far + 1) * 128 ^ more ≤ 268435456
+    → (so_far * 128 + bits + 1) * 128 ^ (more - 1) ≤ 268435456
 room_left zero so_far bits some small room = absurd (omega arith)
 room_left (suc more) so_far bits some small room =
     let less : suc more - 1 ≡ more = omega arith in

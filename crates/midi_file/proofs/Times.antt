@@ -1,5 +1,6 @@
 -- The time of a tick, stretch by stretch.
-use Rattle.std.proofs.Common.{◌≡◌, ℕ, ◌+◌, ◌-◌, ◌*◌, ◌<◌, ◌≤◌, List, [], ◌∷◌, ◌++◌, Bool, true, false, cond, refl, ap, sym, subst, ◌∙◌, arith, add-mul, zero-mul, zero-add, add_assoc, leb-true, leb-false}
+use Rattle.std.proofs.Common.{◌≡◌, ℕ, ◌+◌, ◌-◌, ◌*◌, ◌<◌, ◌≤◌, List, [], ◌∷◌, ◌++◌, Bool, true, false, cond, refl, ap, sym, subst, ◌∙◌, arith}
+use Rattle.std.proofs.Common.{add-mul, zero-mul, zero-add, add_assoc, leb-true, leb-false}
 use Rattle.std.specs.Prelude.{nat_le}
 use Rattle.midi_file.specs.Track.{ActData, Sets, Plays, TimedData}
 use Rattle.midi_file.specs.Time.{Change, change_at, changes_in, time_between}
@@ -14,7 +15,8 @@ lower : (tick low : ℕ) (changes : List Change) → low ≤ tick → IsAfterTic
 lower tick low [] le is = tt
 lower tick low (change ∷ later) le is = omega arith
 
-by_act : (tick : ℕ) (e : TimedData) (a : ActData) (later : List Change) → tick ≤ e.tick → IsAfterTick e.tick later → IsAfterTick tick (change_at e.tick a ++ later)
+by_act : (tick : ℕ) (e : TimedData) (a : ActData) (later : List Change) → tick ≤ e.tick → IsAfterTick e.tick later
+    → IsAfterTick tick (change_at e.tick a ++ later)
 by_act tick e (Sets tempo) later le is = le
 by_act tick e (Plays command) later le is = lower e.tick tick later le is
 
@@ -55,7 +57,8 @@ unfolding time_between
 no_time tempo tick [] is = no_stretch tempo tick
 no_time tempo tick (change ∷ later) is = by_test (nat_le tick change.tick) refl
   where
-    by_test : (t : Bool) → nat_le tick change.tick ≡ t → cond t ((tick - tick) * tempo) ((change.tick - tick) * tempo + time_between change.tempo change.tick later tick) ≡ 0
+    by_test : (t : Bool) → nat_le tick change.tick ≡ t → cond t ((tick - tick) * tempo)
+        ((change.tick - tick) * tempo + time_between change.tempo change.tick later tick) ≡ 0
     by_test true e = no_stretch tempo tick
     by_test false e = let above : change.tick < tick = leb-false tick change.tick e in absurd (omega arith)
 
@@ -65,7 +68,8 @@ pub time_changed : (tempo tempo' from to : ℕ) (later : List Change) → from �
 unfolding time_between
 time_changed tempo tempo' from to later le is = by_test (nat_le to from) refl
   where
-    by_test : (t : Bool) → nat_le to from ≡ t → cond t ((to - from) * tempo) ((from - from) * tempo + time_between tempo' from later to) ≡ time_between tempo' from later to
+    by_test : (t : Bool) → nat_le to from ≡ t → cond t ((to - from) * tempo) ((from - from) * tempo + time_between tempo' from later to) ≡ time_between tempo'
+        from later to
     by_test true e =
         let same : to ≡ from = let high : to ≤ from = leb-true to from e in omega arith in
         subst (λ (n : ℕ). (n - from) * tempo ≡ time_between tempo' from later n) (sym same) (no_stretch tempo from ∙ sym (no_time tempo' from later is))

@@ -1,5 +1,6 @@
 -- The events of a track, one after the other.
-use Rattle.std.proofs.Common.{◌≡◌, ℕ, zero, suc, ◌+◌, ◌-◌, ◌<◌, ◌≤◌, List, [], ◌∷◌, ◌++◌, length, Bool, true, false, cond, refl, ap, sym, ◌∙◌, subst, arith, append_assoc, append-nil}
+use Rattle.std.proofs.Common.{◌≡◌, ℕ, zero, suc, ◌+◌, ◌-◌, ◌<◌, ◌≤◌, List, [], ◌∷◌, ◌++◌, length, Bool, true, false, cond, refl, ap, sym, ◌∙◌, subst}
+use Rattle.std.proofs.Common.{arith, append_assoc, append-nil}
 use Rattle.std.specs.Prelude.{◌==◌}
 use Rattle.std.proofs.lemmas.Bool.{eqb-true}
 use Rattle.midi_stream.specs.FedStream.{Reads}
@@ -9,7 +10,8 @@ use Rattle.script_outcome.specs.declared.fault.ScriptKind.{ScriptKind}
 use Rattle.script_outcome.specs.declared.fault.ScriptFault.{ScriptFault}
 use Rattle.script_outcome.specs.declared.fault.ScriptFault.TheVariants as faults
 use Rattle.midi_file.specs.Event.{EventData, EventRead, Event, Broken, event_at}
-use Rattle.midi_file.specs.Track.{Found, TimedData, TrackOutcome, Breaks, event_outcomes, ends_track, events_outcomes, events_in, fed_by, found_at, track_outcomes}
+use Rattle.midi_file.specs.Track.{Found, TimedData, TrackOutcome, Breaks, event_outcomes, ends_track, events_outcomes, events_in, fed_by, found_at}
+use Rattle.midi_file.specs.Track.{track_outcomes}
 use Rattle.midi_file.specs.FileSoFar.{Faults, all_come}
 use Rattle.midi_file.proofs.EndedMessages.{fault_here, faults_more}
 
@@ -44,7 +46,8 @@ events_first (suc m) end running (byte ∷ rest) r some enough is =
     (m, omega arith, ap (found_at (end - length (byte ∷ rest)) (events_in m end)) is)
 
 -- what is broken in a track
-pub broken_within : (fault : ScriptFault) (reader : MidiReader) (end tick running : ℕ) (rest : List ℕ) (acts : List TimedData) (all : List TrackOutcome) (why : ScriptKind)
+pub broken_within : (fault : ScriptFault) (reader : MidiReader) (end tick running : ℕ) (rest : List ℕ) (acts : List TimedData) (all : List TrackOutcome)
+    (why : ScriptKind)
     → IsWithinTrack reader end tick running rest acts all → 0 < length rest → event_at running rest ≡ Broken why
     → fault ≡ faults.Refused (place.Byte (end - length rest)) why → Faults fault all
 unfolding events_outcomes
@@ -58,7 +61,8 @@ broken_within fault reader end tick running rest acts all why w some is refused 
 -- what happens by an event, and after it
 events_then : (tick place : ℕ) (stream : List ℕ) (later : ℕ → List ℕ → List Found) (e : EventData)
     → events_outcomes tick stream (found_at place later (Event e))
-    ≡ event_outcomes (tick + e.delta) place stream e.kind ++ events_outcomes (tick + e.delta) (stream ++ fed_by e.kind) (cond (ends_track e.kind) [] (later e.running e.rest))
+    ≡ event_outcomes (tick + e.delta) place stream e.kind ++ events_outcomes (tick + e.delta) (stream
+        ++ fed_by e.kind) (cond (ends_track e.kind) [] (later e.running e.rest))
 unfolding events_outcomes
 events_then tick place stream later e = refl
 
@@ -76,7 +80,8 @@ all_by_event reader end tick running rest acts all e w some is =
     )
 
 -- a fault of an event
-pub fault_within : (reader : MidiReader) (end tick tick' running : ℕ) (rest : List ℕ) (acts : List TimedData) (all : List TrackOutcome) (e : EventData) (why : ScriptFault)
+pub fault_within : (reader : MidiReader) (end tick tick' running : ℕ) (rest : List ℕ) (acts : List TimedData) (all : List TrackOutcome) (e : EventData)
+    (why : ScriptFault)
     → (w : IsWithinTrack reader end tick running rest acts all) → 0 < length rest → event_at running rest ≡ Event e → tick' ≡ tick + e.delta
     → Faults why (all_come acts ++ event_outcomes tick' (end - length rest) w.stream e.kind) → Faults why all
 fault_within reader end tick tick' running rest acts all e why w some is on fault =
@@ -85,8 +90,10 @@ fault_within reader end tick tick' running rest acts all e why w some is on faul
     (faults_more why _ _ (subst (λ (n : ℕ). Faults why (all_come acts ++ event_outcomes n (end - length rest) w.stream e.kind)) on fault))
 
 -- one more event of a track
-pub within_more : (reader reader' : MidiReader) (end tick tick' running : ℕ) (rest : List ℕ) (acts acts' : List TimedData) (all : List TrackOutcome) (e : EventData)
-    → (w : IsWithinTrack reader end tick running rest acts all) → 0 < length rest → event_at running rest ≡ Event e → length e.rest < length rest → tick' ≡ tick + e.delta
+pub within_more : (reader reader' : MidiReader) (end tick tick' running : ℕ) (rest : List ℕ) (acts acts' : List TimedData) (all : List TrackOutcome)
+    (e : EventData)
+    → (w : IsWithinTrack reader end tick running rest acts all) → 0 < length rest → event_at running rest ≡ Event e → length e.rest < length rest
+        → tick' ≡ tick + e.delta
     → Reads reader' (w.stream ++ fed_by e.kind) → all_come acts' ≡ all_come acts ++ event_outcomes tick' (end - length rest) w.stream e.kind
     → ends_track e.kind ≡ false → IsWithinTrack reader' end tick' e.running e.rest acts' all
 within_more reader reader' end tick tick' running rest acts acts' all e w some is shorter on reads come goes =

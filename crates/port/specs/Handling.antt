@@ -31,7 +31,8 @@ KeepsNoMessage None = Unit {0}
 KeepsNoMessage (Some (kept.Command command)) = Unit {0}
 KeepsNoMessage (Some (kept.Message held)) = ⊥
 
--- So many bytes were used, at most one message had its outcome, and the end is of its line and number. It stopped at a full line only where that was met.
+-- So many bytes were used, at most one message had its outcome, and the end is of its line and number. It stopped at a full line only where
+-- that was met.
 pub record OneMore (old new : SendView) (used : ℕ) (fed : Fed) : Type 0 where
   pub line : new.line ≡ old.line
   pub number : new.number ≡ old.number

@@ -11,7 +11,7 @@ ghost use Rattle.port.specs.Ranges.{SendsInRange};
 ghost use Rattle.port.specs.Handling.{IsDoneOrKept, KeepsThis, KeepsNoMessage, OneMore};
 
 use crate::fed::Fed;
-use crate::kept::{Ended, Kept, Waiting};
+use crate::kept::{KeptMessage, Kept, Waiting};
 use command_queue::{Line, SendEnd};
 use command_set::{Command, CommandFault, from_message};
 use midi_stream::MidiMessage;
@@ -70,7 +70,7 @@ pub(crate) fn handle<R: Wait>(
         Ok(Some(command)) => send(rt, line, end, kept, command),
         Ok(None) => Fed::PASSED_OVER,
         Err(CommandFault::Memory) => {
-            *kept = Some(Kept::Message(Ended::new(message)));
+            *kept = Some(Kept::Message(KeptMessage::new(message)));
             Fed::MEMORY
         }
         Err(CommandFault::TooLong { .. }) => Fed::REFUSED,

@@ -10,7 +10,7 @@ use std::marker::Model;
 
 /// A command in range, which the line had no place for.
 #[derive(Drop)]
-pub struct Waiting {
+pub(crate) struct Waiting {
     command: Command,
 }
 
@@ -42,27 +42,27 @@ impl Waiting {
 
 /// A message as a reader answers it, for whose command memory had run out.
 #[derive(Drop)]
-pub struct Ended {
+pub(crate) struct KeptMessage {
     message: MidiMessage,
 }
 
-impl Model for Ended {
+impl Model for KeptMessage {
     ghost use Rattle.midi_stream.specs.declared.message.MidiMessage.{MidiMessage};
     ghost use Rattle.midi_stream.specs.Ranges.{InRange};
 
     ghost Value = { MidiMessage };
 
-    ghost view = { λ ended. ended.message };
+    ghost view = { λ kept. kept.message };
 
-    ghost invariant = { λ ended. InRange ended.message };
+    ghost invariant = { λ kept. InRange kept.message };
 }
 
-impl Ended {
-    pub(crate) fn new(message: MidiMessage) -> Ended
+impl KeptMessage {
+    pub(crate) fn new(message: MidiMessage) -> KeptMessage
         requires { InRange message }
         ensures { result ≡ message }
     {
-        Ended { message }
+        KeptMessage { message }
     }
 
     pub(crate) fn into_message(self) -> MidiMessage
@@ -75,9 +75,9 @@ impl Ended {
 
 /// What is tried first at the next feed.
 #[derive(Drop)]
-pub enum Kept {
+pub(crate) enum Kept {
     /// A command that found the line full.
     Command(Waiting),
     /// A message for whose command memory had run out.
-    Message(Ended),
+    Message(KeptMessage),
 }

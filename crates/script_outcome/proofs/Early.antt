@@ -25,21 +25,25 @@ message_early blocks block at PassedOver below = tt
 message_early blocks block at (Overlong count) below = tt
 message_early blocks block at (Faulty fault) below = tt
 
-pub ended_early : (blocks block : ℕ) (at : Place) (curve : Curve) (ended : Option EndedMessage) → block < blocks → AllEarly blocks (ended_outcomes at block curve ended)
+pub ended_early : (blocks block : ℕ) (at : Place) (curve : Curve) (ended : Option EndedMessage) → block < blocks
+    → AllEarly blocks (ended_outcomes at block curve ended)
 ended_early blocks block at curve None below = tt
 ended_early blocks block at curve (Some h) below = message_early blocks block at (command_of h.message h.bytes curve) below
 
-pub fed_early : (blocks block : ℕ) (place_of : List ℕ → Place) (curve : Curve) (before bytes : List ℕ) → block < blocks → AllEarly blocks (fed_outcomes place_of block curve before bytes)
+pub fed_early : (blocks block : ℕ) (place_of : List ℕ → Place) (curve : Curve) (before bytes : List ℕ) → block < blocks
+    → AllEarly blocks (fed_outcomes place_of block curve before bytes)
 unfolding fed_outcomes
 fed_early blocks block place_of curve before [] below = tt
 fed_early blocks block place_of curve before (byte ∷ bytes) below =
     both_early blocks (ended_outcomes (place_of before) block curve (ended_message before byte)) (fed_outcomes place_of block curve (before ++ byte ∷ []) bytes)
-    (ended_early blocks block (place_of before) curve (ended_message before byte) below) (fed_early blocks block place_of curve (before ++ byte ∷ []) bytes below)
+    (ended_early blocks block (place_of before) curve (ended_message before byte) below)
+        (fed_early blocks block place_of curve (before ++ byte ∷ []) bytes below)
 
 pub below_all : (blocks block : ℕ) → nat_le blocks block ≡ false → block < blocks
 below_all blocks block e = leb-false blocks block e
 
-given_at : (blocks : ℕ) (cs : List PlannedData) → AllEarly blocks (all_given cs) → (k : ℕ) (d : PlannedData) → k < length cs → (slice_index_or cs k d).due < blocks
+given_at : (blocks : ℕ) (cs : List PlannedData) → AllEarly blocks (all_given cs) → (k : ℕ) (d : PlannedData) → k < length cs
+    → (slice_index_or cs k d).due < blocks
 given_at blocks [] early k d l = absurd (omega arith)
 given_at blocks (c ∷ cs) early zero d l = early.0
 given_at blocks (c ∷ cs) early (suc k) d l = given_at blocks cs early.1 k d (omega arith)

@@ -1,6 +1,7 @@
 -- One more byte of a stream.
 use Rattle.std.proofs.lemmas.Grind.{take_at_read}
-use Rattle.std.proofs.Common.{◌≡◌, ℕ, ◌+◌, ◌<◌, ◌≤◌, take, get_or, List, [], ◌∷◌, ◌++◌, length, refl, ap, sym, ◌∙◌, arith, append_assoc, append-nil, length-append, if◌then◌else◌}
+use Rattle.std.proofs.Common.{◌≡◌, ℕ, ◌+◌, ◌<◌, ◌≤◌, take, get_or, List, [], ◌∷◌, ◌++◌, length, refl, ap, sym, ◌∙◌, arith, append_assoc, append-nil}
+use Rattle.std.proofs.Common.{length-append, if◌then◌else◌}
 use Rattle.std.specs.Prelude.{Option, Some, None, unwrap_or, IfSome}
 use Rattle.midi_stream.specs.declared.message.MidiMessage.{MidiMessage}
 use Rattle.midi_stream.specs.Messages.{messages, last_sysex}
@@ -38,7 +39,8 @@ fed_more place_of block curve before (x ∷ xs) byte =
     let first : List Outcome = ended_outcomes (place_of before) block curve (ended_message before x) in
     let later = fed_more place_of block curve (before ++ x ∷ []) xs byte in
     let join : (before ++ x ∷ []) ++ xs ≡ before ++ x ∷ xs = append_assoc before (x ∷ []) xs in
-    ap (λ (os : List Outcome). first ++ os) (later ∙ ap (λ (s : List ℕ). fed_outcomes place_of block curve (before ++ x ∷ []) xs ++ ended_outcomes (place_of s) block curve (ended_message s byte)) join)
+    ap (λ (os : List Outcome). first ++ os) (later ∙ ap (λ (s : List ℕ). fed_outcomes place_of block curve (before ++ x ∷ []) xs
+        ++ ended_outcomes (place_of s) block curve (ended_message s byte)) join)
     ∙ sym (append_assoc first _ _)
 
 begun_more_after : (before xs : List ℕ) (start byte : ℕ)

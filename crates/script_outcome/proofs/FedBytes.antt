@@ -30,9 +30,11 @@ pub fed_none : (place_of : List ℕ → Place) (block : ℕ) (curve : Curve) (be
 unfolding fed_outcomes
 fed_none place_of block curve before = refl
 
-fed_front : (place_of : List ℕ → Place) (block : ℕ) (curve : Curve) (before bytes : List ℕ) (at byte : ℕ) (first : List Outcome) → at < length bytes → get_or bytes at 0 ≡ byte
+fed_front : (place_of : List ℕ → Place) (block : ℕ) (curve : Curve) (before bytes : List ℕ) (at byte : ℕ) (first : List Outcome) → at < length bytes
+    → get_or bytes at 0 ≡ byte
     → first ++ fed_outcomes place_of block curve before (take (at + 1) bytes)
-    ≡ first ++ fed_outcomes place_of block curve before (take at bytes) ++ ended_outcomes (place_of (before ++ take at bytes)) block curve (ended_message (before ++ take at bytes) byte)
+    ≡ first ++ fed_outcomes place_of block curve before (take at bytes) ++ ended_outcomes (place_of (before ++ take at bytes)) block curve
+        (ended_message (before ++ take at bytes) byte)
 fed_front place_of block curve before bytes at byte first below is =
     ap (λ (s : List ℕ). first ++ fed_outcomes place_of block curve before s) (take_next bytes at byte below is)
     ∙ ap (λ (os : List Outcome). first ++ os) (fed_more place_of block curve before (take at bytes) byte)
@@ -47,14 +49,16 @@ fed_step place_of block curve before bytes at byte old now new below is was more
     more ∙ ap (λ (os : List Outcome). os ++ ended_outcomes (place_of (before ++ take at bytes)) block curve (ended_message (before ++ take at bytes) byte)) was
     ∙ sym (fed_front place_of block curve before bytes at byte (all_given old) below is)
 
-pub fed_stopped : (place_of : List ℕ → Place) (block : ℕ) (curve : Curve) (before bytes : List ℕ) (at byte : ℕ) (why : ScriptFault) (room : ℕ) (old now : List PlannedData)
+pub fed_stopped : (place_of : List ℕ → Place) (block : ℕ) (curve : Curve) (before bytes : List ℕ) (at byte : ℕ) (why : ScriptFault) (room : ℕ)
+    (old now : List PlannedData)
     → at < length bytes → get_or bytes at 0 ≡ byte
     → all_given now ≡ all_given old ++ fed_outcomes place_of block curve before (take at bytes)
     → Stops why room (all_given now ++ ended_outcomes (place_of (before ++ take at bytes)) block curve (ended_message (before ++ take at bytes) byte))
     → Stops why room (all_given old ++ fed_outcomes place_of block curve before bytes)
 fed_stopped place_of block curve before bytes at byte why room old now below is was stops =
     let parts : all_given old ++ fed_outcomes place_of block curve before bytes
-    ≡ all_given old ++ fed_outcomes place_of block curve before (take (at + 1) bytes) ++ fed_outcomes place_of block curve (before ++ take (at + 1) bytes) (drop (at + 1) bytes) =
+    ≡ all_given old ++ fed_outcomes place_of block curve before (take (at + 1) bytes)
+        ++ fed_outcomes place_of block curve (before ++ take (at + 1) bytes) (drop (at + 1) bytes) =
     ap (λ (s : List ℕ). all_given old ++ fed_outcomes place_of block curve before s) (sym (take-append-drop (at + 1) bytes))
     ∙ ap (λ (os : List Outcome). all_given old ++ os) (fed_append place_of block curve before (take (at + 1) bytes) (drop (at + 1) bytes))
     ∙ sym (append_assoc (all_given old) _ _) in

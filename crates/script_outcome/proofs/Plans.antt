@@ -1,5 +1,6 @@
 -- The plan of commands, and of commands with a fault or one more after them.
-use Rattle.std.proofs.Common.{◌≡◌, ℕ, ◌+◌, ◌≤◌, List, [], ◌∷◌, ◌++◌, length, Bool, true, false, cond, refl, ap, sym, ◌∙◌, subst, arith, append_assoc, append-nil, lt-ltb, length-append}
+use Rattle.std.proofs.Common.{◌≡◌, ℕ, ◌+◌, ◌≤◌, List, [], ◌∷◌, ◌++◌, length, Bool, true, false, cond, refl, ap, sym, ◌∙◌, subst, arith, append_assoc}
+use Rattle.std.proofs.Common.{append-nil, lt-ltb, length-append}
 use Rattle.std.proofs.lemmas.Bool.{le-ltb}
 use Rattle.std.specs.Prelude.{nat_lt}
 use Rattle.script_plan.specs.Plan.{PlannedData, last_due_or, last_due}
@@ -93,15 +94,19 @@ last_due_more least [] c = refl
 last_due_more least (d ∷ cs) c = last_due_more d.due cs c
 
 -- a message that is refused
-pub stops_overlong : (room : ℕ) (cs : List PlannedData) (at : Place) (block count : ℕ) (told : MessageOutcome) (more : List Outcome) → length cs ≤ room → told ≡ Overlong count
+pub stops_overlong : (room : ℕ) (cs : List PlannedData) (at : Place) (block count : ℕ) (told : MessageOutcome) (more : List Outcome) → length cs ≤ room
+    → told ≡ Overlong count
     → plan_of room (all_given cs ++ message_outcomes at block told ++ more) ≡ Refused at kind.Long
 stops_overlong room cs at block count told more few is =
-    subst (λ (t : MessageOutcome). plan_of room (all_given cs ++ message_outcomes at block t ++ more) ≡ Refused at kind.Long) (sym is) (fails room cs at kind.Long more few)
+    subst (λ (t : MessageOutcome). plan_of room (all_given cs ++ message_outcomes at block t ++ more) ≡ Refused at kind.Long) (sym is)
+        (fails room cs at kind.Long more few)
 
-pub stops_faulty : (room : ℕ) (cs : List PlannedData) (at : Place) (block : ℕ) (fault : FrameFault) (told : MessageOutcome) (more : List Outcome) → length cs ≤ room → told ≡ Faulty fault
+pub stops_faulty : (room : ℕ) (cs : List PlannedData) (at : Place) (block : ℕ) (fault : FrameFault) (told : MessageOutcome) (more : List Outcome)
+    → length cs ≤ room → told ≡ Faulty fault
     → plan_of room (all_given cs ++ message_outcomes at block told ++ more) ≡ Refused at (kind.Message fault)
 stops_faulty room cs at block fault told more few is =
-    subst (λ (t : MessageOutcome). plan_of room (all_given cs ++ message_outcomes at block t ++ more) ≡ Refused at (kind.Message fault)) (sym is) (fails room cs at (kind.Message fault) more few)
+    subst (λ (t : MessageOutcome). plan_of room (all_given cs ++ message_outcomes at block t ++ more) ≡ Refused at (kind.Message fault)) (sym is)
+        (fails room cs at (kind.Message fault) more few)
 
 -- what an answer says, handed on
 pub on_ok_more : {T E : Type 0} {P Q : Type 0} (r : Result T E) → OnOk r P → (P → Q) → OnOk r Q

@@ -50,7 +50,8 @@ voice_found word d parsed =
 is_voice : (bytes : List ℕ) (d : CommandData) → if_voice bytes ≡ Some d → (d ≡ LoadsVoice bytes) × IsVoice bytes
 is_voice bytes d e = by_test (bytes_eq (clamped_voice bytes) bytes) refl e
   where
-    by_test : (t : Bool) → bytes_eq (clamped_voice bytes) bytes ≡ t → (Rattle.std.specs.Prelude.cond t (Some (LoadsVoice bytes)) None) ≡ Some d → (d ≡ LoadsVoice bytes) × IsVoice bytes
+    by_test : (t : Bool) → bytes_eq (clamped_voice bytes) bytes ≡ t → (Rattle.std.specs.Prelude.cond t (Some (LoadsVoice bytes)) None) ≡ Some d
+        → (d ≡ LoadsVoice bytes) × IsVoice bytes
     by_test true same e =
         let is : clamped_voice bytes ≡ bytes = (bytes_eq-Decides (clamped_voice bytes) bytes).0 same in
         (cc, subst IsVoice is (clamped_is_voice bytes (clamped_voice bytes) (clamped_clamps bytes)))
@@ -83,13 +84,15 @@ unfolding parsed_cartridge
 cartridge_found word d parsed =
     let own = as_cartridge word d parsed.0 parsed.1 in
     let bytes : List ℕ = flat_map packed own.0 in
-    let decoded : decode_of word ≡ Ok bytes = subst (λ (w : List ℕ). decode_of w ≡ Ok bytes) own.3 (decode_of-encode_lower bytes (cartridge_bytes own.0 own.2)) in
+    let decoded : decode_of word ≡ Ok bytes = subst (λ (w : List ℕ). decode_of w ≡ Ok bytes) own.3 (decode_of-encode_lower bytes (cartridge_bytes own.0 own.2))
+        in
     ap (option_and_then if_cartridge) (lower_own word bytes decoded own.3) ∙ cartridge_own own.0 own.2 ∙ ap Some (sym own.1)
 
 is_payload : (bytes : List ℕ) (d : CommandData) → if_cartridge bytes ≡ Some d → flat_map packed (voices_of bytes) ≡ bytes
 is_payload bytes d e = by_test (bytes_eq (flat_map packed (voices_of bytes)) bytes) refl e
   where
-    by_test : (t : Bool) → bytes_eq (flat_map packed (voices_of bytes)) bytes ≡ t → (Rattle.std.specs.Prelude.cond t (Some (LoadsCartridge (voices_of bytes))) None) ≡ Some d → flat_map packed (voices_of bytes) ≡ bytes
+    by_test : (t : Bool) → bytes_eq (flat_map packed (voices_of bytes)) bytes ≡ t
+        → (Rattle.std.specs.Prelude.cond t (Some (LoadsCartridge (voices_of bytes))) None) ≡ Some d → flat_map packed (voices_of bytes) ≡ bytes
     by_test true same e = (bytes_eq-Decides (flat_map packed (voices_of bytes)) bytes).0 same
     by_test false same e = absurd (cc)
 
@@ -101,7 +104,8 @@ cartridge_missed word none = by_bytes (lower_bytes word) refl
     by_cartridge bytes is None e = e
     by_cartridge bytes is (Some d) e =
         let same : flat_map packed (voices_of bytes) ≡ bytes = is_payload bytes d e in
-        absurd (none (LoadsCartridge (voices_of bytes)) (voices_cartridge bytes) (ap (λ (xs : List ℕ). codes "cartridge" ∷ encode_lower xs ∷ []) same ∙ ap (λ (w : List ℕ). codes "cartridge" ∷ w ∷ []) is))
+        absurd (none (LoadsCartridge (voices_of bytes)) (voices_cartridge bytes) (ap (λ (xs : List ℕ). codes "cartridge" ∷ encode_lower xs ∷ []) same
+            ∙ ap (λ (w : List ℕ). codes "cartridge" ∷ w ∷ []) is))
 
     by_bytes : (o : Option (List ℕ)) → lower_bytes word ≡ o → option_and_then if_cartridge o ≡ None
     by_bytes None e = refl

@@ -16,7 +16,8 @@ use Rattle.script_read.specs.Words.{lines_of, without_return}
 use Rattle.script_outcome.specs.Outcomes.{Outcome, Gives, Fails}
 use Rattle.script_read.specs.Outcomes.{time_fault, timed}
 use Rattle.script_read.specs.EditLines.{EditRequestData, ParsedEdit, Passed, Requests, Bad, parsed_edit, parsed_edits}
-use Rattle.script_read.specs.Edits.{Answered, Becomes, Refuses, answer_outcomes, answered, block_then, edit_block, edit_outcomes, edit_place, edit_text_outcomes, edits_after, history_with, history_after, history_then, opened}
+use Rattle.script_read.specs.Edits.{Answered, Becomes, Refuses, answer_outcomes, answered, block_then, edit_block, edit_outcomes, edit_place}
+use Rattle.script_read.specs.Edits.{edit_text_outcomes, edits_after, history_with, history_after, history_then, opened}
 use Rattle.script_outcome.specs.Plan.{Refused, plan_of}
 use Rattle.script_outcome.specs.ReaderAnswer.{Stops, all_given}
 use Rattle.script_read.specs.EditsSoFar.{IsEditing, IsRefusal, IsWithinEdits}
@@ -51,7 +52,8 @@ outcomes_one blocks before s = append-nil (edit_outcomes blocks before s)
 
 outcomes_more : (blocks : Option ℕ) (lines : List ParsedEdit) (s : ParsedEdit)
     → edits_after blocks [] (lines ++ s ∷ []) ≡ edits_after blocks [] lines ++ edit_outcomes blocks lines s
-outcomes_more blocks lines s = outcomes_append blocks [] lines (s ∷ []) ∙ ap (λ (os : List Outcome). edits_after blocks [] lines ++ os) (outcomes_one blocks lines s)
+outcomes_more blocks lines s = outcomes_append blocks [] lines (s ∷ []) ∙ ap (λ (os : List Outcome). edits_after blocks [] lines
+    ++ os) (outcomes_one blocks lines s)
 
 -- the outcomes with one more line, by the commands so far
 given_more : (p : Editing) (blocks : Option ℕ) (lines : List ParsedEdit) (s : ParsedEdit) → IsEditing p blocks lines
@@ -66,7 +68,8 @@ pub after_more : (old new : Editing) (blocks : Option ℕ) (lines : List ParsedE
 after_more old new blocks lines s b history least number given = record {
   history = history ∙ ap (λ (h : History). history_with h s) b.history ∙ sym (history_more opened lines s);
   least = least ∙ ap (λ (n : ℕ). block_then n s) b.least ∙ sym (block_more 0 lines s);
-  number = let count : length (lines ++ s ∷ []) ≡ length lines + 1 = length-append lines (s ∷ []) in let was : old.number ≡ length lines + 2 = b.number in omega arith;
+  number = let count : length (lines ++ s ∷ []) ≡ length lines + 1 = length-append lines (s ∷ []) in let was : old.number ≡ length lines + 2 = b.number in
+      omega arith;
   given = given_more old blocks lines s b ∙ sym given;
 }
 
@@ -76,7 +79,8 @@ unfolding history_after edit_block edits_after
 after_none p blocks history none least number = record { history = history; least = least; number = number; given = ap all_given (sym none) }
 
 -- a line that is refused
-stops_line : (p : Editing) (blocks : Option ℕ) (room : ℕ) (lines : List ParsedEdit) (s : ParsedEdit) (why : ScriptKind) → IsEditing p blocks lines → length p.script ≤ room
+stops_line : (p : Editing) (blocks : Option ℕ) (room : ℕ) (lines : List ParsedEdit) (s : ParsedEdit) (why : ScriptKind) → IsEditing p blocks lines
+    → length p.script ≤ room
     → edit_outcomes blocks lines s ≡ Fails (edit_place lines) why ∷ []
     → Stops (faults.Refused (place.Line p.number) why) room (edits_after blocks [] (lines ++ s ∷ []))
 stops_line p blocks room lines s why b few is = λ more.
@@ -113,14 +117,18 @@ stops_bad p blocks room lines fault b few is =
     (stops_line p blocks room lines Bad kind.Line b few (bad_outcomes blocks lines))
 
 request_outcomes : (p : Editing) (blocks : Option ℕ) (lines : List ParsedEdit) (block : ℕ) (what : EditRequestData) → IsEditing p blocks lines
-    → edit_outcomes blocks lines (Requests block what) ≡ timed (time_fault blocks p.least block) (edit_place lines) (answer_outcomes (edit_place lines) block (answered p.editor what))
+    → edit_outcomes blocks lines (Requests block what) ≡ timed (time_fault blocks p.least block) (edit_place lines)
+        (answer_outcomes (edit_place lines) block (answered p.editor what))
 unfolding edit_outcomes
 request_outcomes p blocks lines block what b =
-    ap (λ (n : ℕ). timed (time_fault blocks n block) (edit_place lines) (answer_outcomes (edit_place lines) block (answered (history_after opened lines) what))) (sym b.least)
-    ∙ ap (λ (h : History). timed (time_fault blocks p.least block) (edit_place lines) (answer_outcomes (edit_place lines) block (answered h what))) (sym b.history)
+    ap (λ (n : ℕ). timed (time_fault blocks n block) (edit_place lines) (answer_outcomes (edit_place lines) block (answered (history_after opened lines) what)))
+        (sym b.least)
+    ∙ ap (λ (h : History). timed (time_fault blocks p.least block) (edit_place lines) (answer_outcomes (edit_place lines) block (answered h what)))
+        (sym b.history)
 
 -- a line whose block is wrong
-pub stops_time : (p : Editing) (blocks : Option ℕ) (room : ℕ) (lines : List ParsedEdit) (block : ℕ) (what : EditRequestData) (why : ScriptKind) (fault : ScriptFault)
+pub stops_time : (p : Editing) (blocks : Option ℕ) (room : ℕ) (lines : List ParsedEdit) (block : ℕ) (what : EditRequestData) (why : ScriptKind)
+    (fault : ScriptFault)
     → IsEditing p blocks lines → length p.script ≤ room → time_fault blocks p.least block ≡ Some why → fault ≡ faults.Refused (place.Line p.number) why
     → Stops fault room (edits_after blocks [] (lines ++ Requests block what ∷ []))
 stops_time p blocks room lines block what why fault b few time is =
@@ -138,7 +146,8 @@ answer_comes p blocks lines block what answer b time is =
 
 -- the editor refuses
 pub stops_answer : (p : Editing) (blocks : Option ℕ) (room : ℕ) (lines : List ParsedEdit) (block : ℕ) (what : EditRequestData) (fault : ScriptFault)
-    → IsEditing p blocks lines → length p.script ≤ room → time_fault blocks p.least block ≡ None → IsRefusal fault (place.Line p.number) (answered p.editor what)
+    → IsEditing p blocks lines → length p.script ≤ room → time_fault blocks p.least block ≡ None
+        → IsRefusal fault (place.Line p.number) (answered p.editor what)
     → Stops fault room (edits_after blocks [] (lines ++ Requests block what ∷ []))
 stops_answer p blocks room lines block what (faults.Refused at why) b few time is =
     subst (λ (x : Place). Stops (faults.Refused x why) room (edits_after blocks [] (lines ++ Requests block what ∷ []))) (sym is.0)
@@ -156,13 +165,15 @@ after_answer old new blocks lines block what command b time is least number give
     (given ∙ ap (λ (os : List Outcome). all_given old.script ++ os) (sym (answer_comes old blocks lines block what (Becomes new.editor command) b time is)))
 
 -- the command is not given
-pub stops_give : (p : Editing) (blocks : Option ℕ) (room : ℕ) (lines : List ParsedEdit) (block : ℕ) (what : EditRequestData) (next : History) (command : CommandData) (fault : ScriptFault)
+pub stops_give : (p : Editing) (blocks : Option ℕ) (room : ℕ) (lines : List ParsedEdit) (block : ℕ) (what : EditRequestData) (next : History)
+    (command : CommandData) (fault : ScriptFault)
     → IsEditing p blocks lines → time_fault blocks p.least block ≡ None → answered p.editor what ≡ Becomes next command
     → Stops fault room (all_given p.script ++ Gives (planned_at block command) ∷ [])
     → Stops fault room (edits_after blocks [] (lines ++ Requests block what ∷ []))
 stops_give p blocks room lines block what next command fault b time is stops =
     stops_in_line p blocks room lines (Requests block what) fault b
-    (subst (λ (os : List Outcome). Stops fault room (all_given p.script ++ os)) (sym (answer_comes p blocks lines block what (Becomes next command) b time is)) stops)
+    (subst (λ (os : List Outcome). Stops fault room (all_given p.script ++ os)) (sym (answer_comes p blocks lines block what (Becomes next command) b time is))
+        stops)
 
 -- ---- whole texts
 
@@ -171,7 +182,8 @@ within_none p blocks text b = record { lines = []; split = refl; after = b }
 
 -- one more line of a text was read
 pub within_more : (p : Editing) (blocks : Option ℕ) (lines : List ParsedEdit) (rest line after text : List ℕ) → split 10 rest ≡ line ∷ split 10 after
-    → lines ++ parsed_edits (lines_of rest) ≡ parsed_edits (lines_of text) → IsEditing p blocks (lines ++ parsed_edit (without_return line) ∷ []) → IsWithinEdits p blocks after text
+    → lines ++ parsed_edits (lines_of rest) ≡ parsed_edits (lines_of text) → IsEditing p blocks (lines ++ parsed_edit (without_return line) ∷ [])
+        → IsWithinEdits p blocks after text
 within_more p blocks lines rest line after text e split b = record {
   lines = lines ++ parsed_edit (without_return line) ∷ [];
   split = append_assoc lines (parsed_edit (without_return line) ∷ []) (parsed_edits (lines_of after))
@@ -186,8 +198,10 @@ stopped_in_text why room blocks lines later all e stops =
     subst (λ (xs : List ParsedEdit). Stops why room (edits_after blocks [] xs)) e
     (subst (λ (os : List Outcome). Stops why room os) (sym (outcomes_append blocks [] lines later)) (stops_more why room _ _ stops))
 
-pub stopped_at_line : (why : ScriptFault) (room : ℕ) (blocks : Option ℕ) (lines : List ParsedEdit) (rest line after text : List ℕ) → split 10 rest ≡ line ∷ split 10 after
-    → lines ++ parsed_edits (lines_of rest) ≡ parsed_edits (lines_of text) → Stops why room (edits_after blocks [] (lines ++ parsed_edit (without_return line) ∷ []))
+pub stopped_at_line : (why : ScriptFault) (room : ℕ) (blocks : Option ℕ) (lines : List ParsedEdit) (rest line after text : List ℕ) → split 10 rest ≡ line
+    ∷ split 10 after
+    → lines ++ parsed_edits (lines_of rest) ≡ parsed_edits (lines_of text)
+        → Stops why room (edits_after blocks [] (lines ++ parsed_edit (without_return line) ∷ []))
     → Stops why room (edit_text_outcomes blocks (parsed_edits (lines_of text)))
 stopped_at_line why room blocks lines rest line after text e split stops =
     stopped_in_text why room blocks (lines ++ parsed_edit (without_return line) ∷ []) (parsed_edits (lines_of after)) (parsed_edits (lines_of text))

@@ -1,5 +1,6 @@
 -- One more line of a text.
-use Rattle.std.proofs.Common.{◌≡◌, ℕ, ◌+◌, ◌≤◌, List, [], ◌∷◌, ◌++◌, length, Bool, true, false, cond, refl, ap, sym, ◌∙◌, subst, arith, append_assoc, append-nil, length-append}
+use Rattle.std.proofs.Common.{◌≡◌, ℕ, ◌+◌, ◌≤◌, List, [], ◌∷◌, ◌++◌, length, Bool, true, false, cond, refl, ap, sym, ◌∙◌, subst, arith, append_assoc}
+use Rattle.std.proofs.Common.{append-nil, length-append}
 use Rattle.std.specs.Prelude.{Option, Some, None, Result, Ok, Err, IfOk, IfErr, OnOk, OnErr}
 use Rattle.plain_text.specs.Split.{split}
 use Rattle.plain_text.proofs.Cuts.{split_some}
@@ -19,7 +20,8 @@ use Rattle.script_read.specs.declared.progress.Progress.{Progress}
 use Rattle.script_read.specs.Words.{ended, lines_of, without_return}
 use Rattle.script_read.specs.Lines.{ParsedLine, Blank, Maps, Orders, Feeds, Wrong, parsed, parsed_lines}
 use Rattle.script_outcome.specs.Outcomes.{Outcome, Gives, Fails, fed_outcomes}
-use Rattle.script_read.specs.Outcomes.{curved, curve_after, block_after, stream_of, fed_line, time_fault, timed, line_after, line_outcomes, outcomes_after, text_end, text_outcomes}
+use Rattle.script_read.specs.Outcomes.{curved, curve_after, block_after, stream_of, fed_line, time_fault, timed, line_after, line_outcomes}
+use Rattle.script_read.specs.Outcomes.{outcomes_after, text_end, text_outcomes}
 use Rattle.script_outcome.specs.Plan.{Refused, plan_of}
 use Rattle.script_outcome.specs.ReaderAnswer.{Settles, Stops, all_given}
 use Rattle.script_read.specs.TextSoFar.{IsAfter, IsWithin}
@@ -116,7 +118,8 @@ fed_one last number Wrong = refl
 same_number : (last number other : ℕ) (s : ParsedLine) → number ≡ other → fed_with last number s ≡ fed_with last other s
 same_number last number other s e = ap (λ (n : ℕ). fed_with last n s) e
 
-fed_line_more : (last number : ℕ) (lines : List ParsedLine) (s : ParsedLine) → fed_line last number (lines ++ s ∷ []) ≡ fed_with (fed_line last number lines) (number + length lines) s
+fed_line_more : (last number : ℕ) (lines : List ParsedLine) (s : ParsedLine)
+    → fed_line last number (lines ++ s ∷ []) ≡ fed_with (fed_line last number lines) (number + length lines) s
 unfolding fed_line
 fed_line_more last number [] s = fed_one last number s ∙ same_number last number (number + 0) s (omega arith)
 fed_line_more last number (Blank ∷ lines) s = fed_line_more last (number + 1) lines s ∙ same_number _ _ _ s (omega arith)
@@ -142,7 +145,8 @@ outcomes_one blocks before s = append-nil (line_outcomes blocks before s)
 
 pub outcomes_more : (blocks : Option ℕ) (lines : List ParsedLine) (s : ParsedLine)
     → outcomes_after blocks [] (lines ++ s ∷ []) ≡ outcomes_after blocks [] lines ++ line_outcomes blocks lines s
-outcomes_more blocks lines s = outcomes_append blocks [] lines (s ∷ []) ∙ ap (λ (os : List Outcome). outcomes_after blocks [] lines ++ os) (outcomes_one blocks lines s)
+outcomes_more blocks lines s = outcomes_append blocks [] lines (s ∷ []) ∙ ap (λ (os : List Outcome). outcomes_after blocks [] lines
+    ++ os) (outcomes_one blocks lines s)
 
 -- a reader after one more line
 pub after_more : (old new : Progress) (blocks : Option ℕ) (lines : List ParsedLine) (s : ParsedLine) → IsAfter old blocks lines
@@ -154,17 +158,21 @@ after_more old new blocks lines s b reads curve least number fed given = record 
   reads = subst (λ (xs : List ℕ). Reads new.feed.reader xs) (sym (stream_more lines s)) reads;
   curve = curve ∙ ap (λ (c : Curve). curve_with c s) b.curve ∙ sym (curve_more Linear lines s);
   least = least ∙ ap (λ (n : ℕ). block_with n s) b.least ∙ sym (block_more 0 lines s);
-  number = let count : length (lines ++ s ∷ []) ≡ length lines + 1 = length-append lines (s ∷ []) in let was : old.number ≡ length lines + 2 = b.number in omega arith;
-  fed = fed ∙ ap (λ (n : ℕ). fed_with n old.number s) b.fed ∙ same_number _ _ _ s (let was : old.number ≡ length lines + 2 = b.number in omega arith) ∙ sym (fed_line_more 0 2 lines s);
+  number = let count : length (lines ++ s ∷ []) ≡ length lines + 1 = length-append lines (s ∷ []) in let was : old.number ≡ length lines + 2 = b.number in
+      omega arith;
+  fed = fed ∙ ap (λ (n : ℕ). fed_with n old.number s) b.fed ∙ same_number _ _ _ s (let was : old.number ≡ length lines + 2 = b.number in omega arith)
+      ∙ sym (fed_line_more 0 2 lines s);
   given = outcomes_more blocks lines s ∙ ap (λ (os : List Outcome). os ++ line_outcomes blocks lines s) b.given ∙ sym given;
 }
 
 -- a line that is refused
-pub stops_line : (p : Progress) (blocks : Option ℕ) (room : ℕ) (lines : List ParsedLine) (s : ParsedLine) (why : ScriptKind) → IsAfter p blocks lines → length p.feed.script ≤ room
+pub stops_line : (p : Progress) (blocks : Option ℕ) (room : ℕ) (lines : List ParsedLine) (s : ParsedLine) (why : ScriptKind) → IsAfter p blocks lines
+    → length p.feed.script ≤ room
     → line_outcomes blocks lines s ≡ Fails (line_after lines) why ∷ []
     → Stops (faults.Refused (place.Line p.number) why) room (outcomes_after blocks [] (lines ++ s ∷ []))
 stops_line p blocks room lines s why b few is = λ more.
-    ap (λ (os : List Outcome). plan_of room (os ++ more)) (outcomes_more blocks lines s ∙ ap (λ (os : List Outcome). os ++ line_outcomes blocks lines s) b.given ∙ ap (λ (os : List Outcome). all_given p.feed.script ++ os) is)
+    ap (λ (os : List Outcome). plan_of room (os ++ more)) (outcomes_more blocks lines s ∙ ap (λ (os : List Outcome). os ++ line_outcomes blocks lines s) b.given
+        ∙ ap (λ (os : List Outcome). all_given p.feed.script ++ os) is)
     ∙ fails room p.feed.script (line_after lines) why more few
     ∙ ap (λ (n : ℕ). Refused (place.Line n) why) (sym b.number)
 
@@ -189,28 +197,36 @@ unfolding line_outcomes
 wrong_outcomes blocks lines = refl
 
 pub order_outcomes : (p : Progress) (blocks : Option ℕ) (lines : List ParsedLine) (block : ℕ) (command : CommandData) → IsAfter p blocks lines
-    → line_outcomes blocks lines (Orders block command) ≡ timed (time_fault blocks p.least block) (line_after lines) (Gives (planned_at block (curved p.curve command)) ∷ [])
+    → line_outcomes blocks lines (Orders block command) ≡ timed (time_fault blocks p.least block) (line_after lines)
+        (Gives (planned_at block (curved p.curve command)) ∷ [])
 unfolding line_outcomes
 order_outcomes p blocks lines block command b =
-    ap (λ (n : ℕ). timed (time_fault blocks n block) (line_after lines) (Gives (planned_at block (curved (curve_after Linear lines) command)) ∷ [])) (sym b.least)
+    ap (λ (n : ℕ). timed (time_fault blocks n block) (line_after lines) (Gives (planned_at block (curved (curve_after Linear lines) command)) ∷ []))
+        (sym b.least)
     ∙ ap (λ (c : Curve). timed (time_fault blocks p.least block) (line_after lines) (Gives (planned_at block (curved c command)) ∷ [])) (sym b.curve)
 
 pub feed_outcomes : (p : Progress) (blocks : Option ℕ) (lines : List ParsedLine) (block : ℕ) (bytes : List ℕ) → IsAfter p blocks lines
-    → line_outcomes blocks lines (Feeds block bytes) ≡ timed (time_fault blocks p.least block) (line_after lines) (fed_outcomes (λ stream. place.Line p.number) block p.curve (stream_of lines) bytes)
+    → line_outcomes blocks lines (Feeds block bytes) ≡ timed (time_fault blocks p.least block) (line_after lines)
+        (fed_outcomes (λ stream. place.Line p.number) block p.curve (stream_of lines) bytes)
 unfolding line_outcomes
 feed_outcomes p blocks lines block bytes b =
-    ap (λ (n : ℕ). timed (time_fault blocks n block) (line_after lines) (fed_outcomes (λ stream. line_after lines) block (curve_after Linear lines) (stream_of lines) bytes)) (sym b.least)
-    ∙ ap (λ (c : Curve). timed (time_fault blocks p.least block) (line_after lines) (fed_outcomes (λ stream. line_after lines) block c (stream_of lines) bytes)) (sym b.curve)
-    ∙ ap (λ (n : ℕ). timed (time_fault blocks p.least block) (line_after lines) (fed_outcomes (λ stream. place.Line n) block p.curve (stream_of lines) bytes)) (sym b.number)
+    ap (λ (n : ℕ). timed (time_fault blocks n block) (line_after lines) (fed_outcomes (λ stream.
+        line_after lines) block (curve_after Linear lines) (stream_of lines) bytes)) (sym b.least)
+    ∙ ap (λ (c : Curve). timed (time_fault blocks p.least block) (line_after lines) (fed_outcomes (λ stream. line_after lines) block c (stream_of lines) bytes))
+        (sym b.curve)
+    ∙ ap (λ (n : ℕ). timed (time_fault blocks p.least block) (line_after lines) (fed_outcomes (λ stream. place.Line n) block p.curve (stream_of lines) bytes))
+        (sym b.number)
 
-pub timed_some : (fault : Option ScriptKind) (at : Place) (outcomes : List Outcome) (why : ScriptKind) → fault ≡ Some why → timed fault at outcomes ≡ Fails at why ∷ []
+pub timed_some : (fault : Option ScriptKind) (at : Place) (outcomes : List Outcome) (why : ScriptKind) → fault ≡ Some why
+    → timed fault at outcomes ≡ Fails at why ∷ []
 timed_some fault at outcomes why e = ap (λ (f : Option ScriptKind). timed f at outcomes) e
 
 pub timed_none : (fault : Option ScriptKind) (at : Place) (outcomes : List Outcome) → fault ≡ None → timed fault at outcomes ≡ outcomes
 timed_none fault at outcomes e = ap (λ (f : Option ScriptKind). timed f at outcomes) e
 
 -- nothing was read
-pub after_none : (p : Progress) (blocks : Option ℕ) → Reads p.feed.reader [] → p.feed.script ≡ [] → p.curve ≡ Linear → p.least ≡ 0 → p.number ≡ 2 → p.fed ≡ 0 → IsAfter p blocks []
+pub after_none : (p : Progress) (blocks : Option ℕ) → Reads p.feed.reader [] → p.feed.script ≡ [] → p.curve ≡ Linear → p.least ≡ 0 → p.number ≡ 2 → p.fed ≡ 0
+    → IsAfter p blocks []
 unfolding curve_after block_after stream_of fed_line outcomes_after
 after_none p blocks reads none curve least number fed = record {
   reads = reads;
@@ -237,7 +253,8 @@ lines_last text e = ap ended e
 
 -- one more line of a text was read
 pub within_more : (p : Progress) (blocks : Option ℕ) (lines : List ParsedLine) (rest line after text : List ℕ) → split 10 rest ≡ line ∷ split 10 after
-    → lines ++ parsed_lines (lines_of rest) ≡ parsed_lines (lines_of text) → IsAfter p blocks (lines ++ parsed (without_return line) ∷ []) → IsWithin p blocks after text
+    → lines ++ parsed_lines (lines_of rest) ≡ parsed_lines (lines_of text) → IsAfter p blocks (lines ++ parsed (without_return line) ∷ [])
+        → IsWithin p blocks after text
 within_more p blocks lines rest line after text e split b = record {
   lines = lines ++ parsed (without_return line) ∷ [];
   split = append_assoc lines (parsed (without_return line) ∷ []) (parsed_lines (lines_of after))
@@ -257,8 +274,10 @@ stopped_in_text why room blocks lines later all e stops =
     (stops_more why room _ (text_end (lines ++ later))
     (subst (λ (os : List Outcome). Stops why room os) (sym (outcomes_append blocks [] lines later)) (stops_more why room _ _ stops)))
 
-pub stopped_at_line : (why : ScriptFault) (room : ℕ) (blocks : Option ℕ) (lines : List ParsedLine) (rest line after text : List ℕ) → split 10 rest ≡ line ∷ split 10 after
-    → lines ++ parsed_lines (lines_of rest) ≡ parsed_lines (lines_of text) → Stops why room (outcomes_after blocks [] (lines ++ parsed (without_return line) ∷ []))
+pub stopped_at_line : (why : ScriptFault) (room : ℕ) (blocks : Option ℕ) (lines : List ParsedLine) (rest line after text : List ℕ) → split 10 rest ≡ line
+    ∷ split 10 after
+    → lines ++ parsed_lines (lines_of rest) ≡ parsed_lines (lines_of text)
+        → Stops why room (outcomes_after blocks [] (lines ++ parsed (without_return line) ∷ []))
     → Stops why room (text_outcomes blocks (parsed_lines (lines_of text)))
 stopped_at_line why room blocks lines rest line after text e split stops =
     stopped_in_text why room blocks (lines ++ parsed (without_return line) ∷ []) (parsed_lines (lines_of after)) (parsed_lines (lines_of text))
@@ -284,13 +303,15 @@ cut_by true x e = refl
 cut_by false x e = absurd (cc)
 
 -- the answer at the text's end
-text_settled : (r : Result (List PlannedData) ScriptFault) (p : Progress) (blocks : Option ℕ) (room : ℕ) (lines : List ParsedLine) → IsAfter p blocks lines → length p.feed.script ≤ room
+text_settled : (r : Result (List PlannedData) ScriptFault) (p : Progress) (blocks : Option ℕ) (room : ℕ) (lines : List ParsedLine) → IsAfter p blocks lines
+    → length p.feed.script ≤ room
     → IfOk r (λ script. script ≡ p.feed.script) → OnOk r (is_unfinished (stream_of lines) ≡ false)
     → IfErr r (λ why. why ≡ faults.Refused (place.Line p.fed) kind.Cut) → OnErr r (is_unfinished (stream_of lines) ≡ true)
     → Settles r room (text_outcomes blocks lines)
 unfolding text_outcomes
 text_settled (Ok script) p blocks room lines b few same whole cut unfinished = (
-  ap (λ (os : List Outcome). os ++ text_end lines) b.given ∙ ap (λ (os : List Outcome). all_given p.feed.script ++ os) (ended_by _ _ whole) ∙ append-nil (all_given p.feed.script) ∙ ap all_given (sym same),
+  ap (λ (os : List Outcome). os ++ text_end lines) b.given ∙ ap (λ (os : List Outcome). all_given p.feed.script ++ os) (ended_by _ _ whole)
+      ∙ append-nil (all_given p.feed.script) ∙ ap all_given (sym same),
   subst (λ (x : List PlannedData). length x ≤ room) (sym same) few,
 )
 text_settled (Err why) p blocks room lines b few same whole cut unfinished =
@@ -300,7 +321,8 @@ text_settled (Err why) p blocks room lines b few same whole cut unfinished =
     ∙ fails room p.feed.script (place.Line (fed_line 0 2 lines)) kind.Cut more few
     ∙ ap (λ (n : ℕ). Refused (place.Line n) kind.Cut) (sym b.fed))
 
-pub settled_at_end : (r : Result (List PlannedData) ScriptFault) (p : Progress) (blocks : Option ℕ) (room : ℕ) (lines : List ParsedLine) (rest text : List ℕ) → split 10 rest ≡ rest ∷ []
+pub settled_at_end : (r : Result (List PlannedData) ScriptFault) (p : Progress) (blocks : Option ℕ) (room : ℕ) (lines : List ParsedLine) (rest text : List ℕ)
+    → split 10 rest ≡ rest ∷ []
     → lines ++ parsed_lines (lines_of rest) ≡ parsed_lines (lines_of text) → IsAfter p blocks (lines ++ parsed rest ∷ []) → length p.feed.script ≤ room
     → IfOk r (λ script. script ≡ p.feed.script) → OnOk r (is_unfinished (stream_of (lines ++ parsed rest ∷ [])) ≡ false)
     → IfErr r (λ why. why ≡ faults.Refused (place.Line p.fed) kind.Cut) → OnErr r (is_unfinished (stream_of (lines ++ parsed rest ∷ [])) ≡ true)

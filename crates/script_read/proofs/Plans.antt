@@ -39,7 +39,8 @@ plan_few (Err why) room os h = tt
 pub plan_refused : (r : Result (List PlannedData) ScriptFault) (bytes : List ℕ) (blocks : Option ℕ) (room : ℕ) (at : Place) (why : ScriptKind)
     → Settles r room (outcomes blocks bytes) → r ≡ Err (faults.Refused at why) → plan bytes blocks room ≡ Refused at why
 unfolding plan
-plan_refused r bytes blocks room at why h e = stopped_refused at why room (outcomes blocks bytes) (of_result r (Err (faults.Refused at why)) room (outcomes blocks bytes) e h)
+plan_refused r bytes blocks room at why h e = stopped_refused at why room (outcomes blocks bytes)
+    (of_result r (Err (faults.Refused at why)) room (outcomes blocks bytes) e h)
 
 pub plan_many : (r : Result (List PlannedData) ScriptFault) (bytes : List ℕ) (blocks : Option ℕ) (room : ℕ)
     → Settles r room (outcomes blocks bytes) → r ≡ Err faults.TooMany → plan bytes blocks room ≡ TooMany
@@ -62,7 +63,8 @@ edit_first : (blocks : Option ℕ) (first : List ℕ) (lines : List (List ℕ)) 
     → lines_outcomes blocks (first ∷ lines) ≡ edit_text_outcomes blocks (parsed_edits lines)
 edit_first blocks first lines e f = rw (e, f) refl
 
-pub edit_settled : (r : Result (List PlannedData) ScriptFault) (room : ℕ) (blocks : Option ℕ) (first : List ℕ) (lines : List (List ℕ)) → bytes_eq first (codes "midi 1") ≡ false → bytes_eq first (codes "edit 1") ≡ true
+pub edit_settled : (r : Result (List PlannedData) ScriptFault) (room : ℕ) (blocks : Option ℕ) (first : List ℕ) (lines : List (List ℕ))
+    → bytes_eq first (codes "midi 1") ≡ false → bytes_eq first (codes "edit 1") ≡ true
     → Settles r room (edit_text_outcomes blocks (parsed_edits lines)) → Settles r room (lines_outcomes blocks (first ∷ lines))
 edit_settled r room blocks first lines e f h = subst (λ (os : List Outcome). Settles r room os) (sym (edit_first blocks first lines e f)) h
 
@@ -73,11 +75,13 @@ other_first blocks first lines e f = rw (e, f) refl
 pub stops_first : (room : ℕ) (why : ScriptKind) → Stops (faults.Refused (place.Line 1) why) room (at_first why)
 stops_first room why = λ more. fails_after room [] (place.Line 1) why more (omega arith)
 
-refused_with : (fault : ScriptFault) (room : ℕ) (why : ScriptKind) (os : List Outcome) → os ≡ at_first why → fault ≡ faults.Refused (place.Line 1) why → Stops fault room os
+refused_with : (fault : ScriptFault) (room : ℕ) (why : ScriptKind) (os : List Outcome) → os ≡ at_first why → fault ≡ faults.Refused (place.Line 1) why
+    → Stops fault room os
 refused_with fault room why os is e =
     subst (λ (xs : List Outcome). Stops fault room xs) (sym is) (subst (λ (w : ScriptFault). Stops w room (at_first why)) (sym e) (stops_first room why))
 
-pub other_refused : (fault : ScriptFault) (room : ℕ) (blocks : Option ℕ) (first : List ℕ) (lines : List (List ℕ)) → bytes_eq first (codes "midi 1") ≡ false → bytes_eq first (codes "edit 1") ≡ false
+pub other_refused : (fault : ScriptFault) (room : ℕ) (blocks : Option ℕ) (first : List ℕ) (lines : List (List ℕ)) → bytes_eq first (codes "midi 1") ≡ false
+    → bytes_eq first (codes "edit 1") ≡ false
     → fault ≡ faults.Refused (place.Line 1) kind.Kind → Stops fault room (lines_outcomes blocks (first ∷ lines))
 other_refused fault room blocks first lines e f is = refused_with fault room kind.Kind _ (other_first blocks first lines e f) is
 
@@ -95,23 +99,28 @@ neither true b xs ys zs x y either = x
 neither false true xs ys zs x y either = y
 neither false false xs ys zs x y either = absurd (cc)
 
-pub nothing_alone : (blocks : Option ℕ) (room : ℕ) (first : List ℕ) (script : List PlannedData) → (bytes_eq first (codes "midi 1") || bytes_eq first (codes "edit 1")) ≡ true → script ≡ []
+pub nothing_alone : (blocks : Option ℕ) (room : ℕ) (first : List ℕ) (script : List PlannedData)
+    → (bytes_eq first (codes "midi 1") || bytes_eq first (codes "edit 1")) ≡ true → script ≡ []
     → (lines_outcomes blocks (first ∷ []) ≡ all_given script) × (length script ≤ room)
 nothing_alone blocks room first script known none =
-    (neither (bytes_eq first (codes "midi 1")) (bytes_eq first (codes "edit 1")) (text_outcomes blocks []) (edit_text_outcomes blocks []) (at_first kind.Kind) (nothing_comes blocks) (no_edits blocks) known ∙ ap all_given (sym none), rw none (omega arith))
+    (neither (bytes_eq first (codes "midi 1")) (bytes_eq first (codes "edit 1")) (text_outcomes blocks []) (edit_text_outcomes blocks []) (at_first kind.Kind)
+        (nothing_comes blocks) (no_edits blocks) known ∙ ap all_given (sym none), rw none (omega arith))
 
 unknown : (a b : Bool) (xs ys zs : List Outcome) → (a || b) ≡ false → cond a xs (cond b ys zs) ≡ zs
 unknown true b xs ys zs e = absurd (cc)
 unknown false true xs ys zs e = absurd (cc)
 unknown false false xs ys zs e = refl
 
-pub unknown_refused : (fault : ScriptFault) (room : ℕ) (blocks : Option ℕ) (first : List ℕ) → (bytes_eq first (codes "midi 1") || bytes_eq first (codes "edit 1")) ≡ false
+pub unknown_refused : (fault : ScriptFault) (room : ℕ) (blocks : Option ℕ) (first : List ℕ)
+    → (bytes_eq first (codes "midi 1") || bytes_eq first (codes "edit 1")) ≡ false
     → fault ≡ faults.Refused (place.Line 1) kind.Kind → Stops fault room (lines_outcomes blocks (first ∷ []))
 unknown_refused fault room blocks first e is =
-    refused_with fault room kind.Kind _ (unknown (bytes_eq first (codes "midi 1")) (bytes_eq first (codes "edit 1")) (text_outcomes blocks []) (edit_text_outcomes blocks []) (at_first kind.Kind) e) is
+    refused_with fault room kind.Kind _ (unknown (bytes_eq first (codes "midi 1")) (bytes_eq first (codes "edit 1")) (text_outcomes blocks [])
+        (edit_text_outcomes blocks []) (at_first kind.Kind) e) is
 
 -- a MIDI file
-pub midi_settled : (result : Result (List PlannedData) ScriptFault) (room : ℕ) (blocks : Option ℕ) (bytes : List ℕ) → is_stream bytes ≡ false → is_midi_file bytes ≡ true
+pub midi_settled : (result : Result (List PlannedData) ScriptFault) (room : ℕ) (blocks : Option ℕ) (bytes : List ℕ) → is_stream bytes ≡ false
+    → is_midi_file bytes ≡ true
     → Settles result room (midi_outcomes blocks bytes) → Settles result room (outcomes blocks bytes)
 unfolding outcomes
 midi_settled result room blocks bytes e f settles = rw (e, f) settles

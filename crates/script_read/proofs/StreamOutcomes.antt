@@ -1,5 +1,6 @@
 -- What comes of a whole stream.
-use Rattle.std.proofs.Common.{◌≡◌, ℕ, ◌+◌, ◌<◌, ◌≤◌, List, [], ◌++◌, length, take, drop, get_or, true, false, refl, ap, sym, ◌∙◌, subst, arith, append-nil, cond, Bool}
+use Rattle.std.proofs.Common.{◌≡◌, ℕ, ◌+◌, ◌<◌, ◌≤◌, List, [], ◌++◌, length, take, drop, get_or, true, false, refl, ap, sym, ◌∙◌, subst, arith}
+use Rattle.std.proofs.Common.{append-nil, cond, Bool}
 use Rattle.std.specs.Prelude.{Result, Ok, Err, IfOk, IfErr, OnOk, OnErr, Option, not, ◌||◌, if◌then◌else◌}
 use Rattle.std.proofs.lemmas.List.{take-append-drop}
 use Rattle.std.proofs.Common.{length-take}
@@ -35,11 +36,13 @@ fed_next bytes at byte cs below is given =
     ∙ ap (λ (os : List Outcome). os ++ ended_outcomes (place.Byte (begun_at (take at bytes))) 0 Linear (ended_message (take at bytes) byte)) given
 
 -- a stop before the stream's end
-pub stopped_within : (why : ScriptFault) (room at : ℕ) (bytes : List ℕ) → Stops why room (fed_outcomes (λ before. place.Byte (begun_at before)) 0 Linear [] (take at bytes))
+pub stopped_within : (why : ScriptFault) (room at : ℕ) (bytes : List ℕ) → Stops why room
+    (fed_outcomes (λ before. place.Byte (begun_at before)) 0 Linear [] (take at bytes))
     → Stops why room (stream_outcomes bytes)
 unfolding stream_outcomes
 stopped_within why room at bytes stops =
-    let parts : fed_outcomes place_in 0 Linear [] bytes ≡ fed_outcomes place_in 0 Linear [] (take at bytes) ++ fed_outcomes place_in 0 Linear (take at bytes) (drop at bytes) =
+    let parts : fed_outcomes place_in 0 Linear [] bytes ≡ fed_outcomes place_in 0 Linear [] (take at bytes)
+        ++ fed_outcomes place_in 0 Linear (take at bytes) (drop at bytes) =
     ap (fed_outcomes place_in 0 Linear []) (sym (take-append-drop at bytes)) ∙ fed_append place_in 0 Linear [] (take at bytes) (drop at bytes) in
     subst (λ (os : List Outcome). Stops why room (os ++ stream_end bytes)) (sym parts)
     (stops_more why room _ (stream_end bytes) (stops_more why room _ _ stops))
@@ -59,7 +62,8 @@ stream_whole bytes cs given rest =
     ap (λ (os : List Outcome). os ++ stream_end bytes) given
     ∙ ap (λ (os : List Outcome). all_given cs ++ os) (ended_by (is_unfinished bytes) _ rest) ∙ append-nil (all_given cs)
 
-pub stream_cut : (bytes : List ℕ) (room start : ℕ) (cs : List PlannedData) → fed_outcomes (λ before. place.Byte (begun_at before)) 0 Linear [] bytes ≡ all_given cs
+pub stream_cut : (bytes : List ℕ) (room start : ℕ) (cs : List PlannedData)
+    → fed_outcomes (λ before. place.Byte (begun_at before)) 0 Linear [] bytes ≡ all_given cs
     → length cs ≤ room → is_unfinished bytes ≡ true → start ≡ begun_at bytes → Stops (faults.Refused (place.Byte start) kind.Cut) room (stream_outcomes bytes)
 unfolding stream_outcomes
 stream_cut bytes room start cs given few cut is = λ more.
@@ -83,7 +87,8 @@ start_next bytes at start next byte rest below is rests began ends =
 -- the place and the curve, by other names
 pub ended_same : (start began : ℕ) (curve : Curve) (ended : Option EndedMessage) → start ≡ began → curve ≡ Linear
     → ended_outcomes (place.Byte start) 0 curve ended ≡ ended_outcomes (place.Byte began) 0 Linear ended
-ended_same start began curve ended e l = ap (λ (n : ℕ). ended_outcomes (place.Byte n) 0 curve ended) e ∙ ap (λ (c : Curve). ended_outcomes (place.Byte began) 0 c ended) l
+ended_same start began curve ended e l = ap (λ (n : ℕ). ended_outcomes (place.Byte n) 0 curve ended) e
+    ∙ ap (λ (c : Curve). ended_outcomes (place.Byte began) 0 c ended) l
 
 pub nothing_fed : fed_outcomes (λ before. place.Byte (begun_at before)) 0 Linear [] [] ≡ []
 unfolding fed_outcomes

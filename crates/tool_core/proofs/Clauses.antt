@@ -16,12 +16,13 @@ use Rattle.tool_core.specs.declared.refusal.Refusal.TheVariants as why
 use Rattle.tool_core.specs.declared.failure.Failure.{Failure}
 use Rattle.tool_core.specs.declared.failure.Failure.TheVariants as failure
 use Rattle.tool_core.specs.Verdicts.{Verdict, Lacking, Good, Refused, TooLarge, TooMany, verdict_on}
-use Rattle.tool_core.specs.Words.{RequestData, Check, Names, Pick, Pack, Replay, Verify, Gen, Bench}
+use Rattle.tool_core.specs.Words.{RequestData, Check, ListVoices, Pick, Pack, Replay, Verify, Gen, Bench}
 use Rattle.tool_core.specs.Inputs.{Input, Kind, Midi, AnOrder, ASound, IsVerdict, IsJudged, AreGood, Decides}
 use Rattle.tool_core.specs.Orders.{IsOrderVerdict, IsRefusedFor, sound_verdict}
 use Rattle.tool_core.specs.Effects.{Effect, HasEffect, comparison, reads}
 use Rattle.tool_core.specs.Failures.{Fails, FailsAt, status_of, line_of}
-use Rattle.tool_core.specs.Outcomes.{WasDone, IsDone, IsUnread, IsUnwritten, IsRefused, IsPastLimit, IsOutOfMemory, AnswersBy, IsComplete, SaysLine, statuses_of}
+use Rattle.tool_core.specs.Outcomes.{WasDone, IsDone, IsUnread, IsUnwritten, IsRefused, IsPastLimit, IsOutOfMemory, AnswersBy, IsComplete, SaysLine}
+use Rattle.tool_core.specs.Outcomes.{statuses_of}
 use Rattle.tool_core.specs.Endings.{Finishes, Ends}
 
 -- ---- one verdict decides
@@ -127,7 +128,7 @@ compared_status (Some place) = inr refl
 
 effect_status : (request : RequestData) (files : Option Files) (d : Effect) → HasEffect request files d → WasDone d.status
 effect_status (Check file) files d does = inl (ap (λ (x : Effect). x.status) (does.1))
-effect_status (Names file) files d does = inl (ap (λ (x : Effect). x.status) (does.1))
+effect_status (ListVoices file) files d does = inl (ap (λ (x : Effect). x.status) (does.1))
 effect_status (Pick file slot out) files d does = inl (ap (λ (x : Effect). x.status) (does.1))
 effect_status (Pack out names) files d does = inl (ap (λ (x : Effect). x.status) (does.1))
 effect_status (Replay order out) files d does = inl (ap (λ (x : Effect). x.status) (does.1))
@@ -145,7 +146,7 @@ zero_not_seven request d zero seven = absurd (omega (arith, zero, seven))
 
 seven_verify : (request : RequestData) (files : Option Files) (d : Effect) → HasEffect request files d → d.status ≡ 7 → IsVerify request
 seven_verify (Check file) files d does q = zero_not_seven (Check file) d.status (ap (λ (x : Effect). x.status) (does.1)) q
-seven_verify (Names file) files d does q = zero_not_seven (Names file) d.status (ap (λ (x : Effect). x.status) (does.1)) q
+seven_verify (ListVoices file) files d does q = zero_not_seven (ListVoices file) d.status (ap (λ (x : Effect). x.status) (does.1)) q
 seven_verify (Pick file slot out) files d does q = zero_not_seven (Pick file slot out) d.status (ap (λ (x : Effect). x.status) (does.1)) q
 seven_verify (Pack out names) files d does q = zero_not_seven (Pack out names) d.status (ap (λ (x : Effect). x.status) (does.1)) q
 seven_verify (Replay order out) files d does q = zero_not_seven (Replay order out) d.status (ap (λ (x : Effect). x.status) (does.1)) q
@@ -226,7 +227,8 @@ module _ (request : RequestData) (s : ℕ) (b n : Snapshot) where
   pub seven_clause : Ends request s b n → s ≡ 7 → IsVerify request
   seven_clause ends is = let d = done_clause ends (inr is) in seven_verify request b.files d.effect d.does (sym d.status_is ∙ is)
 
-  unread_of : (f : Failure) (name : List ℕ) → Fails f (reads request) b.files name b.reading n.reading → s ≡ status_of f → SaysLine (line_of f name) b n → s ≡ 2 → IsUnread request b n
+  unread_of : (f : Failure) (name : List ℕ) → Fails f (reads request) b.files name b.reading n.reading → s ≡ status_of f → SaysLine (line_of f name) b n → s ≡ 2
+      → IsUnread request b n
   unread_of failure.Unread name fails is line q =
       record { one = fails.one; reached = fails.reached; cause = fails.reason; line = subst (λ (l : List ℕ). SaysLine (cannot_read l) b n) fails.named line }
   unread_of failure.TooLarge name fails is line q = absurd (omega (arith, is, q))
@@ -234,14 +236,16 @@ module _ (request : RequestData) (s : ℕ) (b n : Snapshot) where
   unread_of (failure.Refused r) name fails is line q = absurd (omega (arith, is, q))
   unread_of failure.Memory name fails is line q = absurd (omega (arith, is, q))
 
-  refused_of : (f : Failure) (name : List ℕ) → Fails f (reads request) b.files name b.reading n.reading → s ≡ status_of f → SaysLine (line_of f name) b n → s ≡ 4 → IsRefused request b n
+  refused_of : (f : Failure) (name : List ℕ) → Fails f (reads request) b.files name b.reading n.reading → s ≡ status_of f → SaysLine (line_of f name) b n
+      → s ≡ 4 → IsRefused request b n
   refused_of failure.Unread name fails is line q = absurd (omega (arith, is, q))
   refused_of failure.TooLarge name fails is line q = absurd (omega (arith, is, q))
   refused_of failure.TooMany name fails is line q = absurd (omega (arith, is, q))
   refused_of (failure.Refused r) name fails is line q = record { one = fails.one; reached = fails.reached; why = r; refused = fails.reason.1; line = line }
   refused_of failure.Memory name fails is line q = absurd (omega (arith, is, q))
 
-  limit_of : (f : Failure) (name : List ℕ) → Fails f (reads request) b.files name b.reading n.reading → s ≡ status_of f → SaysLine (line_of f name) b n → s ≡ 6 → IsPastLimit request b n
+  limit_of : (f : Failure) (name : List ℕ) → Fails f (reads request) b.files name b.reading n.reading → s ≡ status_of f → SaysLine (line_of f name) b n → s ≡ 6
+      → IsPastLimit request b n
   limit_of failure.Unread name fails is line q = absurd (omega (arith, is, q))
   limit_of failure.TooLarge name fails is line q = record { one = fails.one; reached = fails.reached; limit = inl (fails.reason.1, line) }
   limit_of failure.TooMany name fails is line q = record { one = fails.one; reached = fails.reached; limit = inr (fails.reason.1, line) }
@@ -319,14 +323,17 @@ module _ (request : RequestData) (s : ℕ) (b n : Snapshot) where
   untouched_clause (inr x) never ne = x.files
 
   -- ---- what decides
-  failure_decides : (f : Failure) (name : List ℕ) (told : Files) (it v : Verdict) → b.files ≡ Some told → (fails : FailsAt f (reads request) b.files name b.reading n.reading)
+  failure_decides : (f : Failure) (name : List ℕ) (told : Files) (it v : Verdict) → b.files ≡ Some told
+      → (fails : FailsAt f (reads request) b.files name b.reading n.reading)
       → IsJudged fails.one told v → (v ≡ Good → ⊥) → Decides (reads request) told it → v ≡ it
   failure_decides f name told it v is fails judged bad decides =
       let good : AreGood fails.reached.earlier told = at_told (λ t. AreGood fails.reached.earlier t) b.files told is fails.reached.good in
       one_decides (reads request) told v it
-      (subst (λ (l : List Input). Decides l told v) (sym fails.reached.place) (reached_decides fails.reached.earlier fails.reached.later fails.one told v good judged bad)) decides
+      (subst (λ (l : List Input). Decides l told v) (sym fails.reached.place)
+      (reached_decides fails.reached.earlier fails.reached.later fails.one told v good judged bad)) decides
 
-  by_failure : (f : Failure) (name : List ℕ) (told : Files) (it : Verdict) → b.files ≡ Some told → Fails f (reads request) b.files name b.reading n.reading → s ≡ status_of f
+  by_failure : (f : Failure) (name : List ℕ) (told : Files) (it : Verdict) → b.files ≡ Some told → Fails f (reads request) b.files name b.reading n.reading
+      → s ≡ status_of f
       → Decides (reads request) told it → ¬ (Rose b.reading n.reading) → IsOneOf s (statuses_of it)
   by_failure failure.Unread name told it is fails q decides never =
       elim fails.reason [
@@ -334,20 +341,25 @@ module _ (request : RequestData) (s : ℕ) (b n : Snapshot) where
         | inr lacks ↦
             let there : Lacks (Some told) fails.one.name = subst (λ (o : Option Files). Lacks o fails.one.name) is lacks in
             subst (λ (v : Verdict). IsOneOf s (statuses_of v))
-            (failure_decides failure.Unread name told it Lacking is fails (lacks_verdict fails.one.kind (get told fails.one.name) there) (λ e. cc) decides) (inl q)
+            (failure_decides failure.Unread name told it Lacking is fails (lacks_verdict fails.one.kind (get told fails.one.name) there) (λ e. cc) decides)
+            (inl q)
       ]
   by_failure failure.TooLarge name told it is fails q decides never =
       subst (λ (v : Verdict). IsOneOf s (statuses_of v))
-      (failure_decides failure.TooLarge name told it TooLarge is fails (at_told (λ t. IsJudged fails.one t TooLarge) b.files told is (fails.reason.1)) (λ e. cc) decides) (inl q)
+      (failure_decides failure.TooLarge name told it TooLarge is fails (at_told (λ t. IsJudged fails.one t TooLarge) b.files told is (fails.reason.1)) (λ e.
+      cc) decides) (inl q)
   by_failure failure.TooMany name told it is fails q decides never =
       subst (λ (v : Verdict). IsOneOf s (statuses_of v))
-      (failure_decides failure.TooMany name told it TooMany is fails (at_told (λ t. IsJudged fails.one t TooMany) b.files told is (fails.reason.1)) (λ e. cc) decides) (inl q)
+      (failure_decides failure.TooMany name told it TooMany is fails (at_told (λ t. IsJudged fails.one t TooMany) b.files told is (fails.reason.1)) (λ e.
+      cc) decides) (inl q)
   by_failure (failure.Refused r) name told it is fails q decides never =
       subst (λ (v : Verdict). IsOneOf s (statuses_of v))
-      (failure_decides (failure.Refused r) name told it (Refused r) is fails (at_told (λ t. IsJudged fails.one t (Refused r)) b.files told is (fails.reason.1)) (λ e. cc) decides) (inl q)
+      (failure_decides (failure.Refused r) name told it (Refused r) is fails (at_told (λ t. IsJudged fails.one t (Refused r)) b.files told is (fails.reason.1))
+      (λ e. cc) decides) (inl q)
   by_failure failure.Memory name told it is fails q decides never = eight s it q
 
-  answered : (told : Files) (it : Verdict) → b.files ≡ Some told → Ends request s b n → Decides (reads request) told it → ¬ (Rose b.reading n.reading) → IsOneOf s (statuses_of it)
+  answered : (told : Files) (it : Verdict) → b.files ≡ Some told → Ends request s b n → Decides (reads request) told it → ¬ (Rose b.reading n.reading)
+      → IsOneOf s (statuses_of it)
   answered told it is (inl x) decides never =
       let good : AreGood (reads request) told = at_told (λ t. AreGood (reads request) t) b.files told is x.good in
       subst (λ (v : Verdict). IsOneOf s (statuses_of v)) (one_decides (reads request) told Good it (good_decides (reads request) told good) decides)
@@ -360,7 +372,8 @@ module _ (request : RequestData) (s : ℕ) (b n : Snapshot) where
   not_failed : Ends request s b n → ¬ (Rose b.writing n.writing) → ¬ (Rose b.faults n.faults) → s ≢ 3
   not_failed ends w f = λ q. elim (unwritten_clause ends q).failed [ inl file ↦ w file.cause | inr put ↦ f put.cause ]
 
-  completed : (told : Files) → b.files ≡ Some told → Ends request s b n → AreGood (reads request) told → ¬ (Rose b.reading n.reading) → ¬ (Rose b.writing n.writing)
+  completed : (told : Files) → b.files ≡ Some told → Ends request s b n → AreGood (reads request) told → ¬ (Rose b.reading n.reading)
+      → ¬ (Rose b.writing n.writing)
       → ¬ (Rose b.faults n.faults) → IsOneOf s (0 ∷ 7 ∷ 8 ∷ [])
   completed told is ends good r w f = less (answered told Good is ends (good_decides (reads request) told good) r) (not_failed ends w f)
     where
@@ -370,7 +383,8 @@ module _ (request : RequestData) (s : ℕ) (b n : Snapshot) where
       less (inr (inr rest)) ne = inr rest
 
 -- the same of what a shelf and an output show
-pub judged_clause : (request : RequestData) (s : ℕ) (files now_files : Option Files) (reading now_reading writing now_writing faults now_faults : ℕ) (written now_written : Option (List ℕ))
+pub judged_clause : (request : RequestData) (s : ℕ) (files now_files : Option Files) (reading now_reading writing now_writing faults now_faults : ℕ)
+    (written now_written : Option (List ℕ))
     → Ends request s (record { files = files; reading = reading; writing = writing; written = written; faults = faults })
     (record { files = now_files; reading = now_reading; writing = now_writing; written = now_written; faults = now_faults })
     → AnswersBy request s (record { files = files; reading = reading; writing = writing; written = written; faults = faults })
@@ -380,7 +394,8 @@ judged_clause request s (Some told) now_files reading now_reading writing now_wr
     answered request s (record { files = Some told; reading = reading; writing = writing; written = written; faults = faults })
     (record { files = now_files; reading = now_reading; writing = now_writing; written = now_written; faults = now_faults }) told it refl ends decides never
 
-pub complete_clause : (request : RequestData) (s : ℕ) (files now_files : Option Files) (reading now_reading writing now_writing faults now_faults : ℕ) (written now_written : Option (List ℕ))
+pub complete_clause : (request : RequestData) (s : ℕ) (files now_files : Option Files) (reading now_reading writing now_writing faults now_faults : ℕ)
+    (written now_written : Option (List ℕ))
     → Ends request s (record { files = files; reading = reading; writing = writing; written = written; faults = faults })
     (record { files = now_files; reading = now_reading; writing = now_writing; written = now_written; faults = now_faults })
     → IsComplete request s (record { files = files; reading = reading; writing = writing; written = written; faults = faults })
@@ -402,5 +417,6 @@ pub if_none : (P : RequestData → Type 0) (o : Option RequestData) → None ≡
 if_none P None e = tt
 if_none P (Some a) e = absurd (cc)
 
-pub seven_known : (request : RequestData) (o : Option RequestData) → Some request ≡ o → IsVerify request → (order : List ℕ) × (sound : List ℕ) × (o ≡ Some (Verify order sound))
+pub seven_known : (request : RequestData) (o : Option RequestData) → Some request ≡ o → IsVerify request → (order : List ℕ) × (sound : List ℕ)
+    × (o ≡ Some (Verify order sound))
 seven_known request o e is = (is.0, is.1, sym e ∙ ap (λ (r : RequestData). Some r) (is.2))

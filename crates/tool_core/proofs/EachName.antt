@@ -12,7 +12,8 @@ and_false false = refl
 all_push : (p : List ℕ → Bool) (names : List (String Global)) (name : String Global)
     → list_all p (map string_bytes names) ≡ true → p (string_bytes name) ≡ true → list_all p (map string_bytes (names ++ name ∷ [])) ≡ true
 all_push p [] name before here = rw here refl
-all_push p (n ∷ names) name before here = both (p (string_bytes n)) (list_all p (map string_bytes names)) (list_all p (map string_bytes (names ++ name ∷ []))) before (λ rest. all_push p names name rest here)
+all_push p (n ∷ names) name before here = both (p (string_bytes n)) (list_all p (map string_bytes names)) (list_all p (map string_bytes (names ++ name ∷ [])))
+    before (λ rest. all_push p names name rest here)
   where
     both : (a b d : Bool) → a && b ≡ true → (b ≡ true → d ≡ true) → a && d ≡ true
     both true b d h along = along h
@@ -23,7 +24,8 @@ pub all_more : (p : List ℕ → Bool) (names : List (String Global)) (i : ℕ) 
     → list_all p (map string_bytes (take i names)) ≡ true → p (string_bytes name) ≡ true
     → list_all p (map string_bytes (take (i + 1) names)) ≡ true
 all_more p names i name below is before here =
-    let one : take (i + 1) names ≡ take i names ++ name ∷ [] = (take_at_read names i name below).1 ∙ ap (λ (n : String Global). take i names ++ n ∷ []) (sym is) in
+    let one : take (i + 1) names ≡ take i names ++ name ∷ [] = (take_at_read names i name below).1
+    ∙ ap (λ (n : String Global). take i names ++ n ∷ []) (sym is) in
     rw one (all_push p (take i names) name before here)
 
 at_false : (p : List ℕ → Bool) (names : List (String Global)) (i : ℕ) (d : String Global)

@@ -11,7 +11,7 @@ use Rattle.cartridge.specs.Cartridge.{voice_at}
 use Rattle.sysex_frame.specs.Frame.{IsFrame, VoiceDump}
 use Rattle.tool_core.specs.declared.failure.Failure.{Failure}
 use Rattle.tool_core.specs.Verdicts.{Good}
-use Rattle.tool_core.specs.Words.{RequestData, Check, Names, Pick, Gen, Bench}
+use Rattle.tool_core.specs.Words.{RequestData, Check, ListVoices, Pick, Gen, Bench}
 use Rattle.tool_core.specs.Inputs.{Input, Kind, input, AreGood, IsJudged}
 use Rattle.tool_core.specs.Effects.{Effect, HasEffect, Output, prints, writes, written, reads, scripts_of, cartridge_of, picked}
 use Rattle.tool_core.specs.Lines.{bench_line, check_report, list_report, ok_line, scripts_line}
@@ -37,9 +37,11 @@ none_written (Some told) now is = is
 -- one that writes no file
 pub print_ends : (text : List ℕ) (status : ℕ) (before now : Snapshot) → now.reading ≡ before.reading → now.writing ≡ before.writing → now.files ≡ before.files
     → Puts 0 text status before.written now.written before.faults now.faults → Finishes (prints text) status before now
-print_ends text status before now reading writing files put = put_ends (prints text) status before now reading writing (none_written before.files now.files files) put
+print_ends text status before now reading writing files put = put_ends (prints text) status before now reading writing
+    (none_written before.files now.files files) put
 
-one_written : (o now : Option Files) (name text : List ℕ) → now ≡ option_map (λ told. insert told name text) o → now ≡ option_map (written (writes name text).writes) o
+one_written : (o now : Option Files) (name text : List ℕ) → now ≡ option_map (λ told. insert told name text) o
+    → now ≡ option_map (written (writes name text).writes) o
 one_written None now name text is = is
 one_written (Some told) now name text is = is
 
@@ -50,12 +52,14 @@ pub write_ends : (name text : List ℕ) (status : ℕ) (before now : Snapshot) �
 write_ends name text status before now reading writing files put =
     put_ends (writes name text) status before now reading writing (one_written before.files now.files name text files) put
 
-first_begun : (o now : Option Files) (name text : List ℕ) → IfSome o (λ told. BeginsOut told now name text) → IfSome o (λ told. BeginsOut (written [] told) now name text)
+first_begun : (o now : Option Files) (name text : List ℕ) → IfSome o (λ told. BeginsOut told now name text)
+    → IfSome o (λ told. BeginsOut (written [] told) now name text)
 first_begun None now name text is = tt
 first_begun (Some told) now name text is = is
 
 -- one whose file could not be written
-pub unwritten_ends : (name text : List ℕ) (status : ℕ) (before now : Snapshot) → now.reading ≡ before.reading → status ≡ 3 → (Rose before.writing now.writing ⊎ ⊥)
+pub unwritten_ends : (name text : List ℕ) (status : ℕ) (before now : Snapshot) → now.reading ≡ before.reading → status ≡ 3
+    → (Rose before.writing now.writing ⊎ ⊥)
     → IfSome before.files (λ told. BeginsOut told now.files name text) → SaysLine (cannot_write name) before now → Finishes (writes name text) status before now
 unwritten_ends name text status before now reading is cause begun line = record {
   reading = reading;
@@ -74,17 +78,21 @@ unwritten_ends name text status before now reading is cause begun line = record 
 }
 
 -- the same after calls that left the files and the counts of the shelf
-pub read_first : (effect : Effect) (status : ℕ) (files mid_files : Option Files) (reading mid_reading writing mid_writing faults : ℕ) (written_before : Option (List ℕ)) (now : Snapshot)
+pub read_first : (effect : Effect) (status : ℕ) (files mid_files : Option Files) (reading mid_reading writing mid_writing faults : ℕ)
+    (written_before : Option (List ℕ)) (now : Snapshot)
     → mid_files ≡ files → mid_reading ≡ reading → mid_writing ≡ writing
     → Finishes effect status (record { files = mid_files; reading = mid_reading; writing = mid_writing; written = written_before; faults = faults }) now
     → Finishes effect status (record { files = files; reading = reading; writing = writing; written = written_before; faults = faults }) now
 read_first effect status files mid_files reading mid_reading writing mid_writing faults written_before now a b d ends =
-    subst (λ (f : Option Files). Finishes effect status (record { files = f; reading = reading; writing = writing; written = written_before; faults = faults }) now) a
+    subst (λ (f : Option Files). Finishes effect status (record { files = f; reading = reading; writing = writing; written = written_before; faults = faults })
+    now) a
     (subst (λ (r : ℕ). Finishes effect status (record { files = mid_files; reading = r; writing = writing; written = written_before; faults = faults }) now) b
-    (subst (λ (w : ℕ). Finishes effect status (record { files = mid_files; reading = mid_reading; writing = w; written = written_before; faults = faults }) now) d ends))
+    (subst (λ (w : ℕ). Finishes effect status (record { files = mid_files; reading = mid_reading; writing = w; written = written_before; faults = faults }) now)
+    d ends))
 
 -- ---- the two ways in which a command ends
-pub performs : (request : RequestData) (status : ℕ) (before now : Snapshot) (effect : Effect) → HasGood request before.files → HasEffect request before.files effect
+pub performs : (request : RequestData) (status : ℕ) (before now : Snapshot) (effect : Effect) → HasGood request before.files
+    → HasEffect request before.files effect
     → Finishes effect status before now → Ends request status before now
 performs request status before now effect good does finishes = inl (record { good = good; effect = effect; does = does; finishes = finishes })
 
@@ -124,12 +132,14 @@ pub check_does : (files : Option Files) (name file text : List ℕ) → text ≡
     → HasEffect (Check name) files (prints (check_report text))
 check_does files name file text same found = (check_report text, refl, known files found)
   where
-    known : (o : Option Files) → IfSome o (λ told. get told name ≡ Some file) → IfSome o (λ told. check_report text ≡ check_report (unwrap_or (get told name) []))
+    known : (o : Option Files) → IfSome o (λ told. get told name ≡ Some file)
+        → IfSome o (λ told. check_report text ≡ check_report (unwrap_or (get told name) []))
     known None has = tt
     known (Some told) has = ap check_report same ∙ sym (ap (λ (g : Option (List ℕ)). check_report (unwrap_or g [])) has)
 
-pub list_does : (files : Option Files) (name text : List ℕ) (cartridge : List (List ℕ)) → text ≡ list_report cartridge → IfSome files (λ told. cartridge_of told name ≡ cartridge)
-    → HasEffect (Names name) files (prints text)
+pub list_does : (files : Option Files) (name text : List ℕ) (cartridge : List (List ℕ)) → text ≡ list_report cartridge
+    → IfSome files (λ told. cartridge_of told name ≡ cartridge)
+    → HasEffect (ListVoices name) files (prints text)
 list_does files name text cartridge is has = (text, refl, known files has)
   where
     known : (o : Option Files) → IfSome o (λ told. cartridge_of told name ≡ cartridge) → IfSome o (λ told. text ≡ list_report (cartridge_of told name))
@@ -148,11 +158,13 @@ pick_does files file slot out text cartridge voice has is frame = (text, refl, k
         subst (λ (v : List ℕ). IsFrame text (VoiceDump 0 v)) e frame
 
 pub bench_does : (files : Option Files) (seed blocks commands : ℕ) (sum : ℤ) (text : List ℕ) → text ≡ bench_line commands blocks sum
-    → commands ≡ length (generated_journal seed blocks) → sum ≡ sum_of_samples (generated_journal seed blocks) blocks → HasEffect (Bench seed blocks) files (prints text)
+    → commands ≡ length (generated_journal seed blocks) → sum ≡ sum_of_samples (generated_journal seed blocks) blocks
+    → HasEffect (Bench seed blocks) files (prints text)
 bench_does files seed blocks commands sum text is counted summed =
     ap prints (is ∙ ap (λ (n : ℕ). bench_line n blocks sum) counted ∙ ap (λ (s : ℤ). bench_line (length (generated_journal seed blocks)) blocks s) summed)
 
-pub gen_does : (files : Option Files) (seed scripts commands count total : ℕ) (outputs : List Output) → outputs ≡ scripts_of seed commands scripts → count ≡ scripts → total ≡ scripts * commands
+pub gen_does : (files : Option Files) (seed scripts commands count total : ℕ) (outputs : List Output) → outputs ≡ scripts_of seed commands scripts
+    → count ≡ scripts → total ≡ scripts * commands
     → HasEffect (Gen seed scripts commands) files (record { status = 0; writes = outputs; prints = scripts_line count total })
 gen_does files seed scripts commands count total outputs same counted summed =
     ap (λ (o : List Output). made o (scripts_line count total)) same
@@ -163,8 +175,10 @@ gen_does files seed scripts commands count total outputs same counted summed =
     made o text = record { status = 0; writes = o; prints = text }
 
 -- one of several files that could not be written
-pub several_unwritten : (effect : Effect) (at : ℕ) (status : ℕ) (before now : Snapshot) (name : List ℕ) → now.reading ≡ before.reading → status ≡ 3 → (Rose before.writing now.writing ⊎ ⊥)
-    → (fails : FailsWriting at effect.writes before.files now.files) → name ≡ fails.file.name → SaysLine (cannot_write name) before now → Finishes effect status before now
+pub several_unwritten : (effect : Effect) (at : ℕ) (status : ℕ) (before now : Snapshot) (name : List ℕ) → now.reading ≡ before.reading → status ≡ 3
+    → (Rose before.writing now.writing ⊎ ⊥)
+    → (fails : FailsWriting at effect.writes before.files now.files) → name ≡ fails.file.name → SaysLine (cannot_write name) before now
+    → Finishes effect status before now
 several_unwritten effect at status before now name reading is cause fails named line = record {
   reading = reading;
   ends = inr (

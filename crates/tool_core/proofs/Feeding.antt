@@ -72,12 +72,14 @@ order_read (Err e) files name s fed known = tt
 order_read (Ok o) None name s fed known = tt
 order_read (Ok o) (Some told) name s fed known = one (get told name) fed
   where
-    one : (f : Option (List ℕ)) → IsSomeAnd f (λ file. (length file ≤ order_limit) × HasFed s file) → IsSomeAnd f (λ file. (length file ≤ order_limit) × IsOrder file o)
+    one : (f : Option (List ℕ)) → IsSomeAnd f (λ file. (length file ≤ order_limit) × HasFed s file)
+        → IsSomeAnd f (λ file. (length file ≤ order_limit) × IsOrder file o)
     one None h = absurd h
     one (Some file) h = (h.0, known file (h.1))
 
 bytes_fault : (why : Failure) (files : Option Files) (name : List ℕ) (s : Standing) → WasFedWhole s files name
-    → ((file : List ℕ) → HasFed s file → length file ≤ order_limit → IsFault why AnOrder (Some file)) → IfSome files (λ told. IsFault why AnOrder (get told name))
+    → ((file : List ℕ) → HasFed s file → length file ≤ order_limit → IsFault why AnOrder (Some file))
+    → IfSome files (λ told. IsFault why AnOrder (get told name))
 bytes_fault why None name s fed known = tt
 bytes_fault why (Some told) name s fed known = one (get told name) fed
   where
@@ -93,7 +95,8 @@ bytes_reason failure.TooMany files name s before now same fed of known = (same, 
 bytes_reason (failure.Refused why) files name s before now same fed of known = (same, bytes_fault (failure.Refused why) files name s fed known)
 bytes_reason failure.Memory files name s before now same fed of known = same
 
-pub order_reason : (r : Result OrderData Failure) (files : Option Files) (name : List ℕ) (s : Standing) (before now : ℕ) → now ≡ before → WasFedWhole s files name
+pub order_reason : (r : Result OrderData Failure) (files : Option Files) (name : List ℕ) (s : Standing) (before now : ℕ) → now ≡ before
+    → WasFedWhole s files name
     → IfErr r IsOfBytes → IfErr r (λ why. (file : List ℕ) → HasFed s file → length file ≤ order_limit → IsFault why AnOrder (Some file))
     → IfErr r (λ why. IsReason why AnOrder files name before now)
 order_reason (Ok o) files name s before now same fed of known = tt

@@ -12,7 +12,8 @@ use Rattle.tool_core.specs.declared.failure.Failure.TheVariants as failure
 use Rattle.tool_core.specs.declared.refusal.Refusal.TheVariants.{NoVoice, NoCartridge}
 use Rattle.tool_core.specs.declared.scan.Scan.{Scan}
 use Rattle.tool_core.specs.SysEx.{sysex_messages}
-use Rattle.tool_core.specs.Refusals.{Wanted, AllMessages, OneVoice, OneCartridge, refusal, refusal_in, cut_refusal, missing_refusal, cartridge_in, voice_in, first_some, message_refusal, long_refusal}
+use Rattle.tool_core.specs.Refusals.{Wanted, AllMessages, OneVoice, OneCartridge, refusal, refusal_in, cut_refusal, missing_refusal, cartridge_in}
+use Rattle.tool_core.specs.Refusals.{voice_in, first_some, message_refusal, long_refusal}
 use Rattle.tool_core.specs.Scans.{IsScan}
 use Rattle.tool_core.proofs.Scanning.{or_none, or_assoc}
 use Rattle.tool_core.proofs.Meanings.{means, limit_reason}
@@ -71,7 +72,8 @@ voice_known (Some told) name file voice found is =
     ap (λ (o : Option (List ℕ)). unwrap_or (voice_in (unwrap_or o [])) []) found ∙ ap (λ (o : Option (List ℕ)). unwrap_or o []) is
 
 -- ---- the refusal of a file, from what one scanner found
-refusal_is : (wanted : Wanted) (file : List ℕ) → refusal wanted file ≡ option_or (refusal_in wanted (sysex_messages file)) (option_or (cut_refusal file) (missing_refusal wanted file))
+refusal_is : (wanted : Wanted) (file : List ℕ) → refusal wanted file ≡ option_or (refusal_in wanted (sysex_messages file))
+    (option_or (cut_refusal file) (missing_refusal wanted file))
 unfolding refusal
 refusal_is wanted file = refl
 
@@ -109,7 +111,8 @@ pub voice_is : (file : List ℕ) (scan : Scan) → IsScan scan (sysex_messages f
 unfolding voice_in
 voice_is file scan scanned = sym scanned.voice
 
-pub cartridge_missing : (file : List ℕ) (o : Option (List (List ℕ))) → cartridge_in file ≡ o → missing_refusal OneCartridge file ≡ (if is_none o then Some NoCartridge else None)
+pub cartridge_missing : (file : List ℕ) (o : Option (List (List ℕ))) → cartridge_in file ≡ o
+    → missing_refusal OneCartridge file ≡ (if is_none o then Some NoCartridge else None)
 cartridge_missing file o is = rw is refl
 
 pub voice_missing : (file : List ℕ) (o : Option (List ℕ)) → voice_in file ≡ o → missing_refusal OneVoice file ≡ (if is_none o then Some NoVoice else None)

@@ -15,3 +15,5 @@ pub mod Sounds
 pub mod OrderEndings
 pub mod Feeding
 pub mod NeverFailing
+pub mod ReadCounts
+pub mod Held

@@ -35,7 +35,8 @@ pub order_judged : (files : Option Files) (name : List ℕ) (o : OrderData) → 
 order_judged None name o is = tt
 order_judged (Some told) name o is = good_order (get told name) o is
 
-pub replay_does : (files : Option Files) (order out : List ℕ) (o : OrderData) → IsRead files order o → HasEffect (Replay order out) files (writes out (wav o.journal o.blocks))
+pub replay_does : (files : Option Files) (order out : List ℕ) (o : OrderData) → IsRead files order o
+    → HasEffect (Replay order out) files (writes out (wav o.journal o.blocks))
 replay_does files order out o is = (o, refl, known files is)
   where
     known : (f : Option Files) → IsRead f order o → IfSome f (λ told. IsOrder (content told order) o)
@@ -71,13 +72,15 @@ second_fails why order sound o files before now read reason =
     (second_at why order sound o files before now read) reason
 
 -- the same after a read of the order
-pub sound_fails : (why : Failure) (order sound : List ℕ) (o : OrderData) (files mid : Option Files) (before mid_reading now : ℕ) → mid ≡ files → mid_reading ≡ before
+pub sound_fails : (why : Failure) (order sound : List ℕ) (o : OrderData) (files mid : Option Files) (before mid_reading now : ℕ) → mid ≡ files
+    → mid_reading ≡ before
     → IsRead files order o → IsReadFailure why sound_limit mid sound mid_reading now
     → Fails why (input order AnOrder ∷ (input sound ASound ∷ [])) files sound before now
 sound_fails why order sound o files mid before mid_reading now same kept read reason =
     second_fails why order sound o files before now read
     (subst (λ (b : ℕ). IsReason why ASound files sound b now) kept
-    (subst (λ (f : Option Files). IsReason why ASound f sound mid_reading now) same (limit_reason why ASound sound_limit mid sound mid_reading now sound_large reason)))
+    (subst (λ (f : Option Files). IsReason why ASound f sound mid_reading now) same
+    (limit_reason why ASound sound_limit mid sound mid_reading now sound_large reason)))
 
 -- ---- a sound file that was compared
 record IsThere (g : Option (List ℕ)) : Type 0 where
@@ -90,26 +93,35 @@ there (Some file) never = record { file = file; is = refl }
 
 module _ (order sound : List ℕ) (o : OrderData) where
   pub good_both : (files : Option Files) → IsRead files order o → (Lacks files sound → ⊥)
-      → ((file : List ℕ) → file_of files sound ≡ Some file → length file ≤ sound_limit) → IfSome files (λ told. AreGood (input order AnOrder ∷ (input sound ASound ∷ [])) told)
+      → ((file : List ℕ) → file_of files sound ≡ Some file → length file ≤ sound_limit)
+      → IfSome files (λ told. AreGood (input order AnOrder ∷ (input sound ASound ∷ [])) told)
   good_both None read has within = tt
   good_both (Some told) read has within =
       let t = there (get told sound) has in
       (good_order (get told order) o read, (sound_good (get told sound) t.file t.is (within t.file t.is), tt))
 
   pub verify_does : (files : Option Files) (place : Option ℕ) → IsRead files order o → (Lacks files sound → ⊥)
-      → ((file : List ℕ) → file_of files sound ≡ Some file → IsCompared file (wav o.journal o.blocks) place) → HasEffect (Verify order sound) files (comparison place)
+      → ((file : List ℕ) → file_of files sound ≡ Some file → IsCompared file (wav o.journal o.blocks) place)
+      → HasEffect (Verify order sound) files (comparison place)
   verify_does files place read has compared = (o, place, refl, known files read has compared)
     where
-      known : (f : Option Files) → IsRead f order o → (Lacks f sound → ⊥) → ((file : List ℕ) → file_of f sound ≡ Some file → IsCompared file (wav o.journal o.blocks) place)
+      known : (f : Option Files) → IsRead f order o → (Lacks f sound → ⊥)
+          → ((file : List ℕ) → file_of f sound ≡ Some file → IsCompared file (wav o.journal o.blocks) place)
           → IfSome f (λ told. IsOrder (content told order) o × IsCompared (content told sound) (wav o.journal o.blocks) place)
       known None r h c = tt
       known (Some told) r h c =
-          let t = there (get told sound) h in
-          (order_in (get told order) o r, subst (λ (g : Option (List ℕ)). IsCompared (unwrap_or g []) (wav o.journal o.blocks) place) (sym t.is) (c t.file t.is))
+          let t = there (get told sound) h in (
+            order_in (get told order) o r,
+            subst (λ (g : Option (List ℕ)).
+                IsCompared (unwrap_or g []) (wav o.journal o.blocks) place) (sym t.is) (c t.file t.is),
+          )
 
 -- the report of a comparison
-pub compared_ends : (place : Option ℕ) (status : ℕ) (before now : Snapshot) → now.reading ≡ before.reading → now.writing ≡ before.writing → now.files ≡ before.files
-    → Puts (comparison place).status (comparison place).prints status before.written now.written before.faults now.faults → Finishes (comparison place) status before now
-compared_ends None status before now reading writing files put = put_ends (comparison None) status before now reading writing (none_written before.files now.files files) put
+pub compared_ends : (place : Option ℕ) (status : ℕ) (before now : Snapshot) → now.reading ≡ before.reading → now.writing ≡ before.writing
+    → now.files ≡ before.files
+    → Puts (comparison place).status (comparison place).prints status before.written now.written before.faults now.faults
+    → Finishes (comparison place) status before now
+compared_ends None status before now reading writing files put = put_ends (comparison None) status before now reading writing
+    (none_written before.files now.files files) put
 compared_ends (Some place) status before now reading writing files put =
     put_ends (comparison (Some place)) status before now reading writing (none_written before.files now.files files) put

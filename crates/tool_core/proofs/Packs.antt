@@ -1,5 +1,6 @@
 -- Several files, one after the other.
-use Rattle.std.proofs.Common.{◌≡◌, ℕ, zero, suc, ◌+◌, ◌-◌, ◌<◌, ◌≤◌, List, [], ◌∷◌, ◌++◌, length, map, take, set, replicate, get_or, refl, sym, ◌∙◌, ap, subst, arith}
+use Rattle.std.proofs.Common.{◌≡◌, ℕ, zero, suc, ◌+◌, ◌-◌, ◌<◌, ◌≤◌, List, [], ◌∷◌, ◌++◌, length, map, take, set, replicate, get_or, refl, sym, ◌∙◌}
+use Rattle.std.proofs.Common.{ap, subst, arith}
 use Rattle.std.specs.Prelude.{Option, Some, None, IfSome, String, string_bytes}
 use Rattle.std.specs.declared.alloc.Global.{Global}
 use Rattle.std.proofs.lemmas.Grind.{take_at_read}
@@ -29,7 +30,8 @@ voices_push [] name = refl
 voices_push (n ∷ names) name = ap (λ (l : List Input). input n (Midi OneVoice) ∷ l) (voices_push names name)
 
 -- ---- one more name
-pub name_at : (names : List (String Global)) (i : ℕ) (d : String Global) → i < length names → get_or (map string_bytes names) i [] ≡ string_bytes (get_or names i d)
+pub name_at : (names : List (String Global)) (i : ℕ) (d : String Global) → i < length names
+    → get_or (map string_bytes names) i [] ≡ string_bytes (get_or names i d)
 name_at [] i d below = absurd (omega arith)
 name_at (n ∷ names) zero d below = refl
 name_at (n ∷ names) (suc i) d below = name_at names i d (omega arith)
@@ -73,7 +75,8 @@ voices_append : (xs ys : List (List ℕ)) → voices (xs ++ ys) ≡ voices xs ++
 voices_append [] ys = refl
 voices_append (x ∷ xs) ys = ap (λ (l : List Input). input x (Midi OneVoice) ∷ l) (voices_append xs ys)
 
-fails_here : (why : Failure) (place : ℕ) (files : Option Files) (names : List (List ℕ)) (name : List ℕ) (before now : ℕ) → place < length names → name ≡ get_or names place []
+fails_here : (why : Failure) (place : ℕ) (files : Option Files) (names : List (List ℕ)) (name : List ℕ) (before now : ℕ) → place < length names
+    → name ≡ get_or names place []
     → IsBadAt place why files names before now → FailsAt why (voices names) files name before now
 fails_here why place files names name before now below is bad =
     let p = parts names place below in
@@ -89,7 +92,8 @@ fails_here why place files names name before now below is bad =
       reason = bad.reason;
     }
 
-pub pack_fails : (why : Failure) (place : ℕ) (files : Option Files) (names : List (List ℕ)) (name : List ℕ) (before now : ℕ) → place < length names → name ≡ get_or names place []
+pub pack_fails : (why : Failure) (place : ℕ) (files : Option Files) (names : List (List ℕ)) (name : List ℕ) (before now : ℕ) → place < length names
+    → name ≡ get_or names place []
     → IsPackFailure place why files names before now → Fails why (voices names) files name before now
 pack_fails why place files names name before now below is fails =
     unless why (IsBadAt place why files names before now) (FailsAt why (voices names) files name before now) (now ≡ before)
@@ -125,7 +129,8 @@ pub filled_more : (files now : Option Files) (names : List (List ℕ)) (i : ℕ)
     → IfSome files (λ told. after ≡ filled told (take (i + 1) names) (i + 1))
 filled_more None now names i q before after below most is same was set_is = tt
 filled_more (Some told) now names i q before after below most is same was set_is =
-    let here : IfSome (Some told) (λ t. after ≡ set before i (voice_of t q)) = subst (λ (o : Option Files). IfSome o (λ t. after ≡ set before i (voice_of t q))) same set_is in
+    let here : IfSome (Some told) (λ t. after ≡ set before i (voice_of t q)) =
+    subst (λ (o : Option Files). IfSome o (λ t. after ≡ set before i (voice_of t q))) same set_is in
     let count : length (take i names) ≡ i = length-take-le i names (omega arith) in
     here
     ∙ ap (λ (l : List (List ℕ)). set l i (voice_of told q)) was
@@ -168,7 +173,8 @@ memory_failure found names files before now is same = rw is same
 pub count_names : (names : List (String Global)) → length (map string_bytes names) ≡ length names
 count_names names = length-map names string_bytes
 
-pub pack_does : (files : Option Files) (out text items : List ℕ) (names : List (List ℕ)) → text ≡ items → IfSome files (λ told. IsMessageOf (packed told names) 0 items)
+pub pack_does : (files : Option Files) (out text items : List ℕ) (names : List (List ℕ)) → text ≡ items
+    → IfSome files (λ told. IsMessageOf (packed told names) 0 items)
     → HasEffect (Pack out names) files (writes out text)
 pack_does files out text items names same message = (text, refl, known files message)
   where

@@ -1,14 +1,15 @@
 -- Files compared chunk by chunk.
-use Rattle.std.proofs.Common.{◌≡◌, ◌≢◌, inl, inr, ℕ, zero, suc, ◌+◌, ◌-◌, ◌<◌, ◌≤◌, min, List, [], ◌∷◌, ◌++◌, length, take, drop, get_or, refl, sym, ◌∙◌, ap, subst, arith, append_assoc, append-nil, length-append, length-drop}
-use Rattle.std.specs.Prelude.{Option, Some, None, IfSome, IsSomeAnd, unwrap_or, slice_get}
+use Rattle.std.proofs.Common.{◌≡◌, ◌≢◌, inl, inr, ℕ, zero, suc, ◌+◌, ◌-◌, ◌<◌, ◌≤◌, min, List, [], ◌∷◌, ◌++◌, length, take, drop, get_or, refl, sym}
+use Rattle.std.proofs.Common.{◌∙◌, ap, subst, arith, append_assoc, append-nil, length-append, length-drop}
+use Rattle.std.specs.Prelude.{Option, Some, None, IfNone, IfSome, IsSomeAnd, unwrap_or, slice_get}
 use Rattle.std.specs.FinMap.{get}
 use Rattle.std.proofs.Math.Seq.{take-add, take-append-add, take-append_seam, drop-append_seam, drop-nil}
 use Rattle.std.proofs.lemmas.List.{take-append-drop, take-append-le, length-take, length-take-le, take_all}
 use Rattle.std.proofs.lemmas.Option.{slice_get_past, slice_get-get_or}
 use Rattle.outside.specs.Files.{Files, ReadsFrom, file_of}
-use Rattle.tool_core.specs.declared.comparison.Step.{Step}
-use Rattle.tool_core.specs.declared.comparison.Step.TheVariants.{Same, Differs}
-use Rattle.tool_core.specs.Comparisons.{DiffersAt, IsPrefix, IsStep, IsWithin}
+use Rattle.tool_core.specs.declared.comparison.Comparison.{Comparison}
+use Rattle.tool_core.specs.declared.comparison.Comparison.TheVariants.{Same, Differs}
+use Rattle.tool_core.specs.Comparisons.{DiffersAt, GoesOn, IsPrefix, IsStep, IsWhole, IsWithin}
 
 -- ---- bytes at an offset
 get_after : (prefix a : List ℕ) (i : ℕ) → slice_get (prefix ++ a) (length prefix + i) ≡ slice_get a i
@@ -75,7 +76,8 @@ pub read_known : (o : Option Files) (name file buffer : List ℕ) (at count : �
     → IfSome o (λ told. IsSomeAnd (get told name) (λ f. ReadsFrom f at count buffer)) → ReadsFrom file at count buffer
 read_known None name file buffer at count is reads = absurd (cc)
 read_known (Some told) name file buffer at count is reads =
-    let h : IsSomeAnd (Some file) (λ f. ReadsFrom f at count buffer) = subst (λ (o : Option (List ℕ)). IsSomeAnd o (λ f. ReadsFrom f at count buffer)) is reads in h
+    let h : IsSomeAnd (Some file) (λ f. ReadsFrom f at count buffer) = subst (λ (o : Option (List ℕ)).
+    IsSomeAnd o (λ f. ReadsFrom f at count buffer)) is reads in h
 
 pub read_bytes : (file buffer chunk : List ℕ) (at count : ℕ) → ReadsFrom file at count buffer → count ≤ length buffer → chunk ≡ take count buffer
     → take (length chunk) (drop at file) ≡ chunk
@@ -83,11 +85,16 @@ read_bytes file buffer chunk at count reads fits is =
     let size : length chunk ≡ count = ap length is ∙ length-take-le count buffer fits in
     ap (λ (n : ℕ). take n (drop at file)) size ∙ sym reads.bytes ∙ sym is
 
-pub read_end : (file buffer chunk : List ℕ) (at count : ℕ) → ReadsFrom file at count buffer → count ≤ length buffer → 0 < length buffer → chunk ≡ take count buffer
+pub read_end : (file buffer chunk : List ℕ) (at count : ℕ) → ReadsFrom file at count buffer → count ≤ length buffer → 0 < length buffer
+    → chunk ≡ take count buffer
     → length chunk ≡ 0 → length (drop at file) ≡ 0
 read_end file buffer chunk at count reads fits room is none =
     let size : length chunk ≡ count = ap length is ∙ length-take-le count buffer fits in
-    elim (reads.ended.0 (sym size ∙ none)) [ inl no_room ↦ absurd (omega arith) | inr past ↦ (let h : length (drop at file) ≡ 0 = omega (arith, length-drop at file) in h) ]
+    elim (reads.ended.0 (sym size ∙ none)) [
+      | inl no_room ↦ absurd (omega arith)
+      | inr past ↦ (let h : length (drop at file) ≡ 0 =
+          omega (arith, length-drop at file) in h)
+    ]
 
 -- ---- a chunk, step by step
 drop_drop : (n m : ℕ) (a : List ℕ) → drop m (drop n a) ≡ drop (n + m) a
@@ -115,7 +122,8 @@ pub sound_chunk_differs : (file chunk wanted : List ℕ) (at done offset : ℕ) 
 sound_chunk_differs file chunk wanted at done offset is low same step =
     let size : length (take done chunk) ≡ done = length-take-le done chunk low in
     let left : take done chunk ++ drop (at + done) file ≡ drop at file =
-    ap (λ (l : List ℕ). l ++ drop (at + done) file) (sym same) ∙ ap (λ (l : List ℕ). take done (drop at file) ++ l) (sym (drop_drop at done file)) ∙ take-append-drop done (drop at file) in
+    ap (λ (l : List ℕ). l ++ drop (at + done) file) (sym same) ∙ ap (λ (l : List ℕ). take done (drop at file) ++ l) (sym (drop_drop at done file))
+    ∙ take-append-drop done (drop at file) in
     let right : take done chunk ++ wanted ≡ chunk =
     ap (λ (l : List ℕ). take done chunk ++ l) (rest_of chunk wanted done is) ∙ take-append-drop done chunk in
     let whole : DiffersAt (take done chunk ++ drop (at + done) file) (take done chunk ++ wanted) (length (take done chunk) + offset) =
@@ -124,7 +132,8 @@ sound_chunk_differs file chunk wanted at done offset is low same step =
     (subst (λ (l : List ℕ). DiffersAt (drop at file) l (length (take done chunk) + offset)) right
     (subst (λ (l : List ℕ). DiffersAt l (take done chunk ++ wanted) (length (take done chunk) + offset)) left whole))
 
-pub sound_chunk_whole : (file chunk : List ℕ) (at done : ℕ) → done ≡ length chunk → take done (drop at file) ≡ take done chunk → IsPrefix (drop at file) chunk None
+pub sound_chunk_whole : (file chunk : List ℕ) (at done : ℕ) → done ≡ length chunk → take done (drop at file) ≡ take done chunk
+    → IsPrefix (drop at file) chunk None
 sound_chunk_whole file chunk at done is same = (
   drop done (drop at file),
   sym (take-append-drop done (drop at file)) ∙ ap (λ (l : List ℕ). l ++ drop done (drop at file)) (same ∙ take_all done chunk (omega arith)),
@@ -139,7 +148,8 @@ pub prefix_more : (file prefix chunk : List ℕ) (at : ℕ) → IsPrefix file pr
 prefix_more file prefix chunk at (rest, is) size (more, next) =
     (more, is ∙ ap (λ (l : List ℕ). prefix ++ l) (sym (rest_after file prefix rest at is size) ∙ next) ∙ sym (append_assoc prefix chunk more))
 
-pub prefix_differs : (file prefix chunk more : List ℕ) (at offset : ℕ) → IsPrefix file prefix None → at ≡ length prefix → IsPrefix (drop at file) chunk (Some offset)
+pub prefix_differs : (file prefix chunk more : List ℕ) (at offset : ℕ) → IsPrefix file prefix None → at ≡ length prefix
+    → IsPrefix (drop at file) chunk (Some offset)
     → IsPrefix file ((prefix ++ chunk) ++ more) (Some (at + offset))
 prefix_differs file prefix chunk more at offset (rest, is) size (below, d) =
     let left : prefix ++ drop at file ≡ file = ap (λ (l : List ℕ). prefix ++ l) (rest_after file prefix rest at is size) ∙ sym is in
@@ -147,8 +157,11 @@ prefix_differs file prefix chunk more at offset (rest, is) size (below, d) =
     let at_it : DiffersAt file (prefix ++ chunk) (at + offset) =
     subst (λ (n : ℕ). DiffersAt file (prefix ++ chunk) (n + offset)) (sym size)
     (subst (λ (l : List ℕ). DiffersAt l (prefix ++ chunk) (length prefix + offset)) left whole) in
-    let low : at + offset < length (prefix ++ chunk) = omega (arith, length-append prefix chunk) in
-    (let l : at + offset < length ((prefix ++ chunk) ++ more) = omega (arith, length-append (prefix ++ chunk) more) in l, differs_before file (prefix ++ chunk) more (at + offset) low at_it)
+    let low : at + offset < length (prefix ++ chunk) = omega (arith, length-append prefix chunk) in (
+      let l : at + offset < length ((prefix ++ chunk) ++ more) = omega (arith, length-append (prefix ++ chunk) more) in
+          l,
+      differs_before file (prefix ++ chunk) more (at + offset) low at_it,
+    )
 
 pub first_differs : (file chunk more : List ℕ) (offset : ℕ) → IsPrefix (drop 0 file) chunk (Some offset) → IsPrefix file (chunk ++ more) (Some offset)
 first_differs file chunk more offset (below, d) =
@@ -163,7 +176,8 @@ known_within file whole (Some offset) size is (below, d) =
     let e : length (take offset file) ≡ length (take offset whole) = ap length d.prefix in
     omega arith
 
-pub goes_past : (file whole : List ℕ) (size count : ℕ) → size ≡ length whole → count ≡ length file → size < count → IsPrefix file whole None → DiffersAt file whole size
+pub goes_past : (file whole : List ℕ) (size count : ℕ) → size ≡ length whole → count ≡ length file → size < count → IsPrefix file whole None
+    → DiffersAt file whole size
 goes_past file whole size count is ends past (rest, same) = record {
   prefix = ap (λ (n : ℕ). take n file) is ∙ ap (take (length whole)) same ∙ take-append_seam whole rest ∙ sym (take_all size whole (omega arith));
   differs = λ e.
@@ -184,14 +198,26 @@ ends_there file whole size count is ends low (rest, same) =
 pub prefix_at : (o : Option ℕ) (file prefix : List ℕ) (known : Option ℕ) → o ≡ known → IsPrefix file prefix o → IsPrefix file prefix known
 prefix_at o file prefix known is h = subst (λ (r : Option ℕ). IsPrefix file prefix r) is h
 
-pub step_same : (step : Step) (count : ℕ) (file prefix : List ℕ) → step ≡ Same count → IsStep step file prefix → take count file ≡ take count prefix
-step_same step count file prefix is h = let k : IsStep (Same count) file prefix = subst (λ (s : Step). IsStep s file prefix) is h in k
+pub step_same : (step : Comparison) (count : ℕ) (file prefix : List ℕ) → step ≡ Same count → IsStep step file prefix → take count file ≡ take count prefix
+step_same step count file prefix is h = let k : IsStep (Same count) file prefix = subst (λ (s : Comparison). IsStep s file prefix) is h in k
 
-pub step_differs : (step : Step) (offset : ℕ) (file prefix : List ℕ) → step ≡ Differs offset → IsStep step file prefix → DiffersAt file prefix offset
-step_differs step offset file prefix is h = let k : IsStep (Differs offset) file prefix = subst (λ (s : Step). IsStep s file prefix) is h in k
+pub step_differs : (step : Comparison) (offset : ℕ) (file prefix : List ℕ) → step ≡ Differs offset → IsStep step file prefix → DiffersAt file prefix offset
+step_differs step offset file prefix is h = let k : IsStep (Differs offset) file prefix = subst (λ (s : Comparison). IsStep s file prefix) is h in k
 
-pub same_within : (step : Step) (count most : ℕ) → step ≡ Same count → IsWithin step most → count ≤ most
-same_within step count most is h = let k : IsWithin (Same count) most = subst (λ (s : Step). IsWithin s most) is h in k.1
+pub same_within : (step : Comparison) (count most : ℕ) → step ≡ Same count → IsWithin step most → count ≤ most
+same_within step count most is h = let k : IsWithin (Same count) most = subst (λ (s : Comparison). IsWithin s most) is h in k.1
 
-pub differs_within : (step : Step) (offset most : ℕ) → step ≡ Differs offset → IsWithin step most → offset < most
-differs_within step offset most is h = let k : IsWithin (Differs offset) most = subst (λ (s : Step). IsWithin s most) is h in k
+pub differs_within : (step : Comparison) (offset most : ℕ) → step ≡ Differs offset → IsWithin step most → offset < most
+differs_within step offset most is h = let k : IsWithin (Differs offset) most = subst (λ (s : Comparison). IsWithin s most) is h in k
+
+pub goes_same : (step : Comparison) (count before now : ℕ) → step ≡ Same count → GoesOn step before now → now ≡ before + count
+goes_same step count before now is h = let k : GoesOn (Same count) before now = subst (λ (s : Comparison). GoesOn s before now) is h in k
+
+pub none_is : (o : Option ℕ) (P : Type 0) → o ≡ None → IfNone o P → P
+none_is None P is h = h
+none_is (Some x) P is h = absurd (cc)
+
+-- a read whose bytes are all the same went on by as many
+pub went_on : (step : Comparison) (size before now count : ℕ) → IsWhole step size → size ≡ count → now ≡ before + count → GoesOn step before now
+went_on (Same n) size before now count whole is on = omega (arith, whole, is, on)
+went_on (Differs offset) size before now count whole is on = tt

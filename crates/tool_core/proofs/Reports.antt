@@ -1,9 +1,10 @@
 -- The report of a check, message by message.
-use Rattle.std.proofs.Common.{◌≡◌, ℕ, zero, suc, ◌+◌, ◌-◌, ◌≤◌, List, [], ◌∷◌, ◌++◌, length, refl, sym, ◌∙◌, ap, subst, arith, add-one, append_assoc, append-nil, length-append}
+use Rattle.std.proofs.Common.{◌≡◌, ℕ, zero, suc, ◌+◌, ◌-◌, ◌≤◌, List, [], ◌∷◌, ◌++◌, length, refl, sym, ◌∙◌, ap, subst, arith, add-one, append_assoc}
+use Rattle.std.proofs.Common.{append-nil, length-append}
 use Rattle.std.specs.Prelude.{Option, Some, None, option_map, option_to_list, Bool, false, Result, Ok, Err, OnOk, OnErr}
 use Rattle.std.specs.List.{flat_map}
 use Rattle.outside.specs.Files.{said}
-use Rattle.tool_core.specs.declared.scan.Ended.{Ended}
+use Rattle.tool_core.specs.declared.scan.EndedSysEx.{EndedSysEx}
 use Rattle.tool_core.specs.SysEx.{SysExMessage, is_too_long, sysex_at, sysex_before, sysex_messages}
 use Rattle.tool_core.specs.Scans.{TellsOf}
 use Rattle.tool_core.specs.Lines.{content_line, message_line, lines_before, count_line, check_report, name_line, name_lines, list_report}
@@ -22,7 +23,8 @@ flat-append : (f : SysExMessage → List ℕ) (xs ys : List SysExMessage) → fl
 flat-append f [] ys = refl
 flat-append f (x ∷ xs) ys = ap (λ (l : List ℕ). f x ++ l) (flat-append f xs ys) ∙ sym (append_assoc (f x) (flat_map f xs) (flat_map f ys))
 
-lines_next : (file : List ℕ) (offset : ℕ) → lines_before file (offset + 1) ≡ lines_before file offset ++ flat_map message_line (option_to_list (sysex_at file offset))
+lines_next : (file : List ℕ) (offset : ℕ) → lines_before file (offset + 1) ≡ lines_before file offset
+    ++ flat_map message_line (option_to_list (sysex_at file offset))
 unfolding lines_before
 lines_next file offset =
     ap (flat_map message_line) (sysex_next file offset) ∙ flat-append message_line (sysex_before file offset) (option_to_list (sysex_at file offset))
@@ -32,12 +34,12 @@ pub told_none : (o : Option SysExMessage) → TellsOf None o → o ≡ None
 told_none None t = refl
 told_none (Some e) t = absurd t
 
-pub record IsTold (ended : Ended) (o : Option SysExMessage) : Type 0 where
+pub record IsTold (ended : EndedSysEx) (o : Option SysExMessage) : Type 0 where
   pub sysex : SysExMessage
   pub is : o ≡ Some sysex
   pub tells : TellsOf (Some ended) (Some sysex)
 
-pub told_some : (ended : Ended) (o : Option SysExMessage) → TellsOf (Some ended) o → IsTold ended o
+pub told_some : (ended : EndedSysEx) (o : Option SysExMessage) → TellsOf (Some ended) o → IsTold ended o
 told_some ended None t = absurd t
 told_some ended (Some e) t = record { sysex = e; is = refl; tells = t }
 
@@ -48,7 +50,8 @@ none_put o now page file offset is puts =
     lines_next file offset ∙ ap (λ e. lines_before file offset ++ flat_map message_line (option_to_list e)) is ∙ append-nil (lines_before file offset) in
     subst (λ (t : List ℕ). Holds o now page t) (sym same) puts
 
-pub some_put : (o now : Option (List ℕ)) (page file : List ℕ) (offset : ℕ) (e : SysExMessage) (line : List ℕ) → sysex_at file offset ≡ Some e → line ≡ message_line e
+pub some_put : (o now : Option (List ℕ)) (page file : List ℕ) (offset : ℕ) (e : SysExMessage) (line : List ℕ) → sysex_at file offset ≡ Some e
+    → line ≡ message_line e
     → Holds o now page (lines_before file offset ++ line) → Holds o now page (lines_before file (offset + 1))
 some_put o now page file offset e line is same puts =
     let next : lines_before file (offset + 1) ≡ lines_before file offset ++ line =
@@ -74,7 +77,11 @@ pub record Begins (text whole : List ℕ) : Type 0 where
   pub is : whole ≡ text ++ rest
 
 longer : (file : List ℕ) (offset more : ℕ) → Begins (lines_before file offset) (lines_before file (offset + more))
-longer file offset zero = record { rest = []; is = ap (lines_before file) (let e : offset + 0 ≡ offset = omega arith in e) ∙ sym (append-nil (lines_before file offset)) }
+longer file offset zero = record {
+  rest = [];
+  is = ap (lines_before file) (let e : offset + 0 ≡ offset = omega arith in e)
+      ∙ sym (append-nil (lines_before file offset));
+}
 longer file offset (suc more) =
     let before = longer file offset more in
     let e : offset + suc more ≡ offset + more + 1 = omega arith in
@@ -100,7 +107,8 @@ report_begins file offset within =
           ∙ append_assoc (lines_before file offset) part.rest (count_line (length (sysex_messages file)));
     }
 
-pub lines_fail : (o now : Option (List ℕ)) (file : List ℕ) (offset : ℕ) → offset ≤ length file → FailsIn (lines_before file offset) o now → FailsIn (check_report file) o now
+pub lines_fail : (o now : Option (List ℕ)) (file : List ℕ) (offset : ℕ) → offset ≤ length file → FailsIn (lines_before file offset) o now
+    → FailsIn (check_report file) o now
 lines_fail o now file offset within some =
     let b = report_begins file offset within in
     subst (λ (t : List ℕ). FailsIn t o now) (sym b.is) (fails_longer (lines_before file offset) b.rest o now some)
@@ -116,7 +124,8 @@ pub all_put : (o now : Option (List ℕ)) (text : List ℕ) → Holds o now [] t
 all_put o now text puts = puts.was_put ∙ ap (λ (l : List ℕ). option_map (said l) o) (sym (append-nil puts.prefix) ∙ puts.whole)
 
 -- ---- the line of a message
-pub frame_shown : (e : SysExMessage) (long : Bool) (message line : List ℕ) (held : Content) → long ≡ false → long ≡ is_too_long e → message ≡ e.bytes → IsFrame message held
+pub frame_shown : (e : SysExMessage) (long : Bool) (message line : List ℕ) (held : Content) → long ≡ false → long ≡ is_too_long e → message ≡ e.bytes
+    → IsFrame message held
     → line ≡ content_line (Some held) → line ≡ message_line e
 frame_shown e long message line held short tells same is shown =
     let e_short : is_too_long e ≡ false = sym tells ∙ short in
@@ -124,7 +133,8 @@ frame_shown e long message line held short tells same is shown =
     let whole : message_content e ≡ Some held = rw (e_short, something) refl in
     shown ∙ ap content_line (sym whole)
 
-pub fault_shown : (e : SysExMessage) (long : Bool) (message line : List ℕ) (fault : FrameFault) → long ≡ false → long ≡ is_too_long e → message ≡ e.bytes → first_fault message ≡ Some fault
+pub fault_shown : (e : SysExMessage) (long : Bool) (message line : List ℕ) (fault : FrameFault) → long ≡ false → long ≡ is_too_long e → message ≡ e.bytes
+    → first_fault message ≡ Some fault
     → line ≡ content_line None → line ≡ message_line e
 fault_shown e long message line fault short tells same is shown =
     let e_short : is_too_long e ≡ false = sym tells ∙ short in
@@ -155,9 +165,11 @@ err_put (Err e) o mid now page text puts along = along o text puts
 pub cause_from : {T E : Type 0} (r : Result T E) (first before now : ℕ) → before ≡ first → HasCause before now 0 0 ⊥ r → HasCause first now 0 0 ⊥ r
 cause_from r first before now same cause = subst (λ (b : ℕ). HasCause b now 0 0 ⊥ r) same cause
 
-pub report_put : (o now : Option (List ℕ)) (page file line : List ℕ) (offset count : ℕ) → offset ≡ length file → count ≡ length (sysex_before file offset) → line ≡ count_line count
+pub report_put : (o now : Option (List ℕ)) (page file line : List ℕ) (offset count : ℕ) → offset ≡ length file → count ≡ length (sysex_before file offset)
+    → line ≡ count_line count
     → Holds o now page (lines_before file offset ++ line) → Holds o now page (check_report file)
-report_put o now page file line offset count ended is same puts = subst (λ (t : List ℕ). Holds o now page t) (whole_report file line offset count ended is same) puts
+report_put o now page file line offset count ended is same puts = subst (λ (t : List ℕ).
+    Holds o now page t) (whole_report file line offset count ended is same) puts
 
 -- ---- the names of a cartridge
 pub names_none : (voices : List (List ℕ)) → name_lines voices 0 ≡ []

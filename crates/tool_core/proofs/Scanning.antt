@@ -11,10 +11,11 @@ use Rattle.command_set.specs.Message.{clamped_voice}
 use Rattle.tool_core.specs.declared.scan.Scan.{Scan}
 use Rattle.tool_core.specs.declared.refusal.Refusal.{Refusal}
 use Rattle.tool_core.specs.declared.refusal.Refusal.TheVariants.{TooLong}
-use Rattle.tool_core.specs.declared.scan.Ended.{Ended}
+use Rattle.tool_core.specs.declared.scan.EndedSysEx.{EndedSysEx}
 use Rattle.tool_core.specs.Scans.{TellsOf}
 use Rattle.tool_core.specs.SysEx.{SysExMessage, is_too_long, sysex_at, sysex_before}
-use Rattle.tool_core.specs.Refusals.{first_some, message_refusal, long_refusal, message_voice, message_cartridge, content, fault_at, voice_bytes, cartridge_bytes}
+use Rattle.tool_core.specs.Refusals.{first_some, message_refusal, long_refusal, message_voice, message_cartridge, content, fault_at, voice_bytes}
+use Rattle.tool_core.specs.Refusals.{cartridge_bytes}
 use Rattle.tool_core.specs.Scans.{HasSizes, IsScan}
 use Rattle.tool_core.proofs.Streams.{sysex_next}
 
@@ -70,7 +71,8 @@ pub record Gives (e : SysExMessage) (bad long : Option Refusal) (voice : Option 
 pub long_gives : (e : SysExMessage) → is_too_long e ≡ true → Gives e (Some (TooLong e.offset)) (Some (TooLong e.offset)) None None
 long_gives e h = record { bad_is = rw h refl; long_is = rw h refl; voice_is = rw h refl; cartridge_is = rw h refl }
 
-pub fault_gives : (e : SysExMessage) (fault : FrameFault) → is_too_long e ≡ false → first_fault e.bytes ≡ Some fault → Gives e (fault_at e.offset (Some fault)) None None None
+pub fault_gives : (e : SysExMessage) (fault : FrameFault) → is_too_long e ≡ false → first_fault e.bytes ≡ Some fault
+    → Gives e (fault_at e.offset (Some fault)) None None None
 fault_gives e fault h is =
     let nothing : content e.bytes ≡ None = no_content e.bytes fault is in
     record { bad_is = rw (h, is) refl; long_is = rw h refl; voice_is = rw (h, nothing) refl; cartridge_is = rw (h, nothing) refl }
@@ -82,7 +84,8 @@ frame_gives e held h is =
     let faultless : first_fault e.bytes ≡ None = faultless_frame e.bytes held is in
     record { bad_is = rw (h, faultless) refl; long_is = rw h refl; voice_is = rw (h, something) refl; cartridge_is = rw (h, something) refl }
 
-pub given_more : (old now : Scan) (messages : List SysExMessage) (e : SysExMessage) (bad long : Option Refusal) (voice : Option (List ℕ)) (cartridge : Option (List (List ℕ)))
+pub given_more : (old now : Scan) (messages : List SysExMessage) (e : SysExMessage) (bad long : Option Refusal) (voice : Option (List ℕ))
+    (cartridge : Option (List (List ℕ)))
     → IsScan old messages → Gives e bad long voice cartridge
     → now.bad ≡ option_or old.bad bad → now.long ≡ option_or old.long long
     → now.voice ≡ option_or old.voice voice → now.cartridge ≡ option_or old.cartridge cartridge
@@ -93,7 +96,7 @@ given_more old now messages e bad long voice cartridge was g a b c d =
     (c ∙ ap (option_or old.voice) (sym g.voice_is)) (d ∙ ap (option_or old.cartridge) (sym g.cartridge_is))
 
 -- whatever messages there were, the one that ended is after them
-abbrev pub Takes : Scan → Scan → Ended → List ℕ → Type 0
+abbrev pub Takes : Scan → Scan → EndedSysEx → List ℕ → Type 0
 Takes old now ended message =
     (messages : List SysExMessage) (sysex : SysExMessage) → (ended.offset ≡ sysex.offset) × (ended.is_too_long ≡ is_too_long sysex)
     → (is_too_long sysex ≡ false → message ≡ sysex.bytes) → IsScan old messages → IsScan now (messages ++ sysex ∷ [])
@@ -107,7 +110,7 @@ none_taken scan file offset tells was = rw (sysex_next file offset) (by_end (sys
     by_end None t = rw append-nil was
     by_end (Some e) t = absurd t
 
-pub some_taken : (scan : Scan) (file : List ℕ) (offset : ℕ) (ended : Ended) → TellsOf (Some ended) (sysex_at file offset)
+pub some_taken : (scan : Scan) (file : List ℕ) (offset : ℕ) (ended : EndedSysEx) → TellsOf (Some ended) (sysex_at file offset)
     → ((e : SysExMessage) → sysex_at file offset ≡ Some e → TellsOf (Some ended) (Some e) → IsScan scan (sysex_before file offset ++ e ∷ []))
     → IsScan scan (sysex_before file (offset + 1))
 some_taken scan file offset ended tells more = rw (sysex_next file offset) (by_end (sysex_at file offset) refl tells)
@@ -121,7 +124,7 @@ on_ok_more (Ok x) p along = along p
 on_ok_more (Err e) p along = tt
 
 -- one more message
-pub long_taken : (old now : Scan) (ended : Ended) (message : List ℕ) → ended.is_too_long ≡ true
+pub long_taken : (old now : Scan) (ended : EndedSysEx) (message : List ℕ) → ended.is_too_long ≡ true
     → now.bad ≡ option_or old.bad (Some (TooLong ended.offset)) → now.long ≡ option_or old.long (Some (TooLong ended.offset))
     → now.voice ≡ old.voice → now.cartridge ≡ old.cartridge
     → Takes old now ended message
@@ -130,7 +133,7 @@ long_taken old now ended message long a b c d = λ messages e tells same was.
     (a ∙ ap (λ (p : ℕ). option_or old.bad (Some (TooLong p))) (tells.0)) (b ∙ ap (λ (p : ℕ). option_or old.long (Some (TooLong p))) (tells.0))
     (c ∙ sym (or_none old.voice)) (d ∙ sym (or_none old.cartridge))
 
-pub fault_taken : (old now : Scan) (ended : Ended) (message : List ℕ) (fault : FrameFault) → ended.is_too_long ≡ false → first_fault message ≡ Some fault
+pub fault_taken : (old now : Scan) (ended : EndedSysEx) (message : List ℕ) (fault : FrameFault) → ended.is_too_long ≡ false → first_fault message ≡ Some fault
     → now.bad ≡ option_or old.bad (fault_at ended.offset (Some fault)) → now.long ≡ old.long
     → now.voice ≡ old.voice → now.cartridge ≡ old.cartridge
     → Takes old now ended message
@@ -140,7 +143,8 @@ fault_taken old now ended message fault short is a b c d = λ messages e tells s
     (a ∙ ap (λ (p : ℕ). option_or old.bad (fault_at p (Some fault))) (tells.0)) (b ∙ sym (or_none old.long))
     (c ∙ sym (or_none old.voice)) (d ∙ sym (or_none old.cartridge))
 
-pub frame_scanned : {T E : Type 0} (r : Result T E) (old now : Scan) (ended : Ended) (message : List ℕ) (held : Content) → ended.is_too_long ≡ false → IsFrame message held
+pub frame_scanned : {T E : Type 0} (r : Result T E) (old now : Scan) (ended : EndedSysEx) (message : List ℕ) (held : Content) → ended.is_too_long ≡ false
+    → IsFrame message held
     → now.bad ≡ old.bad → now.long ≡ old.long
     → OnOk r (now.voice ≡ option_or old.voice (option_map clamped_voice (voice_bytes held)))
     → OnOk r (now.cartridge ≡ option_or old.cartridge (option_map voices_of (cartridge_bytes held)))

@@ -36,6 +36,10 @@ parts (f ∷ files) (suc i) d below =
       count = ap suc p.count;
     }
 
+pub taken_more : (files : List ScriptFile) (i : ℕ) (d : ScriptFile) → i < length files
+    → map shown (take (i + 1) files) ≡ map shown (take i files) ++ shown (get_or files i d) ∷ []
+taken_more files i d below = (parts files i d below).next
+
 pub no_file : (o : Option Files) (files : List ScriptFile) → o ≡ option_map (written (map shown (take 0 files))) o
 no_file None files = refl
 no_file (Some told) files = refl
@@ -68,7 +72,8 @@ failed_in o mid now files i file below is was begun =
       begun = here o mid was begun;
     }
   where
-    here : (a b : Option Files) → b ≡ option_map (written (map shown (take i files))) a → IfSome b (λ (told : Files). BeginsOut told now (string_bytes file.name) file.text.items)
+    here : (a b : Option Files) → b ≡ option_map (written (map shown (take i files))) a
+        → IfSome b (λ (told : Files). BeginsOut told now (string_bytes file.name) file.text.items)
         → IfSome a (λ (told : Files). BeginsOut (written (map shown (take i files)) told) now (string_bytes file.name) file.text.items)
     here None b e h = tt
     here (Some told) b e h =
@@ -77,7 +82,8 @@ failed_in o mid now files i file below is was begun =
 
 pub all_written : (o now : Option Files) (files : List ScriptFile) (i : ℕ) → i ≡ length files
     → now ≡ option_map (written (map shown (take i files))) o → now ≡ option_map (written (map shown files)) o
-all_written o now files i ended is = is ∙ ap (λ (l : List ScriptFile). option_map (written (map shown l)) o) (ap (λ (n : ℕ). take n files) ended ∙ take-length files)
+all_written o now files i ended is = is ∙ ap (λ (l : List ScriptFile). option_map (written (map shown l)) o) (ap (λ (n : ℕ). take n files) ended
+    ∙ take-length files)
 
 -- ---- the files of generated scripts
 map_push : (files : List ScriptFile) (file : ScriptFile) → map shown (files ++ file ∷ []) ≡ map shown files ++ shown file ∷ []
@@ -100,7 +106,12 @@ count_scripts seed commands scripts files is = sym (length-map files shown) ∙ 
   where
     count : (k : ℕ) → length (scripts_of seed commands k) ≡ k
     count zero = refl
-    count (suc k) = let h = count k in omega (arith, h, length-append (scripts_of seed commands k) (output (script_name k) (generated_text seed k commands) ∷ []))
+    count (suc k) = let h = count k in omega (
+      arith,
+      h,
+      length-append (scripts_of seed commands k) (output (script_name k) (generated_text seed k commands)
+          ∷ []),
+    )
 
 named_at : (files : List ScriptFile) (earlier later : List Output) (file : Output) (d : ScriptFile) → map shown files ≡ earlier ++ file ∷ later
     → string_bytes (get_or files (length earlier) d).name ≡ file.name

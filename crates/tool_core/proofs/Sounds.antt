@@ -1,6 +1,7 @@
 -- The bytes of a sound file, chunk by chunk.
 use Rattle.take_files.specs.Playback.{PlaybackView}
-use Rattle.std.proofs.Common.{◌≡◌, ℕ, zero, suc, ◌+◌, ◌*◌, ◌≤◌, ◌-◌, List, [], ◌∷◌, ◌++◌, length, drop, refl, sym, ◌∙◌, ap, subst, arith, append_assoc, append-nil, length-append}
+use Rattle.std.proofs.Common.{◌≡◌, ℕ, zero, suc, ◌+◌, ◌*◌, ◌≤◌, ◌-◌, List, [], ◌∷◌, ◌++◌, length, drop, refl, sym, ◌∙◌, ap, subst, arith}
+use Rattle.std.proofs.Common.{append_assoc, append-nil, length-append}
 use Rattle.std.specs.Prelude.{ℤ, Option, Some, None, option_map}
 use Rattle.outside.specs.Files.{Files}
 use Rattle.std.specs.List.{flat_map}
@@ -21,13 +22,17 @@ length-header : (blocks : ℕ) → length (wav_header blocks) ≡ 44
 unfolding wav_header
 length-header blocks = refl
 
+pub header_size : (blocks : ℕ) (header : List ℕ) → header ≡ wav_header blocks → length header ≡ 44
+header_size blocks header is = ap length is ∙ length-header blocks
+
 length-samples : (s : State) → length (samples s) ≡ 64
 unfolding samples
 length-samples s = length-map-range_with_len {X = ℤ} (λ j. output_of (mix_of (modulation s) s.slots 16 j)) 0 64
 
 length-bytes : (xs : List ℤ) → length (flat_map sample_bytes xs) ≡ 2 * length xs
 length-bytes [] = refl
-length-bytes (x ∷ xs) = let two : length (sample_bytes x) ≡ 2 = refl in omega (arith, length-append (sample_bytes x) (flat_map sample_bytes xs), length-bytes xs, two)
+length-bytes (x ∷ xs) = let two : length (sample_bytes x) ≡ 2 = refl in omega
+    (arith, length-append (sample_bytes x) (flat_map sample_bytes xs), length-bytes xs, two)
 
 length-block : (journal : List LoggedData) (b : ℕ) → length (wav_block (sound journal b)) ≡ 128
 unfolding wav_block sound
@@ -36,7 +41,13 @@ length-block journal b = omega (arith, length-bytes (samples (state_at journal b
 length-blocks : (journal : List LoggedData) (b : ℕ) → length (wav_blocks journal b) ≡ 128 * b
 unfolding wav_blocks
 length-blocks journal zero = refl
-length-blocks journal (suc b) = omega (arith, length-append (wav_blocks journal b) (wav_block (sound journal b)), length-blocks journal b, length-block journal b)
+length-blocks journal (suc b) = omega (
+  arith,
+  length-append (wav_blocks journal b) (wav_block (sound journal b)),
+  length-blocks journal b,
+  length-block journal
+      b,
+)
 
 pub length-begun : (journal : List LoggedData) (blocks b : ℕ) → length (begun journal blocks b) ≡ 44 + 128 * b
 length-begun journal blocks b = omega (arith, length-append (wav_header blocks) (wav_blocks journal b), length-header blocks, length-blocks journal b)
@@ -87,7 +98,8 @@ begins journal blocks b within =
     }
 
 -- ---- a file that is compared with it
-pub header_differs : (journal : List LoggedData) (file header : List ℕ) (blocks offset : ℕ) → header ≡ wav_header blocks → IsPrefix (drop 0 file) header (Some offset)
+pub header_differs : (journal : List LoggedData) (file header : List ℕ) (blocks offset : ℕ) → header ≡ wav_header blocks
+    → IsPrefix (drop 0 file) header (Some offset)
     → IsPrefix file (wav journal blocks) (Some offset)
 header_differs journal file header blocks offset is differs =
     let b = begins journal blocks 0 (omega arith) in
@@ -113,7 +125,8 @@ module _ (journal : List LoggedData) (file chunk : List ℕ) (blocks from to at 
       (ap (λ (l : List ℕ). l ++ b.more) (sym (begun_more journal blocks from to chunk is)) ∙ sym b.is)
       (prefix_differs file (begun journal blocks from) chunk b.more at offset prefix (is_at ∙ sym (length-begun journal blocks from)) differs)
 
-pub sound_prefix : (journal : List LoggedData) (file : List ℕ) (blocks b : ℕ) → b ≡ blocks → IsPrefix file (begun journal blocks b) None → IsPrefix file (wav journal blocks) None
+pub sound_prefix : (journal : List LoggedData) (file : List ℕ) (blocks b : ℕ) → b ≡ blocks → IsPrefix file (begun journal blocks b) None
+    → IsPrefix file (wav journal blocks) None
 sound_prefix journal file blocks b is prefix = subst (λ (l : List ℕ). IsPrefix file l None) (begun_all journal blocks b is) prefix
 
 -- ---- a file that is written with it
@@ -132,7 +145,8 @@ pub header_begun : (journal : List LoggedData) (blocks : ℕ) (header : List ℕ
     → option_map (with_out out header) o ≡ option_map (with_out out (begun journal blocks 0)) o
 header_begun journal blocks header is out o = ap (λ (l : List ℕ). option_map (with_out out l) o) (is ∙ sym (begun_none journal blocks))
 
-pub chunk_begun : (journal : List LoggedData) (blocks from to : ℕ) (chunk : List ℕ) → wav_blocks journal to ≡ wav_blocks journal from ++ chunk → (out : List ℕ) (o : Option Files)
+pub chunk_begun : (journal : List LoggedData) (blocks from to : ℕ) (chunk : List ℕ) → wav_blocks journal to ≡ wav_blocks journal from ++ chunk
+    → (out : List ℕ) (o : Option Files)
     → option_map (with_out out (begun journal blocks from ++ chunk)) o ≡ option_map (with_out out (begun journal blocks to)) o
 chunk_begun journal blocks from to chunk is out o = ap (λ (l : List ℕ). option_map (with_out out l) o) (sym (begun_more journal blocks from to chunk is))
 

@@ -16,10 +16,12 @@ take_next file offset byte below is = (take_at_read file offset 0 below).1 ∙ a
 answered : (r : Option MidiMessage) (before now : List MidiMessage) → Answers r before now → slice_get now (length before) ≡ r
 answered None before now e = slice_get_past now (length before) (let same : length now ≡ length before = ap length e in omega arith)
 answered (Some m) before now e =
-    rw e (slice_get-get_or (before ++ m ∷ []) (length before) m (let more : length (before ++ m ∷ []) ≡ length before + 1 = length-append before (m ∷ []) in omega arith)
+    rw e (slice_get-get_or (before ++ m ∷ []) (length before) m (let more : length (before ++ m ∷ []) ≡ length before + 1 = length-append before (m ∷ []) in
+    omega arith)
     ∙ ap (λ (x : MidiMessage). Some x) (get_or-append_seam before m [] m))
 
-pub message_told : (r : Option MidiMessage) (file : List ℕ) (offset : ℕ) → Answers r (messages (take offset file)) (messages (take (offset + 1) file)) → message_at file offset ≡ r
+pub message_told : (r : Option MidiMessage) (file : List ℕ) (offset : ℕ) → Answers r (messages (take offset file)) (messages (take (offset + 1) file))
+    → message_at file offset ≡ r
 unfolding message_at
 message_told r file offset e = answered r (messages (take offset file)) (messages (take (offset + 1) file)) e
 

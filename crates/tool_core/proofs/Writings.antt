@@ -1,6 +1,6 @@
 -- The one file that is written.
 use Rattle.std.proofs.Common.{◌≡◌, inl, inr, ℕ, ◌+◌, List, [], ◌++◌, length, take, refl, sym, ◌∙◌, ap, append_assoc}
-use Rattle.std.proofs.Math.Seq.{take-append_seam, take-append-add}
+use Rattle.std.proofs.Math.Seq.{take-append_seam, take-append-add, take-length}
 use Rattle.std.proofs.lemmas.List.{take-append-le}
 use Rattle.std.specs.Prelude.{Option, Some, None, option_map, is_some, IfSome, true, false}
 use Rattle.std.specs.FinMap.{get, insert}
@@ -36,6 +36,10 @@ prefix_begun : (o now : Option Files) (out text : List ℕ) (count : ℕ) → no
 prefix_begun None now out text count is = tt
 prefix_begun (Some m) now out text count is = rw is (begun_prefix m out text count)
 
+pub begun_whole : (o now : Option Files) (out text : List ℕ) → now ≡ option_map (with_out out text) o → IfSome o (λ m. BeginsOut m now out text)
+begun_whole o now out text is =
+    prefix_begun o now out text (length text) (is ∙ ap (λ (l : List ℕ). option_map (with_out out l) o) (sym (take-length text)))
+
 none_appended : (o first : Option Files) (out : List ℕ) → first ≡ option_map (created out) o → first ≡ option_map (with_out out []) o
 none_appended o first out made = made
 
@@ -56,13 +60,15 @@ has_created (Some m) first out is lacks =
     cc
 
 -- ---- a file that is written chunk by chunk
-pub chunk_written : (o before now : Option Files) (out prefix chunk : List ℕ) → before ≡ option_map (with_out out prefix) o → now ≡ option_map (appended out chunk) before
+pub chunk_written : (o before now : Option Files) (out prefix chunk : List ℕ) → before ≡ option_map (with_out out prefix) o
+    → now ≡ option_map (appended out chunk) before
     → now ≡ option_map (with_out out (prefix ++ chunk)) o
 chunk_written o before now out prefix chunk was is =
     is ∙ ap (option_map (appended out chunk)) was ∙ then_mapped (with_out out prefix) (appended out chunk) o
     ∙ mapped_alike _ _ (λ m. appended_second m out prefix chunk) o
 
-pub begun_at_chunk : (o before now : Option Files) (out prefix chunk more whole : List ℕ) → before ≡ option_map (with_out out prefix) o → whole ≡ (prefix ++ chunk) ++ more
+pub begun_at_chunk : (o before now : Option Files) (out prefix chunk more whole : List ℕ) → before ≡ option_map (with_out out prefix) o
+    → whole ≡ (prefix ++ chunk) ++ more
     → AppendedSome out chunk before now → IfSome o (λ m. BeginsOut m now out whole)
 begun_at_chunk o before now out prefix chunk more whole was is (inl same) =
     prefix_begun o now out whole (length prefix)

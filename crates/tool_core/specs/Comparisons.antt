@@ -1,7 +1,7 @@
 -- Two files compared byte by byte.
-use Rattle.std.specs.Prelude.{ℕ, ◌≡◌, ◌≢◌, ◌<◌, ◌≤◌, List, ◌++◌, take, length, slice_get, Option, Some, None}
-use Rattle.tool_core.specs.declared.comparison.Step.{Step}
-use Rattle.tool_core.specs.declared.comparison.Step.TheVariants.{Same, Differs}
+use Rattle.std.specs.Prelude.{ℕ, ◌≡◌, ◌≢◌, ◌+◌, ◌<◌, ◌≤◌, List, ◌++◌, take, length, slice_get, Option, Some, None}
+use Rattle.tool_core.specs.declared.comparison.Comparison.{Comparison}
+use Rattle.tool_core.specs.declared.comparison.Comparison.TheVariants.{Same, Differs}
 
 -- the first offset at which two files differ: they have the same bytes before it, and another byte at it, or one of them ends there
 pub record DiffersAt (file other : List ℕ) (offset : ℕ) : Type 0 where
@@ -19,11 +19,20 @@ IsPrefix file prefix None = (rest : List ℕ) × (file ≡ prefix ++ rest)
 IsPrefix file prefix (Some offset) = (offset < length prefix) × DiffersAt file prefix offset
 
 -- a step goes at least one byte further, and within so many
-abbrev pub IsWithin : Step → ℕ → Type 0
+abbrev pub IsWithin : Comparison → ℕ → Type 0
 IsWithin (Same count) most = (0 < count) × (count ≤ most)
 IsWithin (Differs offset) most = offset < most
 
+-- a read that gave so many bytes, all of them the same, went on by so many
+abbrev pub IsWhole : Comparison → ℕ → Type 0
+IsWhole (Same count) size = count ≡ size
+IsWhole (Differs offset) size = Unit {0}
+
+abbrev pub GoesOn : Comparison → ℕ → ℕ → Type 0
+GoesOn (Same count) before now = now ≡ before + count
+GoesOn (Differs offset) before now = Unit {0}
+
 -- the first bytes are the same, or they differ
-abbrev pub IsStep : Step → List ℕ → List ℕ → Type 0
+abbrev pub IsStep : Comparison → List ℕ → List ℕ → Type 0
 IsStep (Same count) file prefix = take count file ≡ take count prefix
 IsStep (Differs offset) file prefix = DiffersAt file prefix offset

@@ -10,7 +10,7 @@ use Rattle.take_files.specs.Orders.{IsOrder, OrderData}
 use Rattle.generator.specs.Generated.{generated_text, generated_journal, sum_of_samples}
 use Rattle.tool_core.specs.Refusals.{AllMessages, OneVoice, OneCartridge, voice_in, cartridge_in}
 use Rattle.tool_core.specs.Comparisons.{IsCompared}
-use Rattle.tool_core.specs.Words.{RequestData, Check, Names, Pick, Pack, Replay, Verify, Gen, Bench}
+use Rattle.tool_core.specs.Words.{RequestData, Check, ListVoices, Pick, Pack, Replay, Verify, Gen, Bench}
 use Rattle.tool_core.specs.Inputs.{Input, input, Midi, AnOrder, ASound}
 use Rattle.tool_core.specs.Lines.{ok_line, same_line, differs_line, check_report, list_report, script_name, scripts_line, bench_line}
 
@@ -69,7 +69,7 @@ comparison (Some offset) = record { status = 7; writes = []; prints = differs_li
 -- the files that a command reads, in order
 abbrev pub reads : RequestData → List Input
 reads (Check file) = input file (Midi AllMessages) ∷ []
-reads (Names file) = input file (Midi OneCartridge) ∷ []
+reads (ListVoices file) = input file (Midi OneCartridge) ∷ []
 reads (Pick file slot out) = input file (Midi OneCartridge) ∷ []
 reads (Pack out files) = map (λ file. input file (Midi OneVoice)) files
 reads (Replay order out) = input order AnOrder ∷ []
@@ -81,7 +81,7 @@ reads (Bench seed blocks) = []
 -- Messages that are written have the device number 0.
 abbrev pub HasEffect : RequestData → Option Files → Effect → Type 0
 HasEffect (Check file) files d = (text : List ℕ) × (d ≡ prints text) × IfSome files (λ told. text ≡ check_report (content told file))
-HasEffect (Names file) files d = (text : List ℕ) × (d ≡ prints text) × IfSome files (λ told. text ≡ list_report (cartridge_of told file))
+HasEffect (ListVoices file) files d = (text : List ℕ) × (d ≡ prints text) × IfSome files (λ told. text ≡ list_report (cartridge_of told file))
 HasEffect (Pick file slot out) files d =
     (text : List ℕ) × (d ≡ writes out text) × IfSome files (λ told. IsFrame text (VoiceDump 0 (picked told file slot)))
 HasEffect (Pack out names) files d = (text : List ℕ) × (d ≡ writes out text) × IfSome files (λ told. IsMessageOf (packed told names) 0 text)

@@ -14,3 +14,4 @@ pub mod Packing
 pub mod Endings
 pub mod Scripts
 pub mod Pages
+pub mod Reads

@@ -65,12 +65,19 @@ shown byte = if nat_le 32 byte && nat_le byte 126 then byte else 46
 abbrev pub shown_name : List ℕ → List ℕ
 shown_name voice = map shown (slice_range voice 145 155)
 
+-- the line of a voice by its bytes, and that of a parameter and its new value
+unfoldable pub voice_line : List ℕ → List ℕ
+voice_line payload = codes "voice " ++ (shown_name (clamped_voice payload) ++ 10 ∷ [])
+
+unfoldable pub param_line : ℕ → ℕ → List ℕ
+param_line number value = codes "param " ++ (decimal number ++ (32 ∷ (decimal value ++ 10 ∷ [])))
+
 -- the line of a message
 unfoldable pub content_line : Option Content → List ℕ
 content_line None = codes "other" ++ 10 ∷ []
-content_line (Some (VoiceDump device payload)) = codes "voice " ++ (shown_name (clamped_voice payload) ++ 10 ∷ [])
+content_line (Some (VoiceDump device payload)) = voice_line payload
 content_line (Some (CartridgeDump device payload)) = codes "cartridge" ++ 10 ∷ []
-content_line (Some (ParamChange device number value)) = codes "param " ++ (decimal number ++ (32 ∷ (decimal value ++ 10 ∷ [])))
+content_line (Some (ParamChange device number value)) = param_line number value
 content_line (Some (OtherChange device group number)) = codes "other" ++ 10 ∷ []
 content_line (Some (DumpRequest device)) = codes "request" ++ 10 ∷ []
 

@@ -1,16 +1,14 @@
 -- Why a file is refused.
-use Rattle.std.specs.Prelude.{ℕ, Bool, true, false, List, [], ◌∷◌, length, Option, Some, None}
+use Rattle.std.specs.Prelude.{ℕ, List, [], ◌∷◌, length, Option, Some, None}
 use Rattle.std.specs.Prelude.{is_none, option_map, option_and_then, if◌then◌else◌}
 use Rattle.std.specs.Option.{option_or}
 use Rattle.midi_stream.specs.Messages.{is_unfinished}
 use Rattle.cartridge.specs.Cartridge.{voices_of}
 use Rattle.sysex_frame.specs.Frame.{Content, VoiceDump, CartridgeDump, ParamChange, OtherChange, DumpRequest}
-use Rattle.sysex_frame.specs.FrameFault.{first_fault}
-use Rattle.sysex_frame.specs.Reading.{reading}
+use Rattle.sysex_frame.specs.FrameFault.{first_fault, is_foreign}
+use Rattle.sysex_frame.specs.ParsedFrame.{reading}
 use Rattle.command_set.specs.Message.{clamped_voice}
 use Rattle.sysex_frame.specs.declared.frame.FrameFault.{FrameFault}
-use Rattle.sysex_frame.specs.declared.frame.FrameFault.TheVariants.{NotFramed, NotYamaha, DataByte, Short, UnknownSubstatus}
-use Rattle.sysex_frame.specs.declared.frame.FrameFault.TheVariants.{UnknownFormat, CountBytes, Length, Checksum, ParamValue}
 use Rattle.tool_core.specs.declared.refusal.Refusal.{Refusal}
 use Rattle.tool_core.specs.declared.refusal.Refusal.TheVariants.{TooLong, Fault, Cut, NoVoice, NoCartridge}
 use Rattle.tool_core.specs.SysEx.{SysExMessage, sysex_messages, is_too_long}
@@ -24,19 +22,7 @@ abbrev pub first_some : {X : Type 0} → (SysExMessage → Option X) → List Sy
 first_some f [] = None
 first_some f (sysex ∷ later) = option_or (f sysex) (first_some f later)
 
--- a message with another manufacturer ID, or of a kind that the DX7 doesn't know: it is passed over
-abbrev pub is_foreign : FrameFault → Bool
-is_foreign NotFramed = false
-is_foreign NotYamaha = true
-is_foreign (DataByte offset) = false
-is_foreign (Short length) = false
-is_foreign (UnknownSubstatus found) = true
-is_foreign (UnknownFormat found) = true
-is_foreign (CountBytes high low) = false
-is_foreign (Length found wanted) = false
-is_foreign (Checksum found wanted) = false
-is_foreign (ParamValue number value) = false
-
+-- a message that is none of the DX7's is passed over
 abbrev pub fault_at : ℕ → Option FrameFault → Option Refusal
 fault_at offset None = None
 fault_at offset (Some fault) = if is_foreign fault then None else Some (Fault offset fault)

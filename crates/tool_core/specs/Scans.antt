@@ -1,9 +1,9 @@
 -- For private functions and proofs: the scan of a file, how far it went, and what is known of the messages so far.
 use Rattle.std.specs.Prelude.{ℕ, ◌≡◌, List, length, take, Option, Some, None}
-use Rattle.midi_stream.specs.Reading.{Reads}
+use Rattle.midi_stream.specs.FedStream.{Reads}
 use Rattle.sysex_frame.specs.Frame.{Content, VoiceDump, CartridgeDump, ParamChange, OtherChange, DumpRequest}
 use Rattle.tool_core.specs.declared.scan.Scanner.{Scanner}
-use Rattle.tool_core.specs.declared.scan.Ended.{Ended}
+use Rattle.tool_core.specs.declared.scan.EndedSysEx.{EndedSysEx}
 use Rattle.tool_core.specs.declared.scan.Scan.{Scan}
 use Rattle.tool_core.specs.SysEx.{SysExMessage, is_too_long, start_before}
 use Rattle.tool_core.specs.Refusals.{first_some, message_refusal, long_refusal, message_voice, message_cartridge}
@@ -14,7 +14,7 @@ pub record Follows (scanner : Scanner) (file : List ℕ) (offset : ℕ) : Type 0
   pub start : scanner.start ≡ start_before file offset
 
 -- an answer tells of this message, or of none
-abbrev pub TellsOf : Option Ended → Option SysExMessage → Type 0
+abbrev pub TellsOf : Option EndedSysEx → Option SysExMessage → Type 0
 TellsOf None None = Unit {0}
 TellsOf None (Some sysex) = ⊥
 TellsOf (Some ended) None = ⊥

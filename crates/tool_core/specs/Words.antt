@@ -11,7 +11,7 @@ use Rattle.plain_text.specs.Words.{is_nonempty}
 -- `gen SEED SCRIPTS COMMANDS` or `bench SEED BLOCKS`
 pub data RequestData : Type 0 where
   Check : List ℕ → RequestData
-  Names : List ℕ → RequestData
+  ListVoices : List ℕ → RequestData
   Pick : List ℕ → ℕ → List ℕ → RequestData
   Pack : List ℕ → List (List ℕ) → RequestData
   Replay : List ℕ → List ℕ → RequestData
@@ -22,7 +22,7 @@ pub data RequestData : Type 0 where
 -- the same of a value of the program
 abbrev pub request_data : Request → RequestData
 request_data (request.Check file) = Check file.now
-request_data (request.Names file) = Names file.now
+request_data (request.List file) = ListVoices file.now
 request_data (request.Pick file slot out) = Pick file.now slot out.now
 request_data (request.Pack out files) = Pack out.now (map string_bytes files.now)
 request_data (request.Replay order out) = Replay order.now out.now
@@ -56,11 +56,11 @@ unfoldable pub is_bench : List ℕ → Bool
 is_bench word = bytes_eq word (codes "bench")
 
 -- no name is empty, and a name that is read differs from the one that is written
-abbrev pub is_read : List ℕ → List ℕ → Bool
-is_read out name = is_nonempty name && not (bytes_eq name out)
+abbrev pub may_read : List ℕ → List ℕ → Bool
+may_read out name = is_nonempty name && not (bytes_eq name out)
 
-abbrev pub are_read : List ℕ → List (List ℕ) → Bool
-are_read out names = list_all (λ name. is_read out name) names
+abbrev pub may_read_all : List ℕ → List (List ℕ) → Bool
+may_read_all out names = list_all (λ name. may_read out name) names
 
 -- FILE
 abbrev pub file_of_words : List (List ℕ) → Option (List ℕ)
@@ -71,7 +71,7 @@ file_of_words (file ∷ next ∷ later) = None
 -- FILE SLOT OUT
 abbrev pub pick_of : List ℕ → List ℕ → List ℕ → Option RequestData
 pick_of file slot out =
-    if is_nonempty out && is_read out file then option_map (λ n. Pick file n out) (number 0 31 slot) else None
+    if is_nonempty out && may_read out file then option_map (λ n. Pick file n out) (number 0 31 slot) else None
 
 abbrev pub pick_of_words : List (List ℕ) → Option RequestData
 pick_of_words (file ∷ slot ∷ out ∷ []) = pick_of file slot out
@@ -81,11 +81,11 @@ pick_of_words words = None
 abbrev pub pack_of_words : List (List ℕ) → Option RequestData
 pack_of_words [] = None
 pack_of_words (out ∷ files) =
-    if is_nonempty out && (nat_lt 0 (length files) && (nat_le (length files) 32 && are_read out files)) then Some (Pack out files) else None
+    if is_nonempty out && (nat_lt 0 (length files) && (nat_le (length files) 32 && may_read_all out files)) then Some (Pack out files) else None
 
 -- ORDER OUT
 abbrev pub replay_of_words : List (List ℕ) → Option RequestData
-replay_of_words (order ∷ out ∷ []) = if is_nonempty out && is_read out order then Some (Replay order out) else None
+replay_of_words (order ∷ out ∷ []) = if is_nonempty out && may_read out order then Some (Replay order out) else None
 replay_of_words words = None
 
 -- ORDER WAV; the two may be one file
@@ -132,7 +132,7 @@ request_of_order command words =
 abbrev pub request_of : List ℕ → List (List ℕ) → Option RequestData
 request_of command words =
     if is_check command then option_map (λ file. Check file) (file_of_words words)
-    else (if is_list command then option_map (λ file. Names file) (file_of_words words)
+    else (if is_list command then option_map (λ file. ListVoices file) (file_of_words words)
     else (if is_pick command then pick_of_words words
     else (if is_pack command then pack_of_words words else request_of_order command words)))
 
@@ -143,7 +143,7 @@ requested_by (command ∷ words) = request_of command words
 -- a slot is at most 31, 1 to 32 files are packed, 1 to 256 scripts of at most 100,000 commands are generated, and at most 100,000 blocks are played
 abbrev pub IsInRange : Request → Type 0
 IsInRange (request.Check file) = Unit {0}
-IsInRange (request.Names file) = Unit {0}
+IsInRange (request.List file) = Unit {0}
 IsInRange (request.Pick file slot out) = slot ≤ 31
 IsInRange (request.Pack out files) = (0 < length files.now) × (length files.now ≤ 32)
 IsInRange (request.Replay order out) = Unit {0}

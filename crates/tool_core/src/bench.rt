@@ -7,14 +7,14 @@ ghost use Rattle.tool_core.specs.Endings.{Ends};
 ghost use Rattle.tool_core.specs.Words as words;
 
 use crate::failure::{Failure, refuse};
-use crate::line::{Line, bench_line};
 use crate::output_file::put_report;
+use crate::output_line::{OutputLine, bench_line};
 use generator::{Played, play_generated};
 use outside::{Out, Shelf};
 use std::alloc::Global;
 
 /// `bench SEED BLOCKS`: how many commands of four generated scripts were played in so many blocks, and the sum of all samples.
-pub fn bench<S: Shelf, O: Out>(
+pub(crate) fn bench<S: Shelf, O: Out>(
     alloc: Global,
     seed: u64,
     blocks: u32,
@@ -36,7 +36,7 @@ pub fn bench<S: Shelf, O: Out>(
 }
 
 /// The line of what was played.
-fn line_of(played: Played, blocks: u32) -> Line
+fn line_of(played: Played, blocks: u32) -> OutputLine
     ensures { result.items ≡ lines.bench_line played.commands blocks played.sum }
 {
     bench_line(played.commands, blocks, played.sum)

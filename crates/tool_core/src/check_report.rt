@@ -4,7 +4,7 @@ ghost use Rattle.std.specs.Prelude.{ℕ, ◌≡◌, ◌≤◌, ◌<◌, ◌+◌,
 ghost use Rattle.std.specs.Prelude.{IfOk, option_map, option_to_list};
 ghost use Rattle.outside.specs.Faults.{HasCause};
 ghost use Rattle.outside.specs.Files.{said};
-ghost use Rattle.sysex_frame.specs.Frame.{content_of, ParamChange, VoiceDump};
+ghost use Rattle.sysex_frame.specs.Frame.{content_of};
 ghost use Rattle.tool_core.specs.SysEx.{SysExMessage, sysex_at, is_too_long};
 ghost use Rattle.tool_core.specs.Lines as lines;
 ghost use Rattle.tool_core.specs.Lines.{check_report, content_line, lines_before};
@@ -13,9 +13,9 @@ ghost use Rattle.tool_core.specs.Pages.{FailsIn, Holds};
 ghost use Rattle.tool_core.specs.Scans.{Follows, TellsOf};
 ghost use Rattle.tool_core.specs.Scans.{HasSizes};
 
-use crate::line::{Line, line_of, push_name};
+use crate::output_line::{OutputLine, line_of, push_name};
 use crate::page::{Page, put_line, put_page};
-use crate::scan::{Ended, Scanner, clamp};
+use crate::scan::{EndedSysEx, Scanner, clamp};
 use outside::{Failed, Out};
 use plain_text::{push_number, push_text};
 use sysex_frame::{Frame, read_frame};
@@ -44,7 +44,7 @@ fn put_messages<O: Out>(out: &mut O, mut scanner: Scanner, file: &[u8]) -> Resul
 }
 
 /// Puts the report of a check, and answers 0, or 3 where the output fails.
-pub fn put_check<O: Out>(out: &mut O, scanner: Scanner, file: &[u8]) -> u8
+pub(crate) fn put_check<O: Out>(out: &mut O, scanner: Scanner, file: &[u8]) -> u8
     requires short { length file.now ≤ 16777216 }
     requires begins { Follows scanner file.now 0 }
     ensures { Puts 0 (check_report file.now) result (O.written out.old) (O.written out.new) (O.faults out.old) (O.faults out.new) }
@@ -89,7 +89,7 @@ fn put_byte<O: Out>(
 }
 
 /// The line of a message that has ended.
-fn message_line(ended: Ended, message: &[u8]) -> Line
+fn message_line(ended: EndedSysEx, message: &[u8]) -> OutputLine
     requires { length message.now ≤ 5000 }
     ensures { (sysex : SysExMessage) → TellsOf (Some ended) (Some sysex) → (is_too_long sysex ≡ false → message.now ≡ sysex.bytes)
         → result.items ≡ lines.message_line sysex }
@@ -104,34 +104,30 @@ fn message_line(ended: Ended, message: &[u8]) -> Line
 }
 
 #[tactic(auto, unfolding(crate::specs::Lines::content_line))]
-fn other_line() -> Line
+fn other_line() -> OutputLine
     ensures { result.items ≡ content_line None }
 {
     line_of(b"other\n")
 }
 
 #[tactic(auto, unfolding(crate::specs::Lines::content_line))]
-fn frame_line(frame: Frame<'_>) -> Line
+fn frame_line(frame: Frame<'_>) -> OutputLine
     requires { HasSizes (content_of frame) }
     ensures { result.items ≡ content_line (Some (content_of frame.entry)) }
 {
     match frame {
-        Frame::Voice { device, payload } => voice_line(device, payload),
+        Frame::Voice { payload, .. } => voice_line(payload),
         Frame::Cartridge { .. } => line_of(b"cartridge\n"),
-        Frame::Param {
-            device,
-            number,
-            value,
-        } => param_line(device, number, value),
+        Frame::Param { number, value, .. } => param_line(number, value),
         Frame::OtherParam { .. } => line_of(b"other\n"),
         Frame::Request { .. } => line_of(b"request\n"),
     }
 }
 
-#[tactic(auto, unfolding(crate::specs::Lines::content_line))]
-fn voice_line(_device: u8, payload: &[u8]) -> Line
+#[tactic(auto, unfolding(crate::specs::Lines::voice_line))]
+fn voice_line(payload: &[u8]) -> OutputLine
     requires { length payload.now ≡ 155 }
-    ensures { result.items ≡ content_line (Some (VoiceDump _device payload.now)) }
+    ensures { result.items ≡ lines.voice_line payload.now }
 {
     let voice = clamp(payload);
     let mut line = line_of(b"voice ");
@@ -140,9 +136,9 @@ fn voice_line(_device: u8, payload: &[u8]) -> Line
     line
 }
 
-#[tactic(auto, unfolding(crate::specs::Lines::content_line))]
-fn param_line(_device: u8, number: u8, value: u8) -> Line
-    ensures { result.items ≡ content_line (Some (ParamChange _device number value)) }
+#[tactic(auto, unfolding(crate::specs::Lines::param_line))]
+fn param_line(number: u8, value: u8) -> OutputLine
+    ensures { result.items ≡ lines.param_line number value }
 {
     let mut line = line_of(b"param ");
     push_number(&mut line, u32::from(number));
@@ -153,7 +149,7 @@ fn param_line(_device: u8, number: u8, value: u8) -> Line
 }
 
 #[tactic(auto, unfolding(crate::specs::Lines::count_line))]
-fn count_line(count: u32) -> Line
+fn count_line(count: u32) -> OutputLine
     ensures { result.items ≡ lines.count_line count }
 {
     let mut line = line_of(b"messages ");

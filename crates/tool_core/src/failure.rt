@@ -6,7 +6,7 @@ ghost use Rattle.tool_core.specs.Failures.{line_of, status_of};
 ghost use Rattle.tool_core.specs.Lines as lines;
 ghost use Rattle.tool_core.specs.declared.failure.Failure.TheVariants.{Memory};
 
-use crate::line::refusal_line;
+use crate::output_line::refusal_line;
 use crate::refusal::Refusal;
 use fault_lines::{say, say_cannot_read, say_limit_commands, say_limit_file, say_out_of_memory};
 use outside::Out;
@@ -14,7 +14,7 @@ use std::alloc::AllocError;
 
 /// Why a command fails before it writes.
 #[derive(Clone, Copy, Debug, PartialEq, Eq)]
-pub enum Failure {
+pub(crate) enum Failure {
     /// A file can't be read.
     Unread,
     /// It has too many bytes.
@@ -36,7 +36,7 @@ impl From<AllocError> for Failure {
 }
 
 /// Puts the line of a failure, and answers its status.
-pub fn refuse<O: Out>(out: &mut O, name: &str, why: Failure) -> u8
+pub(crate) fn refuse<O: Out>(out: &mut O, name: &str, why: Failure) -> u8
     ensures status { result ≡ status_of why }
     ensures line { Says (line_of why name.now) (O.written out.old) (O.written out.new) (O.faults out.old) (O.faults out.new) }
 {
@@ -66,14 +66,14 @@ pub fn refuse<O: Out>(out: &mut O, name: &str, why: Failure) -> u8
 
 /// Puts the line that shows how the program is used.
 #[tactic(auto, unfolding(crate::specs::Lines::usage))]
-pub fn say_usage<O: Out>(out: &mut O)
+pub(crate) fn say_usage<O: Out>(out: &mut O)
     ensures { Says lines.usage (O.written out.old) (O.written out.new) (O.faults out.old) (O.faults out.new) }
 {
     say(out, b"usage: tool COMMAND WORDS...\n");
 }
 
 /// Puts the line of a refusal.
-pub fn say_refusal<O: Out>(out: &mut O, why: Refusal)
+pub(crate) fn say_refusal<O: Out>(out: &mut O, why: Refusal)
     ensures { Says (lines.refusal_line why) (O.written out.old) (O.written out.new) (O.faults out.old) (O.faults out.new) }
 {
     let line = refusal_line(why);

@@ -1,6 +1,6 @@
 //! The command that writes generated scripts.
 
-ghost use Rattle.std.specs.Prelude.{◌≡◌, ◌≤◌, ◌<◌, ◌*◌, IfErr, IfOk, IfSome, OnErr, OnOk, length, map, option_map, string_bytes};
+ghost use Rattle.std.specs.Prelude.{ℕ, List, ◌≡◌, ◌≢◌, ◌≤◌, ◌<◌, ◌*◌, IfErr, IfOk, IfSome, OnErr, OnOk, length, map, option_map, string_bytes};
 ghost use Rattle.std.specs.FinMap.{insert};
 ghost use Rattle.generator.specs.Generated.{generated_text};
 ghost use Rattle.outside.specs.Faults.{HasCause};
@@ -9,13 +9,14 @@ ghost use Rattle.tool_core.specs.Effects.{scripts_of, written};
 ghost use Rattle.tool_core.specs.Endings.{Ends, Finishes};
 ghost use Rattle.tool_core.specs.Lines as lines;
 ghost use Rattle.tool_core.specs.Lines.{script_name};
-ghost use Rattle.tool_core.specs.Outcomes.{BeginsOut};
+ghost use Rattle.tool_core.specs.Outcomes.{BeginsOut, WasDone};
+ghost use Rattle.tool_core.specs.Reads.{HoldsNone, HoldsNothing};
 ghost use Rattle.tool_core.specs.Scripts.{FailsWriting, shown};
 ghost use Rattle.tool_core.specs.Words as words;
 
 use crate::failure::{Failure, refuse};
-use crate::line::scripts_line;
 use crate::output_file::{put_report, write_whole};
+use crate::output_line::scripts_line;
 use fault_lines::say_cannot_write;
 use generator::script_text;
 use outside::{Failed, Out, Shelf};
@@ -23,13 +24,13 @@ use std::alloc::{AllocError, Global};
 
 /// A file that is to be written.
 #[derive(Drop)]
-pub struct ScriptFile {
-    pub name: String,
-    pub text: Vec<u8>,
+pub(crate) struct ScriptFile {
+    pub(crate) name: String,
+    pub(crate) text: Vec<u8>,
 }
 
 /// `gen SEED SCRIPTS COMMANDS`: so many generated scripts, each in a file of its own. All memory is asked for first.
-pub fn generate<S: Shelf, O: Out>(
+pub(crate) fn generate<S: Shelf, O: Out>(
     alloc: Global,
     seed: u64,
     scripts: u32,
@@ -40,9 +41,10 @@ pub fn generate<S: Shelf, O: Out>(
     requires scripts { scripts ≤ 256 }
     requires commands { commands ≤ 100000 }
     requires all { scripts * commands ≤ 1000000 }
-    ensures { Ends (words.Gen seed scripts commands) result
+    ensures ends { Ends (words.Gen seed scripts commands) result
         (snapshot (S.files shelf.old) (S.reading shelf.old) (S.writing shelf.old) (O.written out.old) (O.faults out.old))
         (snapshot (S.files shelf.new) (S.reading shelf.new) (S.writing shelf.new) (O.written out.new) (O.faults out.new)) }
+    ensures held { WasDone result → HoldsNothing (words.Gen seed scripts commands) (S.held shelf.new) }
 {
     match make_scripts(alloc, seed, scripts, commands) {
         Ok(files) => finish_scripts(&files, scripts * commands, shelf, out),
@@ -99,9 +101,10 @@ fn finish_scripts<S: Shelf, O: Out>(
     out: &mut O,
 ) -> u8
     requires few { length files.now ≤ 256 }
-    ensures { Finishes (record { status = 0; writes = map shown files.now; prints = lines.scripts_line (length files.now) commands }) result
+    ensures finishes { Finishes (record { status = 0; writes = map shown files.now; prints = lines.scripts_line (length files.now) commands }) result
         (snapshot (S.files shelf.old) (S.reading shelf.old) (S.writing shelf.old) (O.written out.old) (O.faults out.old))
         (snapshot (S.files shelf.new) (S.reading shelf.new) (S.writing shelf.new) (O.written out.new) (O.faults out.new)) }
+    ensures held { WasDone result → HoldsNone (map shown files.now) (S.held shelf.new) }
 {
     match write_scripts(shelf, files) {
         Ok(()) => {
@@ -121,6 +124,7 @@ fn write_scripts<S: Shelf>(shelf: &mut S, files: &[ScriptFile]) -> Result<(), us
     ensures at { IfErr result (λ at. at < length files.now) }
     ensures failed { IfErr result (λ at. FailsWriting at (map shown files.now) (S.files shelf.old) (S.files shelf.new)) }
     ensures cause { HasCause (S.writing shelf.old) (S.writing shelf.new) (S.reading shelf.old) (S.reading shelf.new) ⊥ result }
+    ensures held { OnOk result (HoldsNone (map shown files.now) (S.held shelf.new)) }
 {
     for at in 0..files.len() {
         match write_script(shelf, &files[at]) {
@@ -138,6 +142,8 @@ fn write_script<S: Shelf>(shelf: &mut S, file: &ScriptFile) -> Result<(), Failed
     ensures begun { OnErr result (IfSome (S.files shelf.old) (λ files.
         BeginsOut files (S.files shelf.new) (string_bytes file.now.name) file.now.text.items)) }
     ensures cause { HasCause (S.writing shelf.old) (S.writing shelf.new) (S.reading shelf.old) (S.reading shelf.new) ⊥ result }
+    ensures held { OnOk result (S.held shelf.new (string_bytes file.now.name) ≡ 0) }
+    ensures held_of_others { (other : List ℕ) → other ≢ (string_bytes file.now.name) → S.held shelf.new other ≤ S.held shelf.old other }
 {
     write_whole(shelf, file.name.as_str(), file.text.as_slice())
 }

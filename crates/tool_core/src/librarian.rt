@@ -1,8 +1,9 @@
 //! The commands on files of voices.
 
-ghost use Rattle.std.specs.Prelude.{◌<◌, ◌≤◌, length, map, string_bytes};
+ghost use Rattle.std.specs.Prelude.{◌≡◌, ◌<◌, ◌≤◌, length, map, string_bytes};
 ghost use Rattle.outside.specs.Snapshot.{snapshot};
 ghost use Rattle.tool_core.specs.Endings.{Ends};
+ghost use Rattle.tool_core.specs.Outcomes.{WasDone};
 ghost use Rattle.tool_core.specs.Words as words;
 
 use crate::check_report::put_check;
@@ -16,7 +17,7 @@ use std::alloc::Global;
 use sysex_frame::write_voice;
 
 /// `check FILE`: a line for each SysEx message.
-pub fn check<S: Shelf, O: Out>(alloc: Global, file: &str, shelf: &mut S, out: &mut O) -> u8
+pub(crate) fn check<S: Shelf, O: Out>(alloc: Global, file: &str, shelf: &mut S, out: &mut O) -> u8
     ensures { Ends (words.Check file.now) result
         (snapshot (S.files shelf.old) (S.reading shelf.old) (S.writing shelf.old) (O.written out.old) (O.faults out.old))
         (snapshot (S.files shelf.new) (S.reading shelf.new) (S.writing shelf.new) (O.written out.new) (O.faults out.new)) }
@@ -28,8 +29,8 @@ pub fn check<S: Shelf, O: Out>(alloc: Global, file: &str, shelf: &mut S, out: &m
 }
 
 /// `list FILE`: the names of the first cartridge.
-pub fn list<S: Shelf, O: Out>(alloc: Global, file: &str, shelf: &mut S, out: &mut O) -> u8
-    ensures { Ends (words.Names file.now) result
+pub(crate) fn list<S: Shelf, O: Out>(alloc: Global, file: &str, shelf: &mut S, out: &mut O) -> u8
+    ensures { Ends (words.ListVoices file.now) result
         (snapshot (S.files shelf.old) (S.reading shelf.old) (S.writing shelf.old) (O.written out.old) (O.faults out.old))
         (snapshot (S.files shelf.new) (S.reading shelf.new) (S.writing shelf.new) (O.written out.new) (O.faults out.new)) }
 {
@@ -43,7 +44,7 @@ pub fn list<S: Shelf, O: Out>(alloc: Global, file: &str, shelf: &mut S, out: &mu
 }
 
 /// `pick FILE SLOT OUT`: a voice of the first cartridge.
-pub fn pick<S: Shelf, O: Out>(
+pub(crate) fn pick<S: Shelf, O: Out>(
     alloc: Global,
     file: &str,
     slot: u8,
@@ -52,9 +53,10 @@ pub fn pick<S: Shelf, O: Out>(
     out: &mut O,
 ) -> u8
     requires { slot ≤ 31 }
-    ensures { Ends (words.Pick file.now slot name.now) result
+    ensures ends { Ends (words.Pick file.now slot name.now) result
         (snapshot (S.files shelf.old) (S.reading shelf.old) (S.writing shelf.old) (O.written out.old) (O.faults out.old))
         (snapshot (S.files shelf.new) (S.reading shelf.new) (S.writing shelf.new) (O.written out.new) (O.faults out.new)) }
+    ensures held { WasDone result → S.held shelf.new name.now ≡ 0 }
 {
     match read_cartridge(alloc, shelf, file) {
         Ok(cartridge) => {
@@ -66,7 +68,7 @@ pub fn pick<S: Shelf, O: Out>(
 }
 
 /// `pack OUT FILE...`: the first voice of each file.
-pub fn pack<S: Shelf, O: Out>(
+pub(crate) fn pack<S: Shelf, O: Out>(
     alloc: Global,
     name: &str,
     files: &[String],
@@ -75,9 +77,10 @@ pub fn pack<S: Shelf, O: Out>(
 ) -> u8
     requires some { 0 < length files.now }
     requires fits { length files.now ≤ 32 }
-    ensures { Ends (words.Pack name.now (map string_bytes files.now)) result
+    ensures ends { Ends (words.Pack name.now (map string_bytes files.now)) result
         (snapshot (S.files shelf.old) (S.reading shelf.old) (S.writing shelf.old) (O.written out.old) (O.faults out.old))
         (snapshot (S.files shelf.new) (S.reading shelf.new) (S.writing shelf.new) (O.written out.new) (O.faults out.new)) }
+    ensures held { WasDone result → S.held shelf.new name.now ≡ 0 }
 {
     match read_pack(alloc, shelf, files) {
         Ok(message) => finish(shelf, out, name, message.as_slice()),

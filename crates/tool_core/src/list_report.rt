@@ -3,12 +3,12 @@
 ghost use Rattle.std.specs.Prelude.{◌≡◌};
 ghost use Rattle.tool_core.specs.Lines.{list_report};
 
-use crate::line::name_line;
+use crate::output_line::name_line;
 use crate::page::{Page, add};
 use cartridge::Cartridge;
 
 /// The names of 32 voices, a line for each.
-pub fn list_page(cartridge: &Cartridge) -> Page
+pub(crate) fn list_page(cartridge: &Cartridge) -> Page
     ensures { result.items ≡ list_report cartridge.now }
 {
     let mut page = Page::new();

@@ -25,13 +25,13 @@ const FILE_LIMIT: u64 = 16_777_216;
 
 /// A file whose messages are all good, and a scanner that is to begin.
 #[derive(Drop)]
-pub struct Checked {
-    pub file: Vec<u8>,
-    pub scanner: Scanner,
+pub(crate) struct Checked {
+    pub(crate) file: Vec<u8>,
+    pub(crate) scanner: Scanner,
 }
 
 /// The bytes of a file, `limit` at most.
-pub fn read_file<S: Shelf>(
+pub(crate) fn read_file<S: Shelf>(
     alloc: Global,
     shelf: &mut S,
     name: &str,
@@ -105,7 +105,11 @@ fn find_voice(alloc: Global, file: &[u8]) -> Result<Voice, Failure>
 }
 
 /// A file whose messages are all good.
-pub fn read_messages<S: Shelf>(alloc: Global, shelf: &mut S, name: &str) -> Result<Checked, Failure>
+pub(crate) fn read_messages<S: Shelf>(
+    alloc: Global,
+    shelf: &mut S,
+    name: &str,
+) -> Result<Checked, Failure>
     ensures good { OnOk result (IfSome (S.files shelf.old) (λ told. IsJudged (input name.now (Midi refusals.AllMessages)) told verdicts.Good)) }
     ensures found { IfOk result (λ checked. IfSome (S.files shelf.old) (λ told. get told name.now ≡ Some checked.file.items)) }
     ensures within { IfOk result (λ checked. length checked.file.items ≤ 16777216) }
@@ -136,7 +140,7 @@ fn check_file(alloc: Global, file: Vec<u8>) -> Result<Checked, Failure>
 }
 
 /// The first cartridge of a file.
-pub fn read_cartridge<S: Shelf>(
+pub(crate) fn read_cartridge<S: Shelf>(
     alloc: Global,
     shelf: &mut S,
     name: &str,
@@ -156,7 +160,11 @@ pub fn read_cartridge<S: Shelf>(
 }
 
 /// The first voice of a file.
-pub fn read_voice<S: Shelf>(alloc: Global, shelf: &mut S, name: &str) -> Result<Voice, Failure>
+pub(crate) fn read_voice<S: Shelf>(
+    alloc: Global,
+    shelf: &mut S,
+    name: &str,
+) -> Result<Voice, Failure>
     ensures good { OnOk result (IfSome (S.files shelf.old) (λ told. IsJudged (input name.now (Midi refusals.OneVoice)) told verdicts.Good)) }
     ensures value { IfOk result (λ voice. IfSome (S.files shelf.old) (λ told. voice_of told name.now ≡ voice)) }
     ensures kept { OnOk result (S.reading shelf.new ≡ S.reading shelf.old) }

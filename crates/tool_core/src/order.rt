@@ -9,6 +9,7 @@ ghost use Rattle.tool_core.specs.Endings.{IsOfBytes, IsReadFailure};
 ghost use Rattle.tool_core.specs.Failures.{IsFault, IsReason};
 ghost use Rattle.tool_core.specs.Inputs.{AnOrder};
 ghost use Rattle.tool_core.specs.Orders.{order_limit, IsNoOrder};
+ghost use Rattle.tool_core.specs.Reads.{GaveAll};
 
 use crate::failure::Failure;
 use crate::refusal::Refusal;
@@ -20,11 +21,16 @@ use take_files::{Order, OrderFault, OrderKind, OrderReader};
 const ORDER_LIMIT: u64 = 536_870_912;
 
 /// The order that a file holds.
-pub fn read_order_file<S: Shelf>(alloc: Global, shelf: &mut S, name: &str) -> Result<Order, Failure>
+pub(crate) fn read_order_file<S: Shelf>(
+    alloc: Global,
+    shelf: &mut S,
+    name: &str,
+) -> Result<Order, Failure>
     ensures good { IfOk result (λ o. IfSome (S.files shelf.old) (λ told.
         IsSomeAnd (get told name.now) (λ file. (length file ≤ order_limit) × IsOrder file o))) }
     ensures kept { OnOk result (S.reading shelf.new ≡ S.reading shelf.old) }
     ensures refused { IfErr result (λ why. IsReason why AnOrder (S.files shelf.old) name.now (S.reading shelf.old) (S.reading shelf.new)) }
+    ensures given { OnOk result (GaveAll (S.files shelf.old) name.now (S.given shelf.old) (S.given shelf.new)) }
     ensures files { S.files shelf.new ≡ S.files shelf.old }
     ensures writing { S.writing shelf.new ≡ S.writing shelf.old }
 {
@@ -48,6 +54,7 @@ fn feed_file<S: Shelf>(
         × HasFed reader.new file))) }
     ensures kept { OnOk result (S.reading shelf.new ≡ S.reading shelf.old) }
     ensures refused { IfErr result (λ why. IsReadFailure why order_limit (S.files shelf.old) name.now (S.reading shelf.old) (S.reading shelf.new)) }
+    ensures given { OnOk result (GaveAll (S.files shelf.old) name.now (S.given shelf.old) (S.given shelf.new)) }
     ensures files { S.files shelf.new ≡ S.files shelf.old }
     ensures writing { S.writing shelf.new ≡ S.writing shelf.old }
 {

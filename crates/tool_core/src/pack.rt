@@ -17,13 +17,13 @@ use std::alloc::Global;
 
 /// The place of a file that doesn't serve, counted from 0, and why.
 #[derive(Clone, Copy, Debug, PartialEq, Eq)]
-pub struct PackFailure {
-    pub place: usize,
-    pub why: Failure,
+pub(crate) struct PackFailure {
+    pub(crate) place: usize,
+    pub(crate) why: Failure,
 }
 
 /// The message of a cartridge with the first voice of each file, and opening voices after them.
-pub fn read_pack<S: Shelf>(
+pub(crate) fn read_pack<S: Shelf>(
     alloc: Global,
     shelf: &mut S,
     files: &[String],
@@ -58,7 +58,7 @@ pub fn read_pack<S: Shelf>(
 }
 
 /// One of some names.
-pub fn name_at(files: &[String], at: usize) -> &str
+pub(crate) fn name_at(files: &[String], at: usize) -> &str
     requires { at < length files.now }
     ensures { result.now ≡ slice_index_or (map string_bytes files.entry.now) at [] }
 {

@@ -8,10 +8,10 @@ use arrayvec::ArrayVec;
 use outside::{Failed, Out, put_all};
 
 /// Lines that are not put yet.
-pub type Page = ArrayVec<u8, 4096>;
+pub(crate) type Page = ArrayVec<u8, 4096>;
 
 /// Holds the page, and empties it.
-pub fn put_page<O: Out>(out: &mut O, page: &mut Page) -> Result<(), Failed>
+pub(crate) fn put_page<O: Out>(out: &mut O, page: &mut Page) -> Result<(), Failed>
     ensures ok { OnOk result ((before : Option (List ℕ)) (text : List ℕ) → Holds before (O.written out.old) page.old.items text
         → Holds before (O.written out.new) [] text) }
     ensures empty { OnOk result (page.new.items ≡ []) }
@@ -46,7 +46,7 @@ fn make_room<O: Out>(out: &mut O, page: &mut Page, count: usize) -> Result<(), F
 }
 
 /// Adds a line to the report.
-pub fn put_line<O: Out>(out: &mut O, page: &mut Page, line: &[u8]) -> Result<(), Failed>
+pub(crate) fn put_line<O: Out>(out: &mut O, page: &mut Page, line: &[u8]) -> Result<(), Failed>
     requires { length line.now ≤ 128 }
     ensures ok { OnOk result ((before : Option (List ℕ)) (text : List ℕ) → Holds before (O.written out.old) page.old.items text
         → Holds before (O.written out.new) page.new.items (text ++ line.now)) }
@@ -64,7 +64,7 @@ pub fn put_line<O: Out>(out: &mut O, page: &mut Page, line: &[u8]) -> Result<(),
 }
 
 /// Adds some bytes to the page.
-pub fn add(page: &mut Page, line: &[u8])
+pub(crate) fn add(page: &mut Page, line: &[u8])
     requires { length page.old.items + length line.now ≤ 4096 }
     ensures { page.new.items ≡ page.old.items ++ line.now }
 {

@@ -22,22 +22,22 @@ use voice_record::Voice;
 
 /// A SysEx message that has ended: the offset of its `F0`, and whether it has more than 5000 bytes.
 #[derive(Clone, Copy, Debug, PartialEq, Eq)]
-pub struct Ended {
-    pub offset: u32,
-    pub is_too_long: bool,
+pub(crate) struct EndedSysEx {
+    pub(crate) offset: u32,
+    pub(crate) is_too_long: bool,
 }
 
 /// What a message of a stream tells of a SysEx message that began at an offset.
-pub fn ending_of(message: Option<MidiMessage>, offset: u32) -> Option<Ended>
+pub(crate) fn ending_of(message: Option<MidiMessage>, offset: u32) -> Option<EndedSysEx>
     requires { IfSome message InRange }
     ensures { (kept : Option (List ℕ)) → IfSome message (λ m. HasBytes m kept) → TellsOf result (placed message offset kept) }
 {
     match message {
-        Some(MidiMessage::SysEx { .. }) => Some(Ended {
+        Some(MidiMessage::SysEx { .. }) => Some(EndedSysEx {
             offset,
             is_too_long: false,
         }),
-        Some(MidiMessage::SysExTooLong { .. }) => Some(Ended {
+        Some(MidiMessage::SysExTooLong { .. }) => Some(EndedSysEx {
             offset,
             is_too_long: true,
         }),
@@ -54,7 +54,7 @@ fn start_after(start: u32, offset: u32, byte: u8) -> u32
 
 /// A scanner over a file, byte by byte, that tells where a SysEx message ends.
 #[derive(Drop)]
-pub struct Scanner {
+pub(crate) struct Scanner {
     reader: MidiReader,
     start: u32,
 }
@@ -66,7 +66,7 @@ impl Scanner {
     ghost use Rattle.tool_core.specs.Scans.{Follows, TellsOf};
 
     /// A scanner that is to begin. It asks for all the memory that it needs.
-    pub fn new(alloc: Global) -> Result<Scanner, AllocError>
+    pub(crate) fn new(alloc: Global) -> Result<Scanner, AllocError>
         ensures { IfOk result (λ scanner. (file : List ℕ) → Follows scanner file 0) }
     {
         Ok(Scanner {
@@ -76,7 +76,7 @@ impl Scanner {
     }
 
     /// Reads the byte at an offset, and tells of the SysEx message that ends with it.
-    pub fn feed(&mut self, offset: u32, byte: u8) -> Option<Ended>
+    pub(crate) fn feed(&mut self, offset: u32, byte: u8) -> Option<EndedSysEx>
         ensures follows { (file : List ℕ) → offset < length file → slice_index file offset ≡ byte → Follows self.old file offset
             → Follows self.new file (offset + 1) }
         ensures ended { (file : List ℕ) → offset < length file → slice_index file offset ≡ byte → Follows self.old file offset
@@ -89,7 +89,7 @@ impl Scanner {
     }
 
     /// The bytes of the message that ended with the last byte, where it isn't too long.
-    pub fn message(&self) -> &[u8]
+    pub(crate) fn message(&self) -> &[u8]
         ensures bytes { (file : List ℕ) (offset : ℕ) (sysex : SysExMessage) → Follows self.now file (offset + 1)
             → sysex_at file offset ≡ Some sysex → is_too_long sysex ≡ false → result.now ≡ sysex.bytes }
         ensures bound { length result.now ≤ 5000 }
@@ -98,7 +98,7 @@ impl Scanner {
     }
 
     /// Whether the file ends within a message.
-    pub fn is_cut(&self) -> bool
+    pub(crate) fn is_cut(&self) -> bool
         ensures { (file : List ℕ) → Follows self.now file (length file) → result ≡ is_unfinished file }
     {
         !self.reader.at_rest()
@@ -108,16 +108,16 @@ impl Scanner {
 /// The first bad message of a file, the first that is too long, the first voice and the first cartridge, and
 /// whether the file ends within a message.
 #[derive(Drop)]
-pub struct Scan {
-    pub bad: Option<Refusal>,
-    pub long: Option<Refusal>,
-    pub voice: Option<Voice>,
-    pub cartridge: Option<Cartridge>,
-    pub is_cut: bool,
+pub(crate) struct Scan {
+    pub(crate) bad: Option<Refusal>,
+    pub(crate) long: Option<Refusal>,
+    pub(crate) voice: Option<Voice>,
+    pub(crate) cartridge: Option<Cartridge>,
+    pub(crate) is_cut: bool,
 }
 
 /// Passes once over a file.
-pub fn scan_file(alloc: Global, file: &[u8]) -> Result<Scan, AllocError>
+pub(crate) fn scan_file(alloc: Global, file: &[u8]) -> Result<Scan, AllocError>
     requires { length file.now ≤ 16777216 }
     ensures scanned { IfOk result (λ scan. IsScan scan (sysex_messages file.now)) }
     ensures cut { IfOk result (λ scan. scan.is_cut ≡ is_unfinished file.now) }
@@ -160,7 +160,7 @@ fn scan_byte(
 fn scan_message(
     alloc: Global,
     scan: &mut Scan,
-    ended: Ended,
+    ended: EndedSysEx,
     message: &[u8],
 ) -> Result<(), AllocError>
     requires { length message.now ≤ 5000 }
@@ -186,20 +186,13 @@ fn scan_message(
 }
 
 /// Why a message with this fault is refused, where it is.
-pub fn refusal_of(offset: u32, fault: FrameFault) -> Option<Refusal>
+pub(crate) fn refusal_of(offset: u32, fault: FrameFault) -> Option<Refusal>
     ensures { result ≡ fault_at offset (Some fault) }
 {
-    match fault {
-        FrameFault::NotYamaha
-        | FrameFault::UnknownSubstatus { .. }
-        | FrameFault::UnknownFormat { .. } => None,
-        FrameFault::NotFramed
-        | FrameFault::DataByte { .. }
-        | FrameFault::Short { .. }
-        | FrameFault::CountBytes { .. }
-        | FrameFault::Length { .. }
-        | FrameFault::Checksum { .. }
-        | FrameFault::ParamValue { .. } => Some(Refusal::Fault { offset, fault }),
+    if fault.is_foreign() {
+        None
+    } else {
+        Some(Refusal::Fault { offset, fault })
     }
 }
 
@@ -228,7 +221,7 @@ fn scan_frame(alloc: Global, scan: &mut Scan, frame: Frame<'_>) -> Result<(), Al
 }
 
 /// The voice that 155 bytes hold.
-pub fn clamp(payload: &[u8]) -> Voice
+pub(crate) fn clamp(payload: &[u8]) -> Voice
     requires { length payload.now ≡ 155 }
     ensures { result ≡ clamped_voice payload.now }
 {

@@ -6,7 +6,7 @@ ghost use Rattle.tool_core.specs.Words as spec;
 use plain_text::{has_padding, is_digit};
 
 /// The seed that a word writes in decimal digits without a leading zero, where it fits 64 bits.
-pub fn seed_of(text: &[u8]) -> Option<u64>
+pub(crate) fn seed_of(text: &[u8]) -> Option<u64>
     ensures { result ≡ spec.seed_of text.now }
 {
     if text.is_empty() || has_padding(text) {

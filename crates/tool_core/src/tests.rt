@@ -407,8 +407,8 @@ fn a_failing_call_of_replay_is_told(rt: HostRuntime) -> Result<(), Fail> {
     let alloc = rt.alloc();
     let whole = replayed(alloc, NOTE)?;
     assert_eq!(rt; whole.len(), 12844);
-    // Two reads of the order, the create, the header and two chunks of 64 and 36 blocks.
-    for fail in 0..7u64 {
+    // Two reads of the order, the create, the header, two chunks of 64 and 36 blocks, and what is held back is written out.
+    for fail in 0..8u64 {
         let mut out = MemOut::new(alloc, &[])?;
         let (status, written) = failing(
             alloc,
@@ -423,6 +423,7 @@ fn a_failing_call_of_replay_is_told(rt: HostRuntime) -> Result<(), Fail> {
             3 => (3, b"cannot write w\n", Some(0)),
             4 => (3, b"cannot write w\n", Some(44)),
             5 => (3, b"cannot write w\n", Some(8236)),
+            6 => (3, b"cannot write w\n", Some(12844)),
             _ => (0, b"ok\n", Some(12844)),
         };
         assert_eq!(rt; status, wanted);
@@ -457,14 +458,6 @@ fn a_failing_call_of_verify_is_told(rt: HostRuntime) -> Result<(), Fail> {
         assert_eq!(rt; status, wanted);
         assert_eq!(rt; out.bytes(), line);
     }
-    // A file that differs is read to its end first.
-    let other = changed(alloc, sound.as_slice(), 50)?;
-    let differing: [(&str, &[u8]); 2] = [("f", NOTE), ("w", other.as_slice())];
-    for (fail, wanted) in [(4u64, 2u8), (9, 7)] {
-        let mut out = MemOut::new(alloc, &[])?;
-        let (status, _) = failing(alloc, &["verify", "f", "w"], &differing, fail, &mut out)?;
-        assert_eq!(rt; status, wanted);
-    }
     // Of two that are not there the first is named.
     let mut out = MemOut::new(alloc, &[])?;
     let (status, _) = failing(alloc, &["verify", "f", "w"], &[], 9, &mut out)?;
@@ -473,6 +466,33 @@ fn a_failing_call_of_verify_is_told(rt: HostRuntime) -> Result<(), Fail> {
     let mut silent = MemOut::new(alloc, &[0])?;
     assert_eq!(rt; verified(alloc, NOTE, sound.as_slice(), &mut silent)?, 3);
     assert!(rt; silent.bytes().is_empty());
+    Ok(())
+}
+
+#[test]
+fn a_sound_file_that_differs_is_read_to_its_end(rt: HostRuntime) -> Result<(), Fail> {
+    let alloc = rt.alloc();
+    let order = b"order engine 1 blocks 2000 scripts 1\n0 0 0 0 on 0 69 100\n";
+    let sound = replayed(alloc, order)?;
+    assert_eq!(rt; sound.len(), 256_044);
+    let other = changed(alloc, sound.as_slice(), 50)?;
+    let files: [(&str, &[u8]); 2] = [("f", order), ("w", other.as_slice())];
+    // Two reads of the order; of the sound file one for the header and one in which the difference lies, then three whole pieces
+    // and a part, and the read at its end.
+    let read: &[u8] = b"cannot read w\n";
+    for (fail, wanted, line) in [
+        (3u64, 2u8, read),
+        (4, 2, read),
+        (5, 2, read),
+        (6, 2, read),
+        (7, 2, read),
+        (8, 7, b"differs at 50\n"),
+    ] {
+        let mut out = MemOut::new(alloc, &[])?;
+        let (status, _) = failing(alloc, &["verify", "f", "w"], &files, fail, &mut out)?;
+        assert_eq!(rt; status, wanted, "{fail}");
+        assert_eq!(rt; out.bytes(), line);
+    }
     Ok(())
 }
 
@@ -572,7 +592,7 @@ fn a_shelf_may_tell_nothing(rt: HostRuntime) -> Result<(), Fail> {
 fn scripts_are_generated_and_played(rt: HostRuntime) -> Result<(), Fail> {
     let alloc = rt.alloc();
     let usage = b"usage: tool COMMAND WORDS...\n";
-    let rows: [(&[&str], u8, &[u8]); 14] = [
+    let rows: [(&[&str], u8, &[u8]); 15] = [
         (&["gen", "0", "1", "1"], 0, b"scripts 1 commands 1\n"),
         (&["gen", "0", "1", "0"], 0, b"scripts 1 commands 0\n"),
         (&["gen", "7", "3", "5"], 0, b"scripts 3 commands 15\n"),
@@ -586,6 +606,11 @@ fn scripts_are_generated_and_played(rt: HostRuntime) -> Result<(), Fail> {
             &["bench", "1", "400"],
             0,
             b"commands 400 blocks 400 sum 3814002\n",
+        ),
+        (
+            &["bench", "1", "4000"],
+            0,
+            b"commands 4000 blocks 4000 sum 28504844\n",
         ),
         (&["gen", "0", "0", "1"], 1, usage),
         (&["gen", "0", "257", "1"], 1, usage),
@@ -634,21 +659,29 @@ fn failures_of_gen_and_bench_are_told(rt: HostRuntime) -> Result<(), Fail> {
         Some(second.as_slice()),
         Some(third.as_slice()),
     ];
-    let cases: [(&[u64], &[u64], u8, &[u8], [Option<&[u8]>; 3]); 4] = [
+    // Of each file the create, the append, and what is held back is written out.
+    let cases: [(&[u64], &[u64], u8, &[u8], [Option<&[u8]>; 3]); 5] = [
         (&[], &[], 0, b"scripts 3 commands 15\n", all),
         (
-            &[2],
+            &[3],
             &[],
             3,
             b"cannot write gen-1.txt\n",
             [all[0], None, None],
         ),
         (
-            &[3],
+            &[4],
             &[],
             3,
             b"cannot write gen-1.txt\n",
             [all[0], Some(b""), None],
+        ),
+        (
+            &[5],
+            &[],
+            3,
+            b"cannot write gen-1.txt\n",
+            [all[0], all[1], None],
         ),
         (&[], &[0], 3, b"", all),
     ];

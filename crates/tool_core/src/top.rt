@@ -6,6 +6,7 @@ ghost use Rattle.fault_lines.specs.Statuses.{IsOneOf};
 ghost use Rattle.tool_core.specs.Endings.{Ends};
 ghost use Rattle.tool_core.specs.Lines.{usage};
 ghost use Rattle.tool_core.specs.Outcomes.{AnswersBy, IsComplete, IsDone, IsOutOfMemory, IsPastLimit, IsRefused, IsUnread, IsUnwritten, WasDone};
+ghost use Rattle.tool_core.specs.Reads.{HoldsNothing, ReadsWhole};
 ghost use Rattle.tool_core.specs.Words.{Verify, request_data, requested_by, IsInRange};
 
 use crate::bench::bench;
@@ -38,6 +39,12 @@ pub fn tool_main<S: Shelf, O: Out>(
         (snapshot (S.files shelf.new) (S.reading shelf.new) (S.writing shelf.new) (O.written out.new) (O.faults out.new))) }
     // 7 for `verify` alone.
     ensures different { result ≡ 7 → (order : List ℕ) × (sound : List ℕ) × (requested_by (map string_bytes words.now) ≡ Some (Verify order sound)) }
+
+    // After 0 and 7 reads gave each byte of an order, and of the sound file of `verify`, once: it was read to its end, whatever was found before.
+    ensures whole { WasDone result → IfSome (requested_by (map string_bytes words.now)) (λ request.
+        ReadsWhole request (S.files shelf.old) (S.given shelf.old) (S.given shelf.new)) }
+    // After 0 nothing is held back of the files that the command writes, over every shelf.
+    ensures written_out { WasDone result → IfSome (requested_by (map string_bytes words.now)) (λ request. HoldsNothing request (S.held shelf.new)) }
 
     // 1 exactly where the words are not of the grammar.
     ensures words { result ≡ 1 ↔ requested_by (map string_bytes words.now) ≡ None }
@@ -89,13 +96,15 @@ pub fn tool_main<S: Shelf, O: Out>(
 /// Runs a command.
 fn run<S: Shelf, O: Out>(alloc: Global, request: Request<'_>, shelf: &mut S, out: &mut O) -> u8
     requires { IsInRange request }
-    ensures { Ends (request_data request.entry) result
+    ensures ends { Ends (request_data request.entry) result
         (snapshot (S.files shelf.old) (S.reading shelf.old) (S.writing shelf.old) (O.written out.old) (O.faults out.old))
         (snapshot (S.files shelf.new) (S.reading shelf.new) (S.writing shelf.new) (O.written out.new) (O.faults out.new)) }
+    ensures whole { WasDone result → ReadsWhole (request_data request.entry) (S.files shelf.old) (S.given shelf.old) (S.given shelf.new) }
+    ensures written_out { WasDone result → HoldsNothing (request_data request.entry) (S.held shelf.new) }
 {
     match request {
         Request::Check { file } => check(alloc, file, shelf, out),
-        Request::Names { file } => list(alloc, file, shelf, out),
+        Request::List { file } => list(alloc, file, shelf, out),
         Request::Pick {
             file,
             slot,

@@ -10,28 +10,31 @@ ghost use Rattle.outside.specs.Snapshot.{snapshot};
 ghost use Rattle.tool_core.specs.Effects.{comparison};
 ghost use Rattle.tool_core.specs.Endings.{Ends, Puts};
 ghost use Rattle.tool_core.specs.Endings.{IsReadFailure};
+ghost use Rattle.tool_core.specs.Outcomes.{WasDone};
+ghost use Rattle.tool_core.specs.Reads.{GaveAll, ReadsWhole};
 ghost use Rattle.tool_core.specs.Words as words;
 
 use crate::comparison::compare_file;
 use crate::failure::{Failure, refuse};
-use crate::line::differs_line;
 use crate::order::read_order_file;
 use crate::output_file::put_report;
+use crate::output_line::differs_line;
 use outside::{Out, Shelf};
 use std::alloc::Global;
 use take_files::{Order, Playback};
 
 /// `verify ORDER WAV`: whether a file is the sound of an order, and where it differs.
-pub fn verify<S: Shelf, O: Out>(
+pub(crate) fn verify<S: Shelf, O: Out>(
     alloc: Global,
     file: &str,
     sound: &str,
     shelf: &mut S,
     out: &mut O,
 ) -> u8
-    ensures { Ends (words.Verify file.now sound.now) result
+    ensures ends { Ends (words.Verify file.now sound.now) result
         (snapshot (S.files shelf.old) (S.reading shelf.old) (S.writing shelf.old) (O.written out.old) (O.faults out.old))
         (snapshot (S.files shelf.new) (S.reading shelf.new) (S.writing shelf.new) (O.written out.new) (O.faults out.new)) }
+    ensures whole { WasDone result → ReadsWhole (words.Verify file.now sound.now) (S.files shelf.old) (S.given shelf.old) (S.given shelf.new) }
 {
     match read_order_file(alloc, shelf, file) {
         Ok(order) => match compare_order(alloc, &order, shelf, sound) {
@@ -55,6 +58,7 @@ fn compare_order<S: Shelf>(
     ensures lacks { Lacks (S.files shelf.old) name.now → IsErr result }
     ensures kept { OnOk result (S.reading shelf.new ≡ S.reading shelf.old) }
     ensures refused { IfErr result (λ why. IsReadFailure why sound_limit (S.files shelf.old) name.now (S.reading shelf.old) (S.reading shelf.new)) }
+    ensures given { OnOk result (GaveAll (S.files shelf.old) name.now (S.given shelf.old) (S.given shelf.new)) }
     ensures files { S.files shelf.new ≡ S.files shelf.old }
     ensures writing { S.writing shelf.new ≡ S.writing shelf.old }
 {

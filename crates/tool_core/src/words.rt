@@ -17,7 +17,7 @@ pub enum Request<'a> {
         file: &'a str,
     },
     /// The names of the voices of a file's first cartridge.
-    Names {
+    List {
         file: &'a str,
     },
     /// The voice of a slot of a file's first cartridge, written as a message.
@@ -55,7 +55,7 @@ pub enum Request<'a> {
 }
 
 /// What the words request, and `None` where they are not of the grammar.
-pub fn read_words(words: &[String]) -> Option<Request<'_>>
+pub(crate) fn read_words(words: &[String]) -> Option<Request<'_>>
     ensures request { option_map request_data result ≡ requested_by (map string_bytes words.entry.now) }
     ensures range { IfSome result IsInRange }
 {
@@ -177,11 +177,11 @@ fn read_check(words: &[String]) -> Option<Request<'_>>
 }
 
 fn read_list(words: &[String]) -> Option<Request<'_>>
-    ensures request { option_map request_data result ≡ option_map (λ file. spec.Names file) (file_of_words (map string_bytes words.entry.now)) }
+    ensures request { option_map request_data result ≡ option_map (λ file. spec.ListVoices file) (file_of_words (map string_bytes words.entry.now)) }
     ensures range { IfSome result IsInRange }
 {
     match read_file_name(words) {
-        Some(file) => Some(Request::Names { file }),
+        Some(file) => Some(Request::List { file }),
         None => None,
     }
 }
@@ -210,7 +210,7 @@ fn read_three<'a>(file: &'a str, slot: &str, out: &'a str) -> Option<Request<'a>
     ensures request { option_map request_data result ≡ pick_of file.entry.now slot.now out.entry.now }
     ensures range { IfSome result IsInRange }
 {
-    if out.is_empty() || !is_read(out, file) {
+    if out.is_empty() || !may_read(out, file) {
         return None;
     }
     match parse_number(slot.as_bytes(), 0, 31) {
@@ -237,25 +237,25 @@ fn read_out<'a>(out: &'a str, files: &'a [String]) -> Option<Request<'a>>
     ensures request { option_map request_data result ≡ pack_of_words (out.entry.now ∷ map string_bytes files.entry.now) }
     ensures range { IfSome result IsInRange }
 {
-    if out.is_empty() || files.is_empty() || files.len() > 32 || !are_read(out, files) {
+    if out.is_empty() || files.is_empty() || files.len() > 32 || !may_read_all(out, files) {
         return None;
     }
     Some(Request::Pack { out, files })
 }
 
-fn are_read(out: &str, files: &[String]) -> bool
-    ensures { result ≡ spec.are_read out.now (map string_bytes files.now) }
+fn may_read_all(out: &str, files: &[String]) -> bool
+    ensures { result ≡ spec.may_read_all out.now (map string_bytes files.now) }
 {
     for file in files {
-        if !is_read(out, file) {
+        if !may_read(out, file) {
             return false;
         }
     }
     true
 }
 
-fn is_read(out: &str, file: &str) -> bool
-    ensures { result ≡ spec.is_read out.now file.now }
+fn may_read(out: &str, file: &str) -> bool
+    ensures { result ≡ spec.may_read out.now file.now }
 {
     !file.is_empty() && file != out
 }
@@ -269,7 +269,7 @@ fn read_replay(words: &[String]) -> Option<Request<'_>>
     }
     let order = words[0].as_str();
     let out = words[1].as_str();
-    if out.is_empty() || !is_read(out, order) {
+    if out.is_empty() || !may_read(out, order) {
         return None;
     }
     Some(Request::Replay { order, out })

@@ -97,8 +97,8 @@ enum Written {
 const NONE: u64 = 99;
 
 /// The shelf's call and the put that fail; the status, what is printed, and what stands in `w` after it. Of a voice there are two
-/// reads, of a cartridge three; then come the create and the append.
-const ROWS: [(&str, u64, u64, u8, &[u8], Written); 21] = [
+/// reads, of a cartridge three; then come the create, the append, and what is held back is written out.
+const ROWS: [(&str, u64, u64, u8, &[u8], Written); 23] = [
     (
         "check v",
         NONE,
@@ -146,6 +146,14 @@ const ROWS: [(&str, u64, u64, u8, &[u8], Written); 21] = [
         b"cannot write w\n",
         Written::Empty,
     ),
+    (
+        "pick c 3 w",
+        5,
+        NONE,
+        3,
+        b"cannot write w\n",
+        Written::Voice,
+    ),
     ("pick c 3 w", NONE, 0, 3, b"", Written::Voice),
     ("pack w v v", NONE, NONE, 0, b"ok\n", Written::Packed),
     (
@@ -179,6 +187,14 @@ const ROWS: [(&str, u64, u64, u8, &[u8], Written); 21] = [
         3,
         b"cannot write w\n",
         Written::Empty,
+    ),
+    (
+        "pack w v v",
+        6,
+        NONE,
+        3,
+        b"cannot write w\n",
+        Written::Packed,
     ),
     ("pack w v v", NONE, 0, 3, b"", Written::Packed),
     (

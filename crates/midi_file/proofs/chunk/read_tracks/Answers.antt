@@ -19,7 +19,8 @@ loop-wanted-preserved g c =
     record {
       short = omega (arith, c.in-Ok.ensures.parts);
       within = elim c.if-chunk.branch [
-        | then-chunk+in-Ok-read_track w ↦ after_track c.args.size c.loop-wanted.wanted c.if-chunk.wanted c.loop-wanted.rest.now c.in-Ok.chunk.bytes.now c.in-Ok.chunk.rest.now
+        | then-chunk+in-Ok-read_track w ↦ after_track c.args.size c.loop-wanted.wanted c.if-chunk.wanted c.loop-wanted.rest.now c.in-Ok.chunk.bytes.now
+            c.in-Ok.chunk.rest.now
             c.loop-wanted.acts.items c.if-chunk.acts.items _ c.loop-wanted.invariant.within c.loop-wanted-test.true c.in-Ok.ensures.whole
             (sym c.in-Ok.ensures.track ∙ w.if-chunk.true) c.in-Ok.ensures.bytes c.in-Ok.ensures.rest (omega (arith, c.in-Ok.ensures.parts)) w.wanted-is
             (rw w.acts-is w.in-Ok-read_track.ensures.come)

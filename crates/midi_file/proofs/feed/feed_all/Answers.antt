@@ -9,7 +9,8 @@ use Rattle.midi_file.proofs.feed.feed_all.Goals as goal
 pub loop-byte-init : goal.loop-byte-init
 loop-byte-init g c = record {
   reads = λ stream reads. rw append-nil reads;
-  come = λ stream reads. sym (ap (λ (hs : List TrackOutcome). all_come c.args.acts.now.items ++ hs) (fed_none c.args.at.tick c.args.at.place stream) ∙ append-nil (all_come c.args.acts.now.items));
+  come = λ stream reads. sym (ap (λ (hs : List TrackOutcome). all_come c.args.acts.now.items ++ hs) (fed_none c.args.at.tick c.args.at.place stream)
+      ∙ append-nil (all_come c.args.acts.now.items));
 }
 
 pub returns-in-Err-clause-faults : goal.returns-in-Err-clause-faults
@@ -27,7 +28,8 @@ loop-byte-preserved g c =
     let bytes : List ℕ = c.args.bytes.now in
     let next = take_next bytes k (get_or bytes k 0) c.loop-byte-test.true refl in
     record {
-      reads = λ stream reads. subst (λ (s : List ℕ). Reads c.feed_byte.new.reader s) (append_assoc stream (take k bytes) (get_or bytes k 0 ∷ []) ∙ ap (λ (s : List ℕ). stream ++ s) (sym next))
+      reads = λ stream reads. subst (λ (s : List ℕ). Reads c.feed_byte.new.reader s) (append_assoc stream (take k bytes) (get_or bytes k 0 ∷ [])
+          ∙ ap (λ (s : List ℕ). stream ++ s) (sym next))
           (c.feed_byte.ensures.reads (stream ++ take k bytes) (i.reads stream reads));
       come = λ stream reads. fed_step c.args.at.tick c.args.at.place stream bytes k (get_or bytes k 0)
           c.args.acts.now.items c.loop-byte.acts.items c.feed_byte.new.acts.items c.loop-byte-test.true refl (i.come stream reads)

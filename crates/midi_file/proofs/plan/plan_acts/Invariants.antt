@@ -7,7 +7,8 @@ use Rattle.midi_file.proofs.plan.plan_acts.Given as goal
 
 abbrev pub invariant-loop-timed : goal.invariant-loop-timed
 invariant-loop-timed l = record {
-  planned : IsPlanned l.clock l.bounds.blocks l.division (changes_in l.fn.acts.items) l.timed-iterator.rest.items l.script (timed_plan l.bounds.blocks l.division l.fn.acts.items);
+  planned : IsPlanned l.clock l.bounds.blocks l.division (changes_in l.fn.acts.items) l.timed-iterator.rest.items l.script
+      (timed_plan l.bounds.blocks l.division l.fn.acts.items);
   few : length l.script ≤ l.bounds.room;
   due : last_due l.script ≤ block_of l.division l.clock.time;
 }

@@ -10,7 +10,8 @@ use Rattle.script_outcome.proofs.feed.read_bytes.Goals as goal
 pub loop-byte-init : goal.loop-byte-init
 loop-byte-init g c = record {
   reads = λ stream reads. rw append-nil reads;
-  given = λ stream reads. sym (ap (λ (os : List Outcome). all_given c.args.feed.now.script ++ os) (fed_none (λ before. c.args.spot.place) c.args.spot.block (curve_of c.args.map.now) stream) ∙ append-nil (all_given c.args.feed.now.script));
+  given = λ stream reads. sym (ap (λ (os : List Outcome). all_given c.args.feed.now.script
+      ++ os) (fed_none (λ before. c.args.spot.place) c.args.spot.block (curve_of c.args.map.now) stream) ∙ append-nil (all_given c.args.feed.now.script));
   few = c.requires.few;
   due = c.requires.due;
 }
@@ -31,7 +32,8 @@ loop-byte-preserved g c =
     let bytes : List ℕ = c.args.bytes.now in
     let next = take_next bytes at (get_or bytes at 0) c.loop-byte-test.true refl in
     record {
-      reads = λ stream reads. subst (λ (s : List ℕ). Reads c.read_byte.new.self.reader s) (append_assoc stream (take at bytes) (get_or bytes at 0 ∷ []) ∙ ap (λ (s : List ℕ). stream ++ s) (sym next))
+      reads = λ stream reads. subst (λ (s : List ℕ). Reads c.read_byte.new.self.reader s) (append_assoc stream (take at bytes) (get_or bytes at 0 ∷ [])
+          ∙ ap (λ (s : List ℕ). stream ++ s) (sym next))
           (c.read_byte.ensures.reads (stream ++ take at bytes) (i.reads stream reads));
       given = λ stream reads. fed_step (λ before. c.args.spot.place) c.args.spot.block (curve_of c.args.map.now) stream bytes at (get_or bytes at 0)
           c.args.feed.now.script c.loop-byte.feed.script c.read_byte.new.self.script c.loop-byte-test.true refl (i.given stream reads)

@@ -8,7 +8,8 @@ use Rattle.tool_core.proofs.bench.bench.Goals as goal
 pub returns-in-Ok : goal.returns-in-Ok
 returns-in-Ok g c =
     performs (Bench c.args.seed c.args.blocks) _ _ _ (prints c.as_slice.result.now) (none_before (g.S.Shelf.files c.args.shelf.now))
-    (bench_does (g.S.Shelf.files c.args.shelf.now) c.args.seed c.args.blocks _ _ c.as_slice.result.now (c.as_slice.ensures.value ∙ c.line_of-line.ensures) c.in-Ok.ensures.commands c.in-Ok.ensures.sum)
+    (bench_does (g.S.Shelf.files c.args.shelf.now) c.args.seed c.args.blocks _ _ c.as_slice.result.now (c.as_slice.ensures.value
+    ∙ c.line_of-line.ensures) c.in-Ok.ensures.commands c.in-Ok.ensures.sum)
     (print_ends c.as_slice.result.now _ _ _ refl refl refl c.put_report.ensures)
 
 pub returns-in-Err : goal.returns-in-Err

@@ -14,7 +14,8 @@ pub returns-in-Ok-clause-line : goal.returns-in-Ok-clause-line
 returns-in-Ok-clause-line g c file before below is follows puts =
     let t = told_some c.in-Some.ended (sysex_at file c.args.offset) (c.in-Some.ensures.ended file below is follows) in
     some_put before _ _ file c.args.offset t.sysex c.as_slice.result.now t.is
-    (c.as_slice.ensures.value ∙ c.message_line-line.ensures t.sysex t.tells (c.message.ensures.bytes file c.args.offset t.sysex (c.in-Some.ensures.follows file below is follows) t.is))
+    (c.as_slice.ensures.value ∙ c.message_line-line.ensures t.sysex t.tells
+    (c.message.ensures.bytes file c.args.offset t.sysex (c.in-Some.ensures.follows file below is follows) t.is))
     (c.in-Ok.ensures.ok before (lines_before file c.args.offset) puts)
 
 pub returns-in-None-clause-count : goal.returns-in-None-clause-count

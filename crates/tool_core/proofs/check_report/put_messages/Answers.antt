@@ -41,8 +41,10 @@ returns-clause-some g c =
 pub returns-in-Ok-put_line-clause-all : goal.returns-in-Ok-put_line-clause-all
 returns-in-Ok-put_line-clause-all g c =
     let ended : c.loop-offset.offset ≡ length c.args.file.now = omega arith in
-    ok_put c.put_page.result (g.O.Out.written c.args.out.now) (g.O.Out.written c.put_line.new.out) (g.O.Out.written c.put_page.new.out) c.put_line.new.page.items _
-    (report_put (g.O.Out.written c.args.out.now) (g.O.Out.written c.put_line.new.out) c.put_line.new.page.items c.args.file.now c.as_slice.result.now c.loop-offset.offset c.loop-offset.count
+    ok_put c.put_page.result (g.O.Out.written c.args.out.now) (g.O.Out.written c.put_line.new.out) (g.O.Out.written c.put_page.new.out)
+    c.put_line.new.page.items _
+    (report_put (g.O.Out.written c.args.out.now) (g.O.Out.written c.put_line.new.out) c.put_line.new.page.items c.args.file.now c.as_slice.result.now
+    c.loop-offset.offset c.loop-offset.count
     ended c.loop-offset.invariant.count (c.as_slice.ensures.value ∙ c.count_line-line.ensures)
     (c.in-Ok-put_line.ensures.ok (g.O.Out.written c.args.out.now) (lines_before c.args.file.now c.loop-offset.offset) c.loop-offset.invariant.puts))
     c.put_page.ensures.ok
@@ -50,8 +52,10 @@ returns-in-Ok-put_line-clause-all g c =
 pub returns-in-Ok-put_line-clause-some : goal.returns-in-Ok-put_line-clause-some
 returns-in-Ok-put_line-clause-some g c =
     let ended : c.loop-offset.offset ≡ length c.args.file.now = omega arith in
-    err_put c.put_page.result (g.O.Out.written c.args.out.now) (g.O.Out.written c.put_line.new.out) (g.O.Out.written c.put_page.new.out) c.put_line.new.page.items _
-    (report_put (g.O.Out.written c.args.out.now) (g.O.Out.written c.put_line.new.out) c.put_line.new.page.items c.args.file.now c.as_slice.result.now c.loop-offset.offset c.loop-offset.count
+    err_put c.put_page.result (g.O.Out.written c.args.out.now) (g.O.Out.written c.put_line.new.out) (g.O.Out.written c.put_page.new.out)
+    c.put_line.new.page.items _
+    (report_put (g.O.Out.written c.args.out.now) (g.O.Out.written c.put_line.new.out) c.put_line.new.page.items c.args.file.now c.as_slice.result.now
+    c.loop-offset.offset c.loop-offset.count
     ended c.loop-offset.invariant.count (c.as_slice.ensures.value ∙ c.count_line-line.ensures)
     (c.in-Ok-put_line.ensures.ok (g.O.Out.written c.args.out.now) (lines_before c.args.file.now c.loop-offset.offset) c.loop-offset.invariant.puts))
     c.put_page.ensures.err

@@ -19,7 +19,8 @@ chunks-preserved c =
           omega (arith, i.size, ap length c.as_slice.ensures.value, c.render_chunk.ensures.size) in s);
       bytes =
           ap (wav_blocks J) e
-          ∙ chunk_bytes c.chunks.playback J (B + c.chunks.done) c.min-some.result c.as_slice.result.now _ i.journal i.block c.render_chunk.ensures.bytes c.as_slice.ensures.value
+          ∙ chunk_bytes c.chunks.playback J (B + c.chunks.done) c.min-some.result c.as_slice.result.now _ i.journal i.block c.render_chunk.ensures.bytes
+          c.as_slice.ensures.value
           ∙ ap (λ (l : List ℕ). l ++ c.as_slice.result.now) i.bytes
           ∙ append_assoc (wav_blocks J B) c.chunks.into.items c.as_slice.result.now
           ∙ ap (λ (l : List ℕ). wav_blocks J B ++ l) (sym c.add_chunk.ensures);

@@ -11,8 +11,10 @@ pub returns-in-Ok : goal.returns-in-Ok
 returns-in-Ok g c =
     performs (Check c.args.file.now) _ _ _ (prints (check_report c.as_slice.result.now))
     (one_good (input c.args.file.now (Midi AllMessages)) (g.S.Shelf.files c.args.shelf.now) c.in-Ok.ensures.good)
-    (check_does (g.S.Shelf.files c.args.shelf.now) c.args.file.now c.in-Ok.checked.file.items c.as_slice.result.now c.as_slice.ensures.value c.in-Ok.ensures.found)
-    (print_ends (check_report c.as_slice.result.now) _ _ _ c.in-Ok.ensures.kept c.read_messages.ensures.writing c.read_messages.ensures.files c.put_check.ensures)
+    (check_does (g.S.Shelf.files c.args.shelf.now) c.args.file.now c.in-Ok.checked.file.items c.as_slice.result.now c.as_slice.ensures.value
+    c.in-Ok.ensures.found)
+    (print_ends (check_report c.as_slice.result.now) _ _ _ c.in-Ok.ensures.kept c.read_messages.ensures.writing c.read_messages.ensures.files
+    c.put_check.ensures)
 
 pub returns-in-Err : goal.returns-in-Err
 returns-in-Err g c =

@@ -15,9 +15,11 @@ loop-slot-init c = record {
 pub loop-slot-preserved : goal.loop-slot-preserved
 loop-slot-preserved c = record {
   lines = c.add.ensures ∙ ap (λ (l : List ℕ). l ++ c.as_slice.result.now) c.loop-slot.invariant.lines
-      ∙ ap (λ (l : List ℕ). name_lines c.args.cartridge.now c.loop-slot.slot ++ l) (c.as_slice.ensures.value ∙ c.name_line-line.ensures ∙ ap (Rattle.tool_core.specs.Lines.name_line c.loop-slot.slot) c.voice.ensures.value)
+      ∙ ap (λ (l : List ℕ). name_lines c.args.cartridge.now c.loop-slot.slot ++ l) (c.as_slice.ensures.value ∙ c.name_line-line.ensures
+      ∙ ap (Rattle.tool_core.specs.Lines.name_line c.loop-slot.slot) c.voice.ensures.value)
       ∙ sym (names_next c.args.cartridge.now c.loop-slot.slot);
-  room = let more : length c.add.new.page.items ≡ length c.loop-slot.page.items + length c.as_slice.result.now = ap length c.add.ensures ∙ length-append c.loop-slot.page.items c.as_slice.result.now in
+  room = let more : length c.add.new.page.items ≡ length c.loop-slot.page.items + length c.as_slice.result.now = ap length c.add.ensures
+      ∙ length-append c.loop-slot.page.items c.as_slice.result.now in
       omega (arith, c.as_slice.ensures.fits, c.loop-slot.invariant.room);
 }
 

@@ -17,9 +17,11 @@ loop-place-preserved g c =
     let below : c.loop-place.place < length (map string_bytes c.args.files.now) = omega arith in
     let most : length (map string_bytes c.args.files.now) ≤ 32 = omega (arith, c.requires.fits) in
     record {
-      good = good_more (g.S.Shelf.files c.args.shelf.now) (g.S.Shelf.files c.loop-place.shelf) (map string_bytes c.args.files.now) c.loop-place.place c.name_at-file.result.now
+      good = good_more (g.S.Shelf.files c.args.shelf.now) (g.S.Shelf.files c.loop-place.shelf) (map string_bytes c.args.files.now) c.loop-place.place
+          c.name_at-file.result.now
           below c.name_at-file.ensures c.loop-place.invariant.files c.loop-place.invariant.good c.in-Ok-pack_one.ensures.good;
-      voices = filled_more (g.S.Shelf.files c.args.shelf.now) (g.S.Shelf.files c.loop-place.shelf) (map string_bytes c.args.files.now) c.loop-place.place c.name_at-file.result.now
+      voices = filled_more (g.S.Shelf.files c.args.shelf.now) (g.S.Shelf.files c.loop-place.shelf) (map string_bytes c.args.files.now) c.loop-place.place
+          c.name_at-file.result.now
           c.loop-place.cartridge c.pack_one.new.cartridge
           below most c.name_at-file.ensures c.loop-place.invariant.files c.loop-place.invariant.voices c.in-Ok-pack_one.ensures.voice;
       files = c.pack_one.ensures.files ∙ c.loop-place.invariant.files;
@@ -32,7 +34,8 @@ returns-in-Err-clause-refused g c = memory_failure c.out_of_memory.result _ _ _ 
 
 pub returns-in-Err-pack_one-clause-refused : goal.returns-in-Err-pack_one-clause-refused
 returns-in-Err-pack_one-clause-refused g c =
-    fails_at c.in-Err-pack_one.why (g.S.Shelf.files c.args.shelf.now) (g.S.Shelf.files c.loop-place.shelf) (map string_bytes c.args.files.now) c.loop-place.place c.name_at-file.result.now
+    fails_at c.in-Err-pack_one.why (g.S.Shelf.files c.args.shelf.now) (g.S.Shelf.files c.loop-place.shelf) (map string_bytes c.args.files.now)
+    c.loop-place.place c.name_at-file.result.now
     (g.S.Shelf.reading c.args.shelf.now) (g.S.Shelf.reading c.loop-place.shelf) _
     c.name_at-file.ensures c.loop-place.invariant.files c.loop-place.invariant.reading c.loop-place.invariant.good c.in-Err-pack_one.ensures.refused
 
@@ -50,5 +53,6 @@ returns-in-Ok-write-clause-good g c =
 pub returns-in-Ok-write-clause-message : goal.returns-in-Ok-write-clause-message
 returns-in-Ok-write-clause-message g c =
     let count : length (map string_bytes c.args.files.now) ≡ length c.args.files.now = count_names c.args.files.now in
-    all_filled (g.S.Shelf.files c.args.shelf.now) (map string_bytes c.args.files.now) c.loop-place.place c.loop-place.cartridge c.in-Ok-write.message.items (omega arith) c.loop-place.invariant.voices
+    all_filled (g.S.Shelf.files c.args.shelf.now) (map string_bytes c.args.files.now) c.loop-place.place c.loop-place.cartridge c.in-Ok-write.message.items
+    (omega arith) c.loop-place.invariant.voices
     c.in-Ok-write.ensures.message

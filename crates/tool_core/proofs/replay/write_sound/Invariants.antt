@@ -14,6 +14,7 @@ invariant-chunks g l = record {
   has : Lacks (g.S.Shelf.files l.shelf) l.name → ⊥;
   writing : g.S.Shelf.writing l.shelf ≡ g.S.Shelf.writing l.fn.shelf;
   reading : g.S.Shelf.reading l.shelf ≡ g.S.Shelf.reading l.fn.shelf;
+  given : g.S.Shelf.given l.shelf ≡ g.S.Shelf.given l.fn.shelf;
 }
 
 abbrev pub decreases-chunks : goal.decreases-chunks

@@ -9,7 +9,8 @@ returns-then-ended c = long_taken c.args.scan.now _ c.args.ended c.args.message.
 
 pub returns-in-Ok : goal.returns-in-Ok
 returns-in-Ok c =
-    frame_scanned c.scan_frame.result c.args.scan.now c.scan_frame.new.scan c.args.ended c.args.message.now (content_of c.in-Ok.frame) c.if-ended.false c.in-Ok.ensures.frame
+    frame_scanned c.scan_frame.result c.args.scan.now c.scan_frame.new.scan c.args.ended c.args.message.now (content_of c.in-Ok.frame) c.if-ended.false
+    c.in-Ok.ensures.frame
     c.scan_frame.ensures.bad c.scan_frame.ensures.long c.scan_frame.ensures.voice c.scan_frame.ensures.cartridge
 
 pub returns-in-Err : goal.returns-in-Err

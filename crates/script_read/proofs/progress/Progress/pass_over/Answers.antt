@@ -8,4 +8,5 @@ use Rattle.script_read.proofs.progress.Progress.pass_over.Goals as goal
 pub returns-clause-after : goal.returns-clause-after
 returns-clause-after c = λ blocks lines b.
     after_more c.args.self.now _ blocks lines Blank b (rw append-nil b.reads) refl refl refl refl
-    (sym (ap (λ (os : List Outcome). all_given c.args.self.now.feed.script ++ os) (blank_outcomes blocks lines) ∙ append-nil (all_given c.args.self.now.feed.script)))
+    (sym (ap (λ (os : List Outcome). all_given c.args.self.now.feed.script ++ os) (blank_outcomes blocks lines)
+        ∙ append-nil (all_given c.args.self.now.feed.script)))
