@@ -24,7 +24,8 @@ use Rattle.play_core.specs.declared.refusal.PlayRefusal.{PlayRefusal}
 use Rattle.play_core.specs.declared.refusal.PlayRefusal.TheVariants as why
 use Rattle.play_core.specs.Words.{RequestData, requested_by}
 use Rattle.play_core.specs.Limits.{command_limit}
-use Rattle.play_core.specs.Verdict.{Verdict, Lacking, LongFile, LongScripts, Faulty, ManyCommands, ManyBlocks, Plays, IsPlayed, verdict, plans_in, blocks_of_run, places_of_run, nothing, with_script, with_plan, of_plan, of_file, of_blocks, of_scripts}
+use Rattle.play_core.specs.Verdict.{Verdict, Lacking, LongFile, LongScripts, Faulty, ManyCommands, ManyBlocks, Plays, IsPlayed, verdict, plans_in}
+use Rattle.play_core.specs.Verdict.{blocks_of_run, places_of_run, nothing, with_script, with_plan, of_plan, of_file, of_blocks, of_scripts}
 use Rattle.play_core.specs.Refused.{IsCaused, IsUnread, AgreesWith}
 use Rattle.play_core.specs.Lines.{refusal_line, refusal_status, report, fault_line}
 use Rattle.play_core.specs.Files.{AreBegun, with_two}
@@ -32,7 +33,8 @@ use Rattle.outside.specs.Snapshot.{Snapshot}
 use Rattle.play_core.specs.Run.{HavePlans, IsRefused, IsStoppedRun, IsDone, IsRun, IsPlayedRun, SaysOfStop, report_of, left_of, sound_of, order_of, played}
 use Rattle.play_core.proofs.Counts.{all_played, some_left, length_blocks, length_part}
 use Rattle.play_core.proofs.Prompt.{all_prompt, one_alone}
-use Rattle.play_core.specs.Headline.{Answers, ArePrompt, Asks, HasAll, IsComplete, IsLimit, LacksSome, Lists, Played, PlayedAs, Told, WasPlayed, journal_alone, limit_line}
+use Rattle.play_core.specs.Headline.{Answers, ArePrompt, Asks, HasAll, IsComplete, IsLimit, LacksSome, Lists, Played, PlayedAs, Told, WasPlayed, journal_alone}
+use Rattle.play_core.specs.Headline.{limit_line}
 
 -- the words ask for this, over files that may be told
 
@@ -89,7 +91,8 @@ module _ (a : RequestData) (before now : Snapshot) (status : ℕ) where
   stopped_of : IsRun a before now status → status ≡ 3 → IsStoppedRun a before now status
   stopped_of (inl r) is = absurd (refused_status r.why status r.status_is (inr is))
   stopped_of (inr (inl s)) is = s
-  stopped_of (inr (inr d)) is = ⊎_elim (λ (e : status ≡ 0). absurd (omega arith)) (λ (e : status ≡ 5). absurd (omega arith)) (left_status (left_of d.plans d.journal) status d.status_is)
+  stopped_of (inr (inr d)) is = ⊎_elim (λ (e : status ≡ 0). absurd (omega arith)) (λ (e : status ≡ 5).
+      absurd (omega arith)) (left_status (left_of d.plans d.journal) status d.status_is)
 
   refused_of : IsRun a before now status → ¬ (WasPlayed status) → status ≢ 3 → IsRefused a before now status
   refused_of (inl r) not other = r
@@ -108,7 +111,8 @@ module _ (a : RequestData) (before now : Snapshot) (status : ℕ) where
       of_refusal why.ManyBlocks is = inr (inr (inr (inr (inr (inr (inl is))))))
       of_refusal why.Memory is = inr (inr (inr (inr (inr (inr (inr (inl is)))))))
   statuses (inr (inl s)) = inr (inr (inr (inl s.status_is)))
-  statuses (inr (inr d)) = ⊎_elim (λ (e : status ≡ 0). inl e) (λ (e : status ≡ 5). inr (inr (inr (inr (inr (inl e)))))) (left_status (left_of d.plans d.journal) status d.status_is)
+  statuses (inr (inr d)) = ⊎_elim (λ (e : status ≡ 0). inl e) (λ (e : status ≡ 5).
+      inr (inr (inr (inr (inr (inl e)))))) (left_status (left_of d.plans d.journal) status d.status_is)
 
   pub not_usage : IsRun a before now status → status ≢ 1
   not_usage (inl r) is = of_refusal r.why r.status_is
@@ -122,10 +126,12 @@ module _ (a : RequestData) (before now : Snapshot) (status : ℕ) where
       of_refusal why.ManyBlocks e = omega arith
       of_refusal why.Memory e = omega arith
   not_usage (inr (inl s)) is = let e = s.status_is in omega arith
-  not_usage (inr (inr d)) is = ⊎_elim (λ (e : status ≡ 0). omega arith) (λ (e : status ≡ 5). omega arith) (left_status (left_of d.plans d.journal) status d.status_is)
+  not_usage (inr (inr d)) is = ⊎_elim (λ (e : status ≡ 0). omega arith) (λ (e : status ≡ 5).
+      omega arith) (left_status (left_of d.plans d.journal) status d.status_is)
 
 -- the plans of the run and those of the verdict are the same
-plans_told : (a : RequestData) (files : Option Files) (told : Files) (plans : List (List PlannedData)) → HavePlans a files plans → files ≡ Some told → verdict a told ≡ Plays plans
+plans_told : (a : RequestData) (files : Option Files) (told : Files) (plans : List (List PlannedData)) → HavePlans a files plans → files ≡ Some told
+    → verdict a told ≡ Plays plans
 plans_told a files told plans planned is = if_told (λ x. verdict a x ≡ Plays plans) files told is planned.1
 
 -- ---- numbers of commands
@@ -146,7 +152,8 @@ other_status : (status n : ℕ) → status ≡ n → n ≢ 0 → n ≢ 5 → ¬ 
 other_status status n is a b (inl e) = a (sym is ∙ e)
 other_status status n is a b (inr e) = b (sym is ∙ e)
 
-few_places : (a : RequestData) (plans : List (List PlannedData)) (journal : List LoggedData) → IsTimed journal plans (places_of_run a.places plans) → 0 < many_commands plans - length journal
+few_places : (a : RequestData) (plans : List (List PlannedData)) (journal : List LoggedData) → IsTimed journal plans (places_of_run a.places plans)
+    → 0 < many_commands plans - length journal
     → places_of_run a.places plans < many_commands plans
 few_places a plans journal timed left =
     let lacks = some_left plans journal timed.played left in
@@ -156,7 +163,8 @@ few_places a plans journal timed left =
     omega (arith, bound, length_blocks k journal, lacks.2, length_part plans k lacks.1)
 
 -- with one place for each command the line has room for all
-named_places : (asked : Option ℕ) (plans : List (List PlannedData)) → places_of_run asked plans < many_commands plans → IsSomeAnd asked (λ p. p < many_commands plans)
+named_places : (asked : Option ℕ) (plans : List (List PlannedData)) → places_of_run asked plans < many_commands plans
+    → IsSomeAnd asked (λ p. p < many_commands plans)
 named_places None plans few = absurd (omega (arith, few))
 named_places (Some p) plans few = few
 
@@ -181,11 +189,14 @@ chosen_lacks false false number (Refused place what) f g x played next = absurd 
 chosen_lacks false false number TooMany f g x played next = absurd played
 
 file_lacks : (blocks : Option ℕ) (t : Totals) (name : List ℕ) (o : Option (List ℕ)) (f g : List ℕ → List PlannedData → Verdict) (x : List ℕ)
-    → IsPlayed (of_file blocks t name o f) → ((text : List ℕ) (one : List PlannedData) → IsPlayed (f text one) → g text one ≡ Lacking x) → of_file blocks t name o g ≡ Lacking x
+    → IsPlayed (of_file blocks t name o f) → ((text : List ℕ) (one : List PlannedData) → IsPlayed (f text one) → g text one ≡ Lacking x)
+    → of_file blocks t name o g ≡ Lacking x
 file_lacks blocks t name None f g x played next = absurd played
-file_lacks blocks t name (Some text) f g x played next = chosen_lacks _ _ t.scripts (plan text blocks (command_limit - t.commands)) (f text) (g text) x played (next text)
+file_lacks blocks t name (Some text) f g x played next = chosen_lacks _ _ t.scripts (plan text blocks (command_limit - t.commands)) (f text) (g text) x played
+    (next text)
 
-lacking_at : (told : Files) (blocks : Option ℕ) (names : List (List ℕ)) (k : ℕ) (t : Totals) → k < length names → IsPlayed (of_scripts told blocks t (take k names))
+lacking_at : (told : Files) (blocks : Option ℕ) (names : List (List ℕ)) (k : ℕ) (t : Totals) → k < length names
+    → IsPlayed (of_scripts told blocks t (take k names))
     → get told (slice_index_or names k []) ≡ None → of_scripts told blocks t names ≡ Lacking (slice_index_or names k [])
 unfolding of_scripts
 lacking_at told blocks [] k t below played none = absurd (omega arith)
@@ -207,7 +218,8 @@ lacking_verdict : (a : RequestData) (told : Files) (k : ℕ) (before now : ℕ) 
 unfolding verdict
 lacking_verdict a told k before now u none =
     ap (of_blocks a.blocks) (lacking_at told a.blocks a.scripts k nothing u.within u.earlier
-    (lacks_none told (slice_index_or a.scripts k []) (⊎_elim (λ (r : Rose before now). absurd (none r)) (λ (l : Lacks (Some told) (slice_index_or a.scripts k [])). l) u.cause)))
+    (lacks_none told (slice_index_or a.scripts k []) (⊎_elim (λ (r : Rose before now).
+    absurd (none r)) (λ (l : Lacks (Some told) (slice_index_or a.scripts k [])). l) u.cause)))
 
 eight : (v : Verdict) (status : ℕ) → status ≡ 8 → Answers v status
 eight (Plays plans) status is = inr (inr (inr (inl is)))
@@ -222,7 +234,8 @@ module _ (a : RequestData) (before now : Snapshot) (status : ℕ) where
   refused_answers : (told : Files) → before.files ≡ Some told → ¬ (Rose before.reading now.reading) → (why : PlayRefusal) → status ≡ refusal_status why
       → IsCaused why a.blocks before.files a.scripts before.reading now.reading → AgreesWith why (verdict a told) → Answers (verdict a told) status
   refused_answers told is none (why.Unread k) e cause tells =
-      rw (lacking_verdict a told k before.reading now.reading (subst (λ (o : Option Files). IsUnread k a.blocks o a.scripts before.reading now.reading) is cause) none) (inl e)
+      rw (lacking_verdict a told k before.reading now.reading (subst (λ (o : Option Files).
+      IsUnread k a.blocks o a.scripts before.reading now.reading) is cause) none) (inl e)
   refused_answers told is none why.LongFile e cause tells = rw tells (inl e)
   refused_answers told is none why.LongScripts e cause tells = rw tells (inl e)
   refused_answers told is none (why.Fault k place what) e cause tells = rw tells (inl e)
@@ -231,15 +244,18 @@ module _ (a : RequestData) (before now : Snapshot) (status : ℕ) where
   refused_answers told is none why.Memory e cause tells = eight (verdict a told) status e
 
   judged_of : (told : Files) → before.files ≡ Some told → ¬ (Rose before.reading now.reading) → IsRun a before now status → Answers (verdict a told) status
-  judged_of told is none (inl r) = refused_answers told is none r.why r.status_is r.cause (if_told (λ x. AgreesWith r.why (verdict a x)) before.files told is r.tells)
-  judged_of told is none (inr (inl s)) = subst (λ (v : Verdict). Answers v status) (sym (plans_told a before.files told s.plans s.planned is)) (inr (inl s.status_is))
+  judged_of told is none (inl r) = refused_answers told is none r.why r.status_is r.cause
+      (if_told (λ x. AgreesWith r.why (verdict a x)) before.files told is r.tells)
+  judged_of told is none (inr (inl s)) = subst (λ (v : Verdict). Answers v status) (sym (plans_told a before.files told s.plans s.planned is))
+      (inr (inl s.status_is))
   judged_of told is none (inr (inr d)) = subst (λ (v : Verdict). Answers v status) (sym (plans_told a before.files told d.plans d.planned is))
       (⊎_elim (λ (e : status ≡ 0). inl e) (λ (e : status ≡ 5). inr (inr (inl e))) (left_status (left_of d.plans d.journal) status d.status_is))
 
   reads_of : IsRun a before now status → status ≢ 2 → now.reading ≡ before.reading
   reads_of (inl r) other = by_why r.why r.status_is r.cause
     where
-      by_why : (why : PlayRefusal) → status ≡ refusal_status why → IsCaused why a.blocks before.files a.scripts before.reading now.reading → now.reading ≡ before.reading
+      by_why : (why : PlayRefusal) → status ≡ refusal_status why → IsCaused why a.blocks before.files a.scripts before.reading now.reading
+          → now.reading ≡ before.reading
       by_why (why.Unread k) e cause = absurd (other e)
       by_why why.LongFile e cause = cause
       by_why why.LongScripts e cause = cause
@@ -261,7 +277,8 @@ module _ (a : RequestData) (before now : Snapshot) (status : ℕ) where
     where
       by_why : (why : PlayRefusal) → status ≡ refusal_status why → IsCaused why a.blocks before.files a.scripts before.reading now.reading
           → Says (refusal_line why a.scripts) before.written now.written before.faults now.faults
-          → (k : ℕ) × IsUnread k a.blocks before.files a.scripts before.reading now.reading × Says (cannot_read (slice_index_or a.scripts k [])) before.written now.written before.faults now.faults
+          → (k : ℕ) × IsUnread k a.blocks before.files a.scripts before.reading now.reading
+          × Says (cannot_read (slice_index_or a.scripts k [])) before.written now.written before.faults now.faults
       by_why (why.Unread k) e cause line = (k, cause, line)
       by_why why.LongFile e cause line = absurd (omega arith)
       by_why why.LongScripts e cause line = absurd (omega arith)
@@ -306,12 +323,14 @@ module _ (a : RequestData) (before now : Snapshot) (status : ℕ) where
       by_why why.Memory e tells line = absurd (omega arith)
 
   limit_of : (words : List (List ℕ)) → requested_by words ≡ Some a → IsRefused a before now status → status ≡ 6
-      → (v : Verdict) × IsLimit v × Told words before.files (λ b told. verdict b told ≡ v) × Says (limit_line v) before.written now.written before.faults now.faults
+      → (v : Verdict) × IsLimit v × Told words before.files (λ b told. verdict b told ≡ v)
+      × Says (limit_line v) before.written now.written before.faults now.faults
   limit_of words asks r six = by_why r.why r.status_is (λ told is. if_told (λ x. AgreesWith r.why (verdict a x)) before.files told is r.tells) r.line
     where
       by_why : (why : PlayRefusal) → status ≡ refusal_status why → ((told : Files) → before.files ≡ Some told → AgreesWith why (verdict a told))
           → Says (refusal_line why a.scripts) before.written now.written before.faults now.faults
-          → (v : Verdict) × IsLimit v × Told words before.files (λ b told. verdict b told ≡ v) × Says (limit_line v) before.written now.written before.faults now.faults
+          → (v : Verdict) × IsLimit v × Told words before.files (λ b told. verdict b told ≡ v)
+          × Says (limit_line v) before.written now.written before.faults now.faults
       by_why (why.Unread k) e tells line = absurd (omega arith)
       by_why why.LongFile e tells line = (LongFile, tt, told_tells words LongFile asks tells, line)
       by_why why.LongScripts e tells line = (LongScripts, tt, told_tells words LongScripts asks tells, line)
@@ -321,10 +340,13 @@ module _ (a : RequestData) (before now : Snapshot) (status : ℕ) where
       by_why why.Memory e tells line = absurd (omega arith)
 
   -- a refusal that the told files don't bear out
-  refused_complete : (told : Files) (plans : List (List PlannedData)) → before.files ≡ Some told → verdict a told ≡ Plays plans → ¬ (Rose before.reading now.reading)
-      → (why : PlayRefusal) → status ≡ refusal_status why → IsCaused why a.blocks before.files a.scripts before.reading now.reading → AgreesWith why (verdict a told) → status ≡ 8
+  refused_complete : (told : Files) (plans : List (List PlannedData)) → before.files ≡ Some told → verdict a told ≡ Plays plans
+      → ¬ (Rose before.reading now.reading)
+      → (why : PlayRefusal) → status ≡ refusal_status why → IsCaused why a.blocks before.files a.scripts before.reading now.reading
+      → AgreesWith why (verdict a told) → status ≡ 8
   refused_complete told plans is right none (why.Unread k) e cause tells =
-      let lacks = lacking_verdict a told k before.reading now.reading (subst (λ (o : Option Files). IsUnread k a.blocks o a.scripts before.reading now.reading) is cause) none in absurd (cc)
+      let lacks = lacking_verdict a told k before.reading now.reading (subst (λ (o : Option Files).
+      IsUnread k a.blocks o a.scripts before.reading now.reading) is cause) none in absurd (cc)
   refused_complete told plans is right none why.LongFile e cause tells = absurd (cc)
   refused_complete told plans is right none why.LongScripts e cause tells = absurd (cc)
   refused_complete told plans is right none (why.Fault k place what) e cause tells = absurd (cc)
@@ -336,7 +358,8 @@ module _ (a : RequestData) (before now : Snapshot) (status : ℕ) where
       → ¬ (Rose before.reading now.reading) → ¬ (Rose before.writing now.writing) → ¬ (Rose before.faults now.faults)
       → IsOneOf status (0 ∷ 5 ∷ 8 ∷ []) × (many_commands plans ≤ places_of_run a.places plans → IsOneOf status (0 ∷ 8 ∷ []))
   complete_of told plans is right (inl r) reading writing faults =
-      let e = refused_complete told plans is right reading r.why r.status_is r.cause (if_told (λ x. AgreesWith r.why (verdict a x)) before.files told is r.tells) in
+      let e = refused_complete told plans is right reading r.why r.status_is r.cause
+      (if_told (λ x. AgreesWith r.why (verdict a x)) before.files told is r.tells) in
       (inr (inr (inl e)), λ room. inr (inl e))
   complete_of told plans is right (inr (inl s)) reading writing faults = absurd (⊎_elim (λ w. writing w.0) (λ p. faults p.1) s.line)
   complete_of told plans is right (inr (inr d)) reading writing faults =
@@ -347,8 +370,10 @@ module _ (a : RequestData) (before now : Snapshot) (status : ℕ) where
       (λ (e : status ≡ 5). (
         inr (inl e),
         λ room.
-            let few : places_of_run a.places d.plans < many_commands d.plans = few_places a d.plans d.journal d.timed (some_is_left (left_of d.plans d.journal) status d.status_is e) in
-            let room_too : many_commands d.plans ≤ places_of_run a.places d.plans = subst (λ (l : List (List PlannedData)). many_commands l ≤ places_of_run a.places l) are room in
+            let few : places_of_run a.places d.plans < many_commands d.plans =
+            few_places a d.plans d.journal d.timed (some_is_left (left_of d.plans d.journal) status d.status_is e) in
+            let room_too : many_commands d.plans ≤ places_of_run a.places d.plans =
+            subst (λ (l : List (List PlannedData)). many_commands l ≤ places_of_run a.places l) are room in
             absurd (omega (arith, few, room_too)),
       ))
       (left_status (left_of d.plans d.journal) status d.status_is)
@@ -357,9 +382,11 @@ module _ (a : RequestData) (before now : Snapshot) (status : ℕ) where
 abbrev pub data_of : RequestData → List (List PlannedData) → List LoggedData → OrderData
 data_of a plans journal = record { journal = journal; blocks = blocks_of_run a.blocks plans; scripts = length plans }
 
-module _ (words : List (List ℕ)) (a : RequestData) (before now : Snapshot) (status : ℕ) (asks : requested_by words ≡ Some a) (differ : a.out ≢ a.order) (run : IsRun a before now status) where
+module _ (words : List (List ℕ)) (a : RequestData) (before now : Snapshot) (status : ℕ) (asks : requested_by words ≡ Some a) (differ : a.out ≢ a.order)
+    (run : IsRun a before now status) where
   -- a fact of the run's end, of the files that are told
-  of_done : (P : RequestData → List (List PlannedData) → Type 0) → ((d : IsDone a before now status) (told : Files) → before.files ≡ Some told → P a d.plans) → Played words status before.files P
+  of_done : (P : RequestData → List (List PlannedData) → Type 0) → ((d : IsDone a before now status) (told : Files) → before.files ≡ Some told → P a d.plans)
+      → Played words status before.files P
   of_done P f = λ was. told_of words before.files a (λ b told. P b (plans_in (verdict b told))) asks
       (λ told is. let d = done_of a before now status run was in
       subst (λ (v : Verdict). P a (plans_in v)) (sym (plans_told a before.files told d.plans d.planned is)) (f d told is))
@@ -374,7 +401,8 @@ module _ (words : List (List ℕ)) (a : RequestData) (before now : Snapshot) (st
       ap (λ (o : Option Files). file_of o a.out) (d.files ∙ ap (option_map (played a d.plans d.journal)) is)
       ∙ get-first told a.out (sound_of a d.plans d.journal) a.order (order_of a d.plans d.journal) differ
 
-  same_order : (d : IsDone a before now status) (told : Files) → before.files ≡ Some told → (o : OrderData) → Lists now.files a.order o → o ≡ data_of a d.plans d.journal
+  same_order : (d : IsDone a before now status) (told : Files) → before.files ≡ Some told → (o : OrderData) → Lists now.files a.order o
+      → o ≡ data_of a d.plans d.journal
   same_order d told is o lists =
       orders_unique.journals (order_of a d.plans d.journal) o (data_of a d.plans d.journal)
       (subst (λ (f : Option (List ℕ)). IsSomeAnd f (λ text. IsOrder text o)) (order_bytes d told is) lists)
@@ -382,15 +410,19 @@ module _ (words : List (List ℕ)) (a : RequestData) (before now : Snapshot) (st
 
   -- a fact of the journal that the order file lists
   pub of_order : (P : RequestData → List (List PlannedData) → OrderData → Type 0)
-      → ((d : IsDone a before now status) (told : Files) → before.files ≡ Some told → P a d.plans (data_of a d.plans d.journal)) → PlayedAs words status before.files now.files P
+      → ((d : IsDone a before now status) (told : Files) → before.files ≡ Some told → P a d.plans (data_of a d.plans d.journal))
+      → PlayedAs words status before.files now.files P
   of_order P f = of_done (λ b plans. (o : OrderData) → Lists now.files b.order o → P b plans o)
       (λ d told is o lists. subst (λ (x : OrderData). P a d.plans x) (sym (same_order d told is o lists)) (f d told is))
 
-  pub clause_order : Played words status before.files (λ b plans. (o : OrderData) × Lists now.files b.order o × (o.scripts ≡ length b.scripts) × ((other : OrderData) → Lists now.files b.order other → other ≡ o))
-  clause_order = of_done (λ b plans. (o : OrderData) × Lists now.files b.order o × (o.scripts ≡ length b.scripts) × ((other : OrderData) → Lists now.files b.order other → other ≡ o))
+  pub clause_order : Played words status before.files (λ b plans. (o : OrderData) × Lists now.files b.order o × (o.scripts ≡ length b.scripts)
+      × ((other : OrderData) → Lists now.files b.order other → other ≡ o))
+  clause_order = of_done (λ b plans. (o : OrderData) × Lists now.files b.order o × (o.scripts ≡ length b.scripts)
+      × ((other : OrderData) → Lists now.files b.order other → other ≡ o))
       (λ d told is. (
         data_of a d.plans d.journal,
-        (subst (λ (f : Option (List ℕ)). IsSomeAnd f (λ text. IsOrder text (data_of a d.plans d.journal))) (sym (order_bytes d told is)) (record { ordered = d.ordered; spelled = refl })),
+        (subst (λ (f : Option (List ℕ)). IsSomeAnd f (λ text. IsOrder text (data_of a d.plans d.journal))) (sym (order_bytes d told is))
+            (record { ordered = d.ordered; spelled = refl })),
         d.planned.0,
         same_order d told is,
       ))
@@ -402,13 +434,15 @@ module _ (words : List (List ℕ)) (a : RequestData) (before now : Snapshot) (st
   clause_sound = of_order (λ b plans o. file_of now.files b.out ≡ Some (wav o.journal o.blocks)) (λ d told is. sound_bytes d told is)
 
   pub clause_all : status ≡ 0 → PlayedAs words status before.files now.files (λ b plans o. HasAll o.journal plans)
-  clause_all none = of_order (λ b plans o. HasAll o.journal plans) (λ d told is. all_played d.plans d.journal d.timed.played (none_left (left_of d.plans d.journal) status d.status_is none))
+  clause_all none = of_order (λ b plans o. HasAll o.journal plans) (λ d told is.
+      all_played d.plans d.journal d.timed.played (none_left (left_of d.plans d.journal) status d.status_is none))
 
   pub clause_played : PlayedAs words status before.files now.files (λ b plans o. ArePlayed o.journal plans)
   clause_played = of_order (λ b plans o. ArePlayed o.journal plans) (λ d told is. d.timed.played)
 
   pub clause_left : status ≡ 5 → PlayedAs words status before.files now.files (λ b plans o. LacksSome o.journal plans)
-  clause_left five = of_order (λ b plans o. LacksSome o.journal plans) (λ d told is. some_left d.plans d.journal d.timed.played (some_is_left (left_of d.plans d.journal) status d.status_is five))
+  clause_left five = of_order (λ b plans o. LacksSome o.journal plans) (λ d told is.
+      some_left d.plans d.journal d.timed.played (some_is_left (left_of d.plans d.journal) status d.status_is five))
 
   pub clause_timed : PlayedAs words status before.files now.files (λ b plans o. IsTimed o.journal plans (places_of_run b.places plans))
   clause_timed = of_order (λ b plans o. IsTimed o.journal plans (places_of_run b.places plans)) (λ d told is. d.timed)
@@ -422,7 +456,8 @@ module _ (words : List (List ℕ)) (a : RequestData) (before now : Snapshot) (st
   clause_alone = of_order (λ b plans o. many_commands plans ≤ places_of_run b.places plans → length plans ≡ 1 → o.journal ≡ journal_alone 0 (plan_of plans 0))
       (λ d told is room one. one_alone d.plans d.journal (places_of_run a.places d.plans) d.timed room one)
 
-  pub clause_others : Played words status before.files (λ b plans. (other : List ℕ) → other ≢ b.out → other ≢ b.order → file_of now.files other ≡ file_of before.files other)
+  pub clause_others : Played words status before.files (λ b plans. (other : List ℕ) → other ≢ b.out → other ≢ b.order
+      → file_of now.files other ≡ file_of before.files other)
   clause_others = of_done (λ b plans. (other : List ℕ) → other ≢ b.out → other ≢ b.order → file_of now.files other ≡ file_of before.files other)
       (λ d told is other first second.
       ap (λ (o : Option Files). file_of o other) (d.files ∙ ap (option_map (played a d.plans d.journal)) is)
@@ -433,7 +468,8 @@ module _ (words : List (List ℕ)) (a : RequestData) (before now : Snapshot) (st
   pub clause_report : PlayedAs words status before.files now.files (λ b plans o. now.written ≡ option_map (said (report_of b plans o.journal)) before.written)
   clause_report = of_order (λ b plans o. now.written ≡ option_map (said (report_of b plans o.journal)) before.written) (λ d told is. d.written)
 
-  pub clause_line : WasPlayed status → Asks words (λ b. (left : ℕ) × (blocks : ℕ) × (commands : ℕ) × (status ≡ (if left == 0 then 0 else 5)) × IfSome b.blocks (λ n. blocks ≡ n)
+  pub clause_line : WasPlayed status → Asks words (λ b. (left : ℕ) × (blocks : ℕ) × (commands : ℕ) × (status ≡ (if left == 0 then 0 else 5))
+      × IfSome b.blocks (λ n. blocks ≡ n)
       × (now.written ≡ option_map (said (report left blocks commands)) before.written))
   clause_line was =
       let d = done_of a before now status run was in
@@ -452,7 +488,8 @@ module _ (words : List (List ℕ)) (a : RequestData) (before now : Snapshot) (st
       × Says (cannot_read (slice_index_or b.scripts k [])) before.written now.written before.faults now.faults)
   clause_unread two = asked_for words a (λ b. (k : ℕ) × IsUnread k b.blocks before.files b.scripts before.reading now.reading
       × Says (cannot_read (slice_index_or b.scripts k [])) before.written now.written before.faults now.faults) asks
-      (unread_of a before now status (refused_of a before now status run (other_status status 2 two (λ e. omega arith) (λ e. omega arith)) (λ e. omega arith)) two)
+      (unread_of a before now status (refused_of a before now status run (other_status status 2 two (λ e. omega arith) (λ e. omega arith)) (λ e. omega arith))
+      two)
 
   pub clause_write : status ≡ 3 → Rose before.writing now.writing ⊎ Rose before.faults now.faults
   clause_write three = let s = stopped_of a before now status run three in ⊎_elim (λ w. inl w.0) (λ p. inr p.1) s.line
@@ -469,19 +506,28 @@ module _ (words : List (List ℕ)) (a : RequestData) (before now : Snapshot) (st
 
   pub clause_fault : status ≡ 4 → (k : ℕ) × (place : Place) × (what : ScriptKind) × Told words before.files (λ b told. verdict b told ≡ Faulty k place what)
       × Says (fault_line k place what) before.written now.written before.faults now.faults
-  clause_fault four = fault_of a before now status words asks (refused_of a before now status run (other_status status 4 four (λ e. omega arith) (λ e. omega arith)) (λ e. omega arith)) four
+  clause_fault four = fault_of a before now status words asks (refused_of a before now status run
+      (other_status status 4 four (λ e. omega arith) (λ e. omega arith)) (λ e. omega arith)) four
 
-  pub clause_limit : status ≡ 6 → (v : Verdict) × IsLimit v × Told words before.files (λ b told. verdict b told ≡ v) × Says (limit_line v) before.written now.written before.faults now.faults
-  clause_limit six = limit_of a before now status words asks (refused_of a before now status run (other_status status 6 six (λ e. omega arith) (λ e. omega arith)) (λ e. omega arith)) six
+  pub clause_limit : status ≡ 6 → (v : Verdict) × IsLimit v × Told words before.files (λ b told. verdict b told ≡ v)
+      × Says (limit_line v) before.written now.written before.faults now.faults
+  clause_limit six = limit_of a before now status words asks (refused_of a before now status run
+      (other_status status 6 six (λ e. omega arith) (λ e. omega arith)) (λ e. omega arith)) six
 
   pub clause_judged : Told words before.files (λ b told. ¬ (Rose before.reading now.reading) → Answers (verdict b told) status)
-  clause_judged = told_of words before.files a (λ b told. ¬ (Rose before.reading now.reading) → Answers (verdict b told) status) asks (λ told is none. judged_of a before now status told is none run)
+  clause_judged = told_of words before.files a (λ b told. ¬ (Rose before.reading now.reading) → Answers (verdict b told) status) asks (λ told is none.
+      judged_of a before now status told is none run)
 
-  pub clause_places : status ≡ 5 → Asks words (λ b. (plans : List (List PlannedData)) × HavePlans b before.files plans × IsSomeAnd b.places (λ p. p < many_commands plans))
+  pub clause_places : status ≡ 5 → Asks words (λ b. (plans : List (List PlannedData)) × HavePlans b before.files plans
+      × IsSomeAnd b.places (λ p. p < many_commands plans))
   clause_places five =
       let d = done_of a before now status run (inr five) in
-      asked_for words a (λ b. (plans : List (List PlannedData)) × HavePlans b before.files plans × IsSomeAnd b.places (λ p. p < many_commands plans)) asks
-      (d.plans, d.planned, named_places a.places d.plans (few_places a d.plans d.journal d.timed (some_is_left (left_of d.plans d.journal) status d.status_is five)))
+      asked_for words a (λ b. (plans : List (List PlannedData)) × HavePlans b before.files plans × IsSomeAnd b.places (λ p. p < many_commands plans)) asks (
+        d.plans,
+        d.planned,
+        named_places a.places d.plans (few_places a d.plans d.journal d.timed
+            (some_is_left (left_of d.plans d.journal) status d.status_is five)),
+      )
 
   pub clause_reads : status ≢ 2 → now.reading ≡ before.reading
   clause_reads other = reads_of a before now status run other
@@ -496,7 +542,8 @@ module _ (words : List (List ℕ)) (a : RequestData) (before now : Snapshot) (st
   clause_untouched not other = let r = refused_of a before now status run not other in r.files
 
   pub clause_memory : status ≡ 8 → Says out_of_memory before.written now.written before.faults now.faults
-  clause_memory is = memory_of a before now status (refused_of a before now status run (other_status status 8 is (λ e. omega arith) (λ e. omega arith)) (λ e. omega arith)) is
+  clause_memory is = memory_of a before now status (refused_of a before now status run (other_status status 8 is (λ e. omega arith) (λ e. omega arith)) (λ e.
+      omega arith)) is
 
   pub clause_complete : ¬ (Rose before.reading now.reading) → ¬ (Rose before.writing now.writing) → ¬ (Rose before.faults now.faults)
       → Told words before.files (λ b told. IsComplete b (verdict b told) status)

@@ -1,5 +1,6 @@
 -- How many commands of all scripts a journal has.
-use Rattle.std.proofs.Common.{◌≡◌, ◌⊎◌, ℕ, zero, suc, ◌+◌, ◌<◌, ◌≤◌, List, [], ◌∷◌, ◌++◌, length, map, take, refl, sym, ap, ◌∙◌, subst, ⊎_elim, inl, inr, arith, length-append, rules, ne_eqb}
+use Rattle.std.proofs.Common.{◌≡◌, ◌⊎◌, ℕ, zero, suc, ◌+◌, ◌<◌, ◌≤◌, List, [], ◌∷◌, ◌++◌, length, map, take, refl, sym, ap, ◌∙◌, subst, ⊎_elim, inl, inr, arith}
+use Rattle.std.proofs.Common.{length-append, rules, ne_eqb}
 use Rattle.std.specs.Prelude.{◌==◌, ◌-◌, Bool, true, false, cond, filter, All, sum, slice_index, slice_index_or}
 use Rattle.std.proofs.Math.Seq.{take-length}
 use Rattle.std.proofs.lemmas.List.{append-nil, length-map, get_or-map}
@@ -32,7 +33,8 @@ none_of e n (x ∷ xs) over all =
 
 all_entries : (n : ℕ) (journal : List LoggedData) → All (λ l. l.entry.script < n) journal → All (λ e. e.script < n) (entries_of journal)
 all_entries n [] all = All-nil (λ e. e.script < n)
-all_entries n (l ∷ ls) all = All-cons (λ e. e.script < n) l.entry (entries_of ls) (All-head (λ x. x.entry.script < n) l ls all) (all_entries n ls (All-tail (λ x. x.entry.script < n) l ls all))
+all_entries n (l ∷ ls) all = All-cons (λ e. e.script < n) l.entry (entries_of ls) (All-head (λ x. x.entry.script < n) l ls all)
+    (all_entries n ls (All-tail (λ x. x.entry.script < n) l ls all))
 
 pub length_entries : (script seq : ℕ) (plan : List PlannedData) → length (entries script seq plan) ≡ length plan
 length_entries script seq [] = refl
@@ -44,7 +46,8 @@ length_blocks k [] = refl
 length_blocks k (l ∷ ls) = by_test (l.entry.script == k) (length_blocks k ls)
   where
     by_test : (b : Bool) → length (blocks_of k ls) ≡ length (sent_by k (entries_of ls))
-        → length (map (λ (x : LoggedData). x.block) (cond b (l ∷ filter (λ (x : LoggedData). x.entry.script == k) ls) (filter (λ (x : LoggedData). x.entry.script == k) ls)))
+        → length (map (λ (x : LoggedData). x.block) (cond b (l ∷ filter (λ (x : LoggedData). x.entry.script == k) ls)
+        (filter (λ (x : LoggedData). x.entry.script == k) ls)))
         ≡ length (cond b (l.entry ∷ sent_by k (entries_of ls)) (sent_by k (entries_of ls)))
     by_test true rest = ap suc rest
     by_test false rest = rest
@@ -85,7 +88,8 @@ module _ (plans : List (List PlannedData)) (journal : List LoggedData) (played :
   bounded : (e : ℕ) → length (sent_by e all) ≤ quota_at quotas e
   bounded e = ⊎_elim
       (λ (below : e < length plans). rw (quota_is plans e below) (fits e below))
-      (λ (over : length plans ≤ e). rw (no_quota plans e over, none_of e (length plans) all over (all_entries (length plans) journal played.scripts)) (omega arith))
+      (λ (over : length plans ≤ e). rw (no_quota plans e over, none_of e (length plans) all over (all_entries (length plans) journal played.scripts))
+      (omega arith))
       (below_or e (length plans))
 
   same_length : length all ≡ length journal
@@ -98,7 +102,18 @@ module _ (plans : List (List PlannedData)) (journal : List LoggedData) (played :
       let o = others_bound quotas all made bounded k (omega (arith, many, below)) in
       let q : quota_at quotas k ≡ length (plan_of plans k) = quota_is plans k below in
       let p : length (plan_of plans k) ≤ many_commands plans = length_part plans k below in
-      let whole : length b.left ≡ 0 = omega (arith, o, q, p, none, same_length, ap length b.entries_are, length_entries k 0 b.sent, ap length b.split, length-append b.sent b.left) in
+      let whole : length b.left ≡ 0 = omega (
+        arith,
+        o,
+        q,
+        p,
+        none,
+        same_length,
+        ap length b.entries_are,
+        length_entries k 0 b.sent,
+        ap length b.split,
+        length-append b.sent b.left,
+      ) in
       b.entries_are ∙ ap (entries k 0) (sym (b.split ∙ ap (λ (l : List PlannedData). b.sent ++ l) (empty b.left whole) ∙ append-nil b.sent))
 
   -- some script of the first n lacks commands, where there are fewer of them in all than these have
@@ -117,7 +132,14 @@ module _ (plans : List (List PlannedData)) (journal : List LoggedData) (played :
   pub some_left : 0 < many_commands plans - length journal → LacksSome journal plans
   some_left left =
       search_lack (length plans) (omega arith)
-      (omega (arith, left, same_length, below_all (length plans) all (all_entries (length plans) journal played.scripts), ap sum (take_whole quotas (length plans) many)))
+      (omega (
+        arith,
+        left,
+        same_length,
+        below_all (length plans) all (all_entries (length plans) journal played.scripts),
+        ap sum
+            (take_whole quotas (length plans) many),
+      ))
 
   -- a journal has no more commands than there are
   pub not_more : length journal ≤ many_commands plans

@@ -1,5 +1,6 @@
 -- The entries of a run's journal stand one after the other as an order lists them.
-use Rattle.std.proofs.Common.{◌≡◌, ◌⊎◌, ℕ, zero, suc, ◌+◌, ◌-◌, ◌^◌, ◌<◌, ◌≤◌, List, [], ◌∷◌, ◌++◌, length, map, take, get_or, refl, sym, ap, ◌∙◌, subst, ⊎_elim, inl, inr, arith, length-append, eq-eqb}
+use Rattle.std.proofs.Common.{◌≡◌, ◌⊎◌, ℕ, zero, suc, ◌+◌, ◌-◌, ◌^◌, ◌<◌, ◌≤◌, List, [], ◌∷◌, ◌++◌, length, map, take, get_or, refl, sym, ap, ◌∙◌, subst}
+use Rattle.std.proofs.Common.{⊎_elim, inl, inr, arith, length-append, eq-eqb}
 use Rattle.std.specs.Prelude.{◌==◌, Bool, true, false, cond, filter, All, slice_index, slice_index_or}
 use Rattle.std.proofs.lemmas.List.{length-map}
 use Rattle.std.proofs.lemmas.List.Elements.{All-head, All-tail}
@@ -35,10 +36,12 @@ push_same false k j first l rest e is at =
       block = rw is (let none : 0 + j ≡ j = omega arith in rw none at.block);
     }
 
-count_cons : (k : ℕ) (first : LoggedData) (rest : List LoggedData) → count_of k (first ∷ rest) ≡ length (cond (first.entry.script == k) (first ∷ []) []) + count_of k rest
+count_cons : (k : ℕ) (first : LoggedData) (rest : List LoggedData) → count_of k (first
+    ∷ rest) ≡ length (cond (first.entry.script == k) (first ∷ []) []) + count_of k rest
 count_cons k first rest = by_test (first.entry.script == k)
   where
-    by_test : (b : Bool) → length (cond b (first ∷ filter (λ (l : LoggedData). l.entry.script == k) rest) (filter (λ (l : LoggedData). l.entry.script == k) rest))
+    by_test : (b : Bool) → length (cond b (first ∷ filter (λ (l : LoggedData). l.entry.script == k) rest)
+        (filter (λ (l : LoggedData). l.entry.script == k) rest))
         ≡ length (cond b (first ∷ []) []) + length (filter (λ (l : LoggedData). l.entry.script == k) rest)
     by_test true = omega arith
     by_test false = omega arith
@@ -73,12 +76,14 @@ due_at [] (b ∷ blocks) j below due = absurd due
 due_at (d ∷ ds) (b ∷ blocks) zero below due = due.0
 due_at (d ∷ ds) (b ∷ blocks) (suc j) below due = due_at ds blocks j (omega arith) due.1
 
-last_push : (none : ℕ) (journal : List LoggedData) (i : ℕ) (d : LoggedData) → i < length journal → last_block none (take (suc i) journal) ≡ (get_or journal i d).block
+last_push : (none : ℕ) (journal : List LoggedData) (i : ℕ) (d : LoggedData) → i < length journal
+    → last_block none (take (suc i) journal) ≡ (get_or journal i d).block
 last_push none [] i d below = absurd (omega arith)
 last_push none (l ∷ ls) zero d below = refl
 last_push none (l ∷ ls) (suc i) d below = last_push l.block ls i d (omega arith)
 
-later : (journal : List LoggedData) (i : ℕ) (d : LoggedData) (present : ℕ) → i < length journal → AreTakenUpTo present journal → last_block 0 (take i journal) ≤ (get_or journal i d).block
+later : (journal : List LoggedData) (i : ℕ) (d : LoggedData) (present : ℕ) → i < length journal → AreTakenUpTo present journal
+    → last_block 0 (take i journal) ≤ (get_or journal i d).block
 later journal zero d present below taken = omega arith
 later journal (suc i) d present below taken =
     let order = taken.order i (suc i) d (omega arith) below in
@@ -98,12 +103,14 @@ few_of : (k : ℕ) (journal : List LoggedData) → count_of k journal ≤ length
 few_of k [] = omega arith
 few_of k (l ∷ ls) = by_test (l.entry.script == k) (few_of k ls)
   where
-    by_test : (b : Bool) → count_of k ls ≤ length ls → length (cond b (l ∷ filter (λ (x : LoggedData). x.entry.script == k) ls) (filter (λ (x : LoggedData). x.entry.script == k) ls)) ≤ length (l ∷ ls)
+    by_test : (b : Bool) → count_of k ls ≤ length ls → length (cond b (l ∷ filter (λ (x : LoggedData). x.entry.script == k) ls)
+        (filter (λ (x : LoggedData). x.entry.script == k) ls)) ≤ length (l ∷ ls)
     by_test true rest = omega arith
     by_test false rest = omega arith
 
 -- every entry follows those before it
-pub all_follow : (journal : List LoggedData) (plans : List (List PlannedData)) (blocks : ℕ) → ArePlayed journal plans → AreTakenUpTo (blocks - 1) journal → All (λ l. IsInRange l.entry.command) journal
+pub all_follow : (journal : List LoggedData) (plans : List (List PlannedData)) (blocks : ℕ) → ArePlayed journal plans → AreTakenUpTo (blocks - 1) journal
+    → All (λ l. IsInRange l.entry.command) journal
     → 1 ≤ blocks → blocks ≤ 1048576 → length plans ≤ 256 → length journal ≤ 1000000
     → (i : ℕ) (d : LoggedData) → i < length journal → Follows (take i journal) blocks (length plans) (slice_index_or journal i d)
 all_follow journal plans blocks played taken ranges some few scripts many i d below =
@@ -119,7 +126,8 @@ all_follow journal plans blocks played taken ranges some few scripts many i d be
     let numbers = entries_at k 0 sent j l.entry within in
     let seq : l.entry.seq ≡ j = ap (λ (x : EntryData). x.seq) (sym entry) ∙ numbers.0 ∙ (let same : 0 + j ≡ j = omega arith in same) in
     let sent_at : l.entry.sent_at ≡ slice_index (due_blocks (plan_of plans k)) j =
-    ap (λ (x : EntryData). x.sent_at) (sym entry) ∙ numbers.1 ∙ sym (prefix_due sent begun.left j within) ∙ ap (λ (p : List PlannedData). slice_index (due_blocks p) j) (sym begun.split) in
+    ap (λ (x : EntryData). x.sent_at) (sym entry) ∙ numbers.1 ∙ sym (prefix_due sent begun.left j within)
+    ∙ ap (λ (p : List PlannedData). slice_index (due_blocks p) j) (sym begun.split) in
     let in_blocks : j < length (blocks_of k journal) = omega (arith, at.within, length_blocks k journal) in
     let due : l.entry.sent_at ≤ l.block = rw (sent_at, ← at.block) (due_at (due_blocks (plan_of plans k)) (blocks_of k journal) j in_blocks begun.due) in
     let past : l.block ≤ blocks - 1 = all_at (λ x. x.block ≤ blocks - 1) journal i d below taken.past in

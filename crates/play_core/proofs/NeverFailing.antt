@@ -35,7 +35,8 @@ stopped_never_failing words before now none = asks_more words _ _
     (λ a s. ⊎_elim (λ w. absurd (none w.0)) (λ p. (left_of s.0 s.1, blocks_of_run a.blocks s.0, length s.1, own_blocks a.blocks s.0, p.3)) s.6)
 
 -- a number below another is one
-pub some_places : (words : List (List ℕ)) (files : Option Files) → Asks words (λ a. (plans : List (List PlannedData)) × HavePlans a files plans × IsSomeAnd a.places (λ p. p < many_commands plans))
+pub some_places : (words : List (List ℕ)) (files : Option Files) → Asks words (λ a. (plans : List (List PlannedData)) × HavePlans a files plans
+    × IsSomeAnd a.places (λ p. p < many_commands plans))
     → Asks words (λ a. a.places ≢ None)
 some_places words files = asks_more words _ _ (λ a few. by_places (many_commands few.0) a.places few.2)
   where

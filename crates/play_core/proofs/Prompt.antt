@@ -1,5 +1,6 @@
 -- Where the line has a place for each command, each is logged at its due block.
-use Rattle.std.proofs.Common.{◌≡◌, ◌⊎◌, ℕ, zero, suc, ◌+◌, ◌-◌, ◌<◌, ◌≤◌, List, [], ◌∷◌, ◌++◌, length, map, drop, get_or, refl, sym, ap, ◌∙◌, subst, ⊎_elim, inl, inr, arith, length-append, eq-eqb}
+use Rattle.std.proofs.Common.{◌≡◌, ◌⊎◌, ℕ, zero, suc, ◌+◌, ◌-◌, ◌<◌, ◌≤◌, List, [], ◌∷◌, ◌++◌, length, map, drop, get_or, refl, sym, ap, ◌∙◌, subst, ⊎_elim}
+use Rattle.std.proofs.Common.{inl, inr, arith, length-append, eq-eqb}
 use Rattle.std.specs.Prelude.{◌==◌, Bool, true, false, cond, filter, All, slice_index}
 use Rattle.std.proofs.lemmas.List.{append-nil, length-map}
 use Rattle.std.proofs.lemmas.List.Elements.{All-head, All-tail}
@@ -32,7 +33,8 @@ on_due (d ∷ ds) (b ∷ blocks) due none =
     later i (inl le) = inl (omega arith)
     later i (inr lt) = inr lt
 
-pub all_prompt : (plans : List (List PlannedData)) (journal : List LoggedData) (places : ℕ) → IsTimed journal plans places → many_commands plans ≤ places → ArePrompt journal plans
+pub all_prompt : (plans : List (List PlannedData)) (journal : List LoggedData) (places : ℕ) → IsTimed journal plans places → many_commands plans ≤ places
+    → ArePrompt journal plans
 all_prompt plans journal places timed room k below =
     on_due (due_blocks (plan_of plans k)) (blocks_of k journal) (timed.played.each k below).due
     (λ i lt off.
@@ -69,7 +71,8 @@ abbrev logged_at : ℕ → EntryData → LoggedData
 logged_at block e = record { block = block; entry = e }
 
 -- a journal is known by its entries and their blocks
-known : (seq : ℕ) (plan : List PlannedData) (journal : List LoggedData) → entries_of journal ≡ entries 0 seq plan → map (λ (l : LoggedData). l.block) journal ≡ due_blocks plan
+known : (seq : ℕ) (plan : List PlannedData) (journal : List LoggedData) → entries_of journal ≡ entries 0 seq plan
+    → map (λ (l : LoggedData). l.block) journal ≡ due_blocks plan
     → journal ≡ journal_alone seq plan
 known seq [] [] es bs = refl
 known seq [] (l ∷ ls) es bs = absurd (let e = ap length es in omega (arith, e))
@@ -85,7 +88,8 @@ known seq (c ∷ plan) (l ∷ ls) es bs =
     ∙ ap (λ (b : ℕ). logged_at b (planned_entry seq c) ∷ ls) block
     ∙ ap (λ (x : List LoggedData). logged_at c.due (planned_entry seq c) ∷ x) rest
 
-pub one_alone : (plans : List (List PlannedData)) (journal : List LoggedData) (places : ℕ) → IsTimed journal plans places → many_commands plans ≤ places → length plans ≡ 1
+pub one_alone : (plans : List (List PlannedData)) (journal : List LoggedData) (places : ℕ) → IsTimed journal plans places → many_commands plans ≤ places
+    → length plans ≡ 1
     → journal ≡ journal_alone 0 (plan_of plans 0)
 one_alone plans journal places timed room one =
     let below : 0 < length plans = omega (arith, one) in

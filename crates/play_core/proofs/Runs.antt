@@ -1,5 +1,6 @@
 -- How a run ends whose scripts all have a plan.
-use Rattle.std.proofs.Common.{◌≡◌, ◌≢◌, ◌⊎◌, ℕ, zero, suc, ◌+◌, ◌-◌, ◌<◌, ◌≤◌, List, [], ◌∷◌, ◌++◌, length, take, refl, sym, ap, ◌∙◌, subst, inl, inr, ⊎_elim, arith, min}
+use Rattle.std.proofs.Common.{◌≡◌, ◌≢◌, ◌⊎◌, ℕ, zero, suc, ◌+◌, ◌-◌, ◌<◌, ◌≤◌, List, [], ◌∷◌, ◌++◌, length, take, refl, sym, ap, ◌∙◌, subst, inl, inr, ⊎_elim}
+use Rattle.std.proofs.Common.{arith, min}
 use Rattle.std.specs.Prelude.{◌==◌, Option, Some, None, All, option_map, slice_index_or, if◌then◌else◌}
 use Rattle.std.proofs.Math.Seq.{take-length}
 use Rattle.std.proofs.lemmas.List.Elements.{All-nil}
@@ -37,13 +38,15 @@ none_played plans = record {
 prefix_longer : (count : ℕ) (x more : List ℕ) → take count x ≡ take (min count (length x)) (x ++ more)
 prefix_longer zero x more = let none : min 0 (length x) ≡ 0 = omega arith in rw none refl
 prefix_longer (suc n) [] more = let none : min (suc n) 0 ≡ 0 = omega arith in rw none refl
-prefix_longer (suc n) (b ∷ x) more = let one : min (suc n) (suc (length x)) ≡ suc (min n (length x)) = omega arith in rw one (ap (λ (l : List ℕ). b ∷ l) (prefix_longer n x more))
+prefix_longer (suc n) (b ∷ x) more = let one : min (suc n) (suc (length x)) ≡ suc (min n (length x)) = omega arith in
+    rw one (ap (λ (l : List ℕ). b ∷ l) (prefix_longer n x more))
 
 begun_longer : (before now : Option (List ℕ)) (x more : List ℕ) → IsFileBegun before now x → IsFileBegun before now (x ++ more)
 begun_longer before now x more (inl same) = inl same
 begun_longer before now x more (inr (count, is)) = inr (min count (length x), is ∙ ap (λ (l : List ℕ). Some l) (prefix_longer count x more))
 
-are_begun_longer : (before now : Option Files) (out x more name y rest : List ℕ) → AreBegun before now out x name y → AreBegun before now out (x ++ more) name (y ++ rest)
+are_begun_longer : (before now : Option Files) (out x more name y rest : List ℕ) → AreBegun before now out x name y
+    → AreBegun before now out (x ++ more) name (y ++ rest)
 are_begun_longer before now out x more name y rest begun = record {
   out_begun = begun_longer _ _ x more begun.out_begun;
   order_begun = begun_longer _ _ y rest begun.order_begun;
@@ -60,15 +63,19 @@ order_is journal blocks scripts = refl
 
 take_both : (x y : List ℕ) (n : ℕ) → x ++ take n y ≡ take (length x + n) (x ++ y)
 take_both [] y n = let same : n ≡ 0 + n = omega arith in ap (λ (k : ℕ). take k y) same
-take_both (b ∷ x) y n = let same : suc (length x + n) ≡ suc (length x) + n = omega arith in ap (λ (l : List ℕ). b ∷ l) (take_both x y n) ∙ ap (λ (k : ℕ). take k (b ∷ (x ++ y))) same
+take_both (b ∷ x) y n = let same : suc (length x + n) ≡ suc (length x) + n = omega arith in ap (λ (l : List ℕ). b ∷ l) (take_both x y n)
+    ∙ ap (λ (k : ℕ). take k (b ∷ (x ++ y))) same
 
 both_grow : (out name : List ℕ) → out ≢ name → (o before now : Option Files) (x y z w : List ℕ)
-    → before ≡ option_map (with_two out x name y) o → now ≡ option_map (both_appended out z name w) before → now ≡ option_map (with_two out (x ++ z) name (y ++ w)) o
+    → before ≡ option_map (with_two out x name y) o → now ≡ option_map (both_appended out z name w) before
+    → now ≡ option_map (with_two out (x ++ z) name (y ++ w)) o
 both_grow out name ne o before now x y z w was is =
-    text_grows out name ne o (option_map (appended out z) before) now (x ++ z) y w (sound_grows out name ne o before (option_map (appended out z) before) x y z was refl)
+    text_grows out name ne o (option_map (appended out z) before) now (x ++ z) y w
+    (sound_grows out name ne o before (option_map (appended out z) before) x y z was refl)
     (is ∙ sym (then_mapped (appended out z) (appended name w) before))
 
-module _ (a : RequestData) (before now : Snapshot) (status : ℕ) (plans : List (List PlannedData)) (differ : a.out ≢ a.order) (planned : HavePlans a before.files plans) where
+module _ (a : RequestData) (before now : Snapshot) (status : ℕ) (plans : List (List PlannedData)) (differ : a.out ≢ a.order)
+    (planned : HavePlans a before.files plans) where
   abbrev blocks : ℕ
   blocks = blocks_of_run a.blocks plans
 
@@ -76,9 +83,11 @@ module _ (a : RequestData) (before now : Snapshot) (status : ℕ) (plans : List 
   scripts = length plans
 
   -- the first bytes of a file were not written
-  pub stopped_at_start : (target : Target) → status ≡ 3 → IsOrdered [] blocks scripts → IsStopped target before.files now.files a.out (wav_header blocks) a.order (order_header blocks scripts)
+  pub stopped_at_start : (target : Target) → status ≡ 3 → IsOrdered [] blocks scripts
+      → IsStopped target before.files now.files a.out (wav_header blocks) a.order (order_header blocks scripts)
       → now.reading ≡ before.reading → Rose before.writing now.writing
-      → (Says (cannot_write a.out) before.written now.written before.faults now.faults ⊎ Says (cannot_write a.order) before.written now.written before.faults now.faults)
+      → (Says (cannot_write a.out) before.written now.written before.faults now.faults
+      ⊎ Says (cannot_write a.order) before.written now.written before.faults now.faults)
       → IsPlayedRun a before now status
   stopped_at_start target is ordered stopped reading rose line = inl (record {
     plans = plans;
@@ -94,11 +103,14 @@ module _ (a : RequestData) (before now : Snapshot) (status : ℕ) (plans : List 
     line = inl (rose, line);
   })
 
-  module _ (middle : Option Files) (journal : List LoggedData) (made : middle ≡ option_map (with_two a.out (wav_header blocks) a.order (order_header blocks scripts)) before.files) where
+  module _ (middle : Option Files) (journal : List LoggedData) (made : middle ≡ option_map
+      (with_two a.out (wav_header blocks) a.order (order_header blocks scripts)) before.files) where
     -- a write failed in a turn
-    pub stopped_in_turns : status ≡ 3 → IsOrdered journal blocks scripts → ArePlayed journal plans → BothBegun a.out (wav_blocks journal blocks) a.order (order_lines journal) middle now.files
+    pub stopped_in_turns : status ≡ 3 → IsOrdered journal blocks scripts → ArePlayed journal plans
+        → BothBegun a.out (wav_blocks journal blocks) a.order (order_lines journal) middle now.files
         → now.reading ≡ before.reading → Rose before.writing now.writing
-        → (Says (cannot_write a.out) before.written now.written before.faults now.faults ⊎ Says (cannot_write a.order) before.written now.written before.faults now.faults)
+        → (Says (cannot_write a.out) before.written now.written before.faults now.faults
+        ⊎ Says (cannot_write a.order) before.written now.written before.faults now.faults)
         → IsPlayedRun a before now status
     stopped_in_turns is ordered begun both reading rose line =
         let m = both.0 in
@@ -112,11 +124,15 @@ module _ (a : RequestData) (before now : Snapshot) (status : ℕ) (plans : List 
           begun = begun;
           reading = reading;
           files = rw (wav_is journal blocks, order_is journal blocks scripts)
-              (begun_both a.out a.order differ before.files now.files (wav_header blocks ++ wav_blocks journal blocks) (order_header blocks scripts ++ order_lines journal)
+              (begun_both a.out a.order differ before.files now.files (wav_header blocks ++ wav_blocks journal blocks) (order_header blocks scripts
+              ++ order_lines journal)
               (length (wav_header blocks) + m) (length (order_header blocks scripts) + n)
-              (both_grow a.out a.order differ before.files middle now.files (wav_header blocks) (order_header blocks scripts) (take m (wav_blocks journal blocks)) (take n (order_lines journal)) made both.2
-              ∙ ap (λ (l : List ℕ). option_map (with_two a.out l a.order (order_header blocks scripts ++ take n (order_lines journal))) before.files) (take_both (wav_header blocks) (wav_blocks journal blocks) m)
-              ∙ ap (λ (l : List ℕ). option_map (with_two a.out (take (length (wav_header blocks) + m) (wav_header blocks ++ wav_blocks journal blocks)) a.order l) before.files)
+              (both_grow a.out a.order differ before.files middle now.files (wav_header blocks) (order_header blocks scripts)
+              (take m (wav_blocks journal blocks)) (take n (order_lines journal)) made both.2
+              ∙ ap (λ (l : List ℕ). option_map (with_two a.out l a.order (order_header blocks scripts ++ take n (order_lines journal))) before.files)
+              (take_both (wav_header blocks) (wav_blocks journal blocks) m)
+              ∙ ap (λ (l : List ℕ). option_map (with_two a.out (take (length (wav_header blocks) + m) (wav_header blocks ++ wav_blocks journal blocks)) a.order
+              l) before.files)
               (take_both (order_header blocks scripts) (order_lines journal) n)));
           line = inl (rose, line);
         })
@@ -125,8 +141,10 @@ module _ (a : RequestData) (before now : Snapshot) (status : ℕ) (plans : List 
     both_whole : now.files ≡ option_map (both_appended a.out (wav_blocks journal blocks) a.order (order_lines journal)) middle
         → now.files ≡ option_map (played a plans journal) before.files
     both_whole whole =
-        both_grow a.out a.order differ before.files middle now.files (wav_header blocks) (order_header blocks scripts) (wav_blocks journal blocks) (order_lines journal) made whole
-        ∙ ap (λ (l : List ℕ). option_map (with_two a.out l a.order (order_header blocks scripts ++ order_lines journal)) before.files) (sym (wav_is journal blocks))
+        both_grow a.out a.order differ before.files middle now.files (wav_header blocks) (order_header blocks scripts) (wav_blocks journal blocks)
+        (order_lines journal) made whole
+        ∙ ap (λ (l : List ℕ). option_map (with_two a.out l a.order (order_header blocks scripts ++ order_lines journal)) before.files)
+        (sym (wav_is journal blocks))
         ∙ ap (λ (l : List ℕ). option_map (with_two a.out (wav journal blocks) a.order l) before.files) (sym (order_is journal blocks scripts))
 
     -- all turns were played, and the report was put, or it failed
@@ -172,7 +190,8 @@ none_ordered blocks scripts some few one many = record {
   each = λ i d below. absurd (omega (arith, below));
 }
 
-pub run_ordered : (journal : List LoggedData) (blocks scripts all : ℕ) → (1 ≤ blocks) → blocks ≤ 1048576 → 1 ≤ scripts → scripts ≤ 256 → length journal ≤ all → all ≤ 1000000
+pub run_ordered : (journal : List LoggedData) (blocks scripts all : ℕ) → (1 ≤ blocks) → blocks ≤ 1048576 → 1 ≤ scripts → scripts ≤ 256 → length journal ≤ all
+    → all ≤ 1000000
     → ((i : ℕ) (d : LoggedData) → i < length journal → Follows (take i journal) blocks scripts (slice_index_or journal i d)) → IsOrdered journal blocks scripts
 run_ordered journal blocks scripts all some few one many within limit each = record {
   some_blocks = some;

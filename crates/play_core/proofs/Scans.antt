@@ -1,5 +1,6 @@
 -- Scripts read one after the other.
-use Rattle.std.proofs.Common.{◌≡◌, ℕ, ◌+◌, ◌-◌, ◌≤◌, ◌<◌, List, [], ◌∷◌, ◌++◌, length, take, drop, map, get_or, rules, refl, sym, ◌∙◌, ap, subst, arith, append_assoc, add-one, lt-ltb, ltb-true}
+use Rattle.std.proofs.Common.{◌≡◌, ℕ, ◌+◌, ◌-◌, ◌≤◌, ◌<◌, List, [], ◌∷◌, ◌++◌, length, take, drop, map, get_or, rules, refl, sym, ◌∙◌, ap, subst, arith}
+use Rattle.std.proofs.Common.{append_assoc, add-one, lt-ltb, ltb-true}
 use Rattle.std.specs.Prelude.{nat_lt, Bool, true, false, Option, Some, None, IfSome, All, String, string_bytes, max, sum, if◌then◌else◌}
 use Rattle.std.specs.declared.alloc.Global.{Global}
 use Rattle.std.proofs.lemmas.Grind.{take_at_read}
@@ -18,7 +19,8 @@ use Rattle.play_core.specs.declared.refusal.PlayRefusal.TheVariants as why
 use Rattle.instrument.specs.Limits.{block_limit}
 use Rattle.play_core.specs.Limits.{command_limit, script_limit, scripts_limit}
 use Rattle.turns.specs.Turns.{many_commands}
-use Rattle.play_core.specs.Verdict.{Verdict, Lacking, LongFile, LongScripts, Faulty, ManyCommands, ManyBlocks, Plays, IsPlayed, nothing, verdict, blocks_of_run, of_blocks, with_script, with_plan, of_plan, of_text, of_file, of_scripts}
+use Rattle.play_core.specs.Verdict.{Verdict, Lacking, LongFile, LongScripts, Faulty, ManyCommands, ManyBlocks, Plays, IsPlayed, nothing, verdict, blocks_of_run}
+use Rattle.play_core.specs.Verdict.{of_blocks, with_script, with_plan, of_plan, of_text, of_file, of_scripts}
 use Rattle.play_core.specs.Words.{RequestData}
 use Rattle.play_core.specs.Refused.{AgreesWith, IsCaused}
 use Rattle.play_core.specs.Scan.{AreBelow, IsTextOf, IsNext, NextTells, NextCause, with_all, AreRead}
@@ -32,7 +34,8 @@ all_none (Faulty number place what) = refl
 all_none ManyCommands = refl
 all_none ManyBlocks = refl
 
-pub all_pushed : (plans : List (List PlannedData)) (one : List PlannedData) (said : Verdict) → with_all plans (with_plan one said) ≡ with_all (plans ++ one ∷ []) said
+pub all_pushed : (plans : List (List PlannedData)) (one : List PlannedData) (said : Verdict)
+    → with_all plans (with_plan one said) ≡ with_all (plans ++ one ∷ []) said
 all_pushed before one (Plays plans) = ap (λ (l : List (List PlannedData)). Plays l) (sym (append_assoc before (one ∷ []) plans))
 all_pushed before one (Lacking name) = refl
 all_pushed before one LongFile = refl
@@ -53,7 +56,8 @@ pub reads_none : (told : Files) (blocks : Option ℕ) → AreRead told blocks []
 reads_none told blocks = λ rest. sym (all_none (of_scripts told blocks nothing rest))
 
 next_scripts : (told : Files) (blocks : Option ℕ) (t : Totals) (name : List ℕ) (names : List (List ℕ))
-    → of_scripts told blocks t (name ∷ names) ≡ of_file blocks t name (get told name) (λ text one. of_scripts told blocks (with_script t (length text) (length one)) names)
+    → of_scripts told blocks t (name ∷ names) ≡ of_file blocks t name (get told name) (λ text one.
+    of_scripts told blocks (with_script t (length text) (length one)) names)
 unfolding of_scripts
 next_scripts told blocks t name names = refl
 
@@ -61,9 +65,16 @@ one_script : (told : Files) (blocks : Option ℕ) (name : List ℕ) (t after : T
     → IsTextOf told blocks name t one after → of_scripts told blocks t (name ∷ names) ≡ with_plan one (of_scripts told blocks after names)
 one_script told blocks name t after one names next =
     next_scripts told blocks t name names
-    ∙ rw (next.found, not_above (length next.text) script_limit next.short, not_above (t.bytes + length next.text) scripts_limit next.fits, next.planned, next.totals) refl
+    ∙ rw (
+      next.found,
+      not_above (length next.text) script_limit next.short,
+      not_above (t.bytes + length next.text) scripts_limit next.fits,
+      next.planned,
+      next.totals,
+    ) refl
 
-pub reads_more : (told : Files) (blocks : Option ℕ) (before : List (List ℕ)) (name : List ℕ) (plans : List (List PlannedData)) (one : List PlannedData) (t after : Totals)
+pub reads_more : (told : Files) (blocks : Option ℕ) (before : List (List ℕ)) (name : List ℕ) (plans : List (List PlannedData)) (one : List PlannedData)
+    (t after : Totals)
     → AreRead told blocks before plans t → IsTextOf told blocks name t one after → AreRead told blocks (before ++ name ∷ []) (plans ++ one ∷ []) after
 reads_more told blocks before name plans one t after so_far next = λ rest.
     ap (of_scripts told blocks nothing) (append_assoc before (name ∷ []) rest)
@@ -86,7 +97,8 @@ tells_all why.ManyCommands plans said tells = rw tells refl
 tells_all why.ManyBlocks plans said tells = rw tells refl
 tells_all why.Memory plans said tells = tt
 
-pub tells_whole : (why : PlayRefusal) (told : Files) (blocks : Option ℕ) (names before : List (List ℕ)) (name : List ℕ) (rest : List (List ℕ)) (plans : List (List PlannedData)) (t : Totals)
+pub tells_whole : (why : PlayRefusal) (told : Files) (blocks : Option ℕ) (names before : List (List ℕ)) (name : List ℕ) (rest : List (List ℕ))
+    (plans : List (List PlannedData)) (t : Totals)
     → names ≡ before ++ name ∷ rest → AreRead told blocks before plans t
     → ((after : List ℕ → List PlannedData → Verdict) → AgreesWith why (of_file blocks t name (get told name) after))
     → AgreesWith why (of_scripts told blocks nothing names)
@@ -99,8 +111,10 @@ tells_whole why told blocks names before name rest plans t is so_far tells =
 names_split : (names : List (String Global)) (i : ℕ) (name : String Global) → i < length names → name ≡ get_or names i name
     → map string_bytes names ≡ map string_bytes (take i names) ++ string_bytes name ∷ map string_bytes (drop (i + 1) names)
 names_split names i name below is =
-    let one : take (i + 1) names ≡ take i names ++ name ∷ [] = (take_at_read names i name below).1 ∙ ap (λ (n : String Global). take i names ++ n ∷ []) (sym is) in
-    ap (λ (l : List (String Global)). map string_bytes l) (sym (take-append-drop (i + 1) names) ∙ ap (λ (l : List (String Global)). l ++ drop (i + 1) names) one ∙ append_assoc (take i names) (name ∷ []) (drop (i + 1) names))
+    let one : take (i + 1) names ≡ take i names ++ name ∷ [] = (take_at_read names i name below).1
+    ∙ ap (λ (n : String Global). take i names ++ n ∷ []) (sym is) in
+    ap (λ (l : List (String Global)). map string_bytes l) (sym (take-append-drop (i + 1) names) ∙ ap (λ (l : List (String Global)). l ++ drop (i + 1) names) one
+    ∙ append_assoc (take i names) (name ∷ []) (drop (i + 1) names))
     ∙ map-append string_bytes (take i names) (name ∷ drop (i + 1) names)
 
 names_more : (names : List (String Global)) (i : ℕ) (name : String Global) → i < length names → name ≡ get_or names i name
@@ -112,7 +126,8 @@ names_more names i name below is =
 abbrev pub AreReadOf : Option Files → Option ℕ → List (String Global) → ℕ → List (List PlannedData) → Totals → Type 0
 AreReadOf files blocks names i plans t = IfSome files (λ told. AreRead told blocks (map string_bytes (take i names)) plans t)
 
-pub next_read : (files : Option Files) (blocks : Option ℕ) (names : List (String Global)) (i : ℕ) (name : String Global) (q : List ℕ) (plans all : List (List PlannedData)) (one : List PlannedData) (t after : Totals)
+pub next_read : (files : Option Files) (blocks : Option ℕ) (names : List (String Global)) (i : ℕ) (name : String Global) (q : List ℕ)
+    (plans all : List (List PlannedData)) (one : List PlannedData) (t after : Totals)
     → i < length names → name ≡ get_or names i name → q ≡ string_bytes name → all ≡ plans ++ one ∷ []
     → AreReadOf files blocks names i plans t → IsNext files blocks q t one after → AreReadOf files blocks names (i + 1) all after
 next_read None blocks names i name q plans all one t after below is text whole so_far next = so_far
@@ -128,7 +143,8 @@ all_read (Some told) blocks names i plans t over so_far =
     reads_whole told blocks (map string_bytes names) plans t
     (subst (λ (l : List (String Global)). AreRead told blocks (map string_bytes l) plans t) (take_all i names over) so_far)
 
-pub refused_tells : (why : PlayRefusal) (files : Option Files) (blocks : Option ℕ) (names : List (String Global)) (i : ℕ) (name : String Global) (q : List ℕ) (plans : List (List PlannedData)) (t : Totals)
+pub refused_tells : (why : PlayRefusal) (files : Option Files) (blocks : Option ℕ) (names : List (String Global)) (i : ℕ) (name : String Global) (q : List ℕ)
+    (plans : List (List PlannedData)) (t : Totals)
     → i < length names → name ≡ get_or names i name → q ≡ string_bytes name → AreReadOf files blocks names i plans t → NextTells why files blocks q t
     → IfSome files (λ told. AgreesWith why (of_scripts told blocks nothing (map string_bytes names)))
 refused_tells why None blocks names i name q plans t below is text so_far tells = so_far
@@ -143,8 +159,10 @@ good_before None blocks names i plans t so_far = so_far
 good_before (Some told) blocks names i plans t so_far =
     rw (take-map string_bytes i names, reads_whole told blocks (map string_bytes (take i names)) plans t so_far) tt
 
-pub refused_cause : (why : PlayRefusal) (files : Option Files) (blocks : Option ℕ) (names : List (String Global)) (i number : ℕ) (name : String Global) (q : List ℕ) (plans : List (List PlannedData)) (t : Totals) (before now : ℕ)
-    → i < length names → name ≡ get_or names i name → q ≡ string_bytes name → number ≡ i → AreReadOf files blocks names i plans t → NextCause why number files q before now
+pub refused_cause : (why : PlayRefusal) (files : Option Files) (blocks : Option ℕ) (names : List (String Global)) (i number : ℕ) (name : String Global)
+    (q : List ℕ) (plans : List (List PlannedData)) (t : Totals) (before now : ℕ)
+    → i < length names → name ≡ get_or names i name → q ≡ string_bytes name → number ≡ i → AreReadOf files blocks names i plans t
+    → NextCause why number files q before now
     → IsCaused why blocks files (map string_bytes names) before now
 refused_cause (why.Unread k) files blocks names i number name q plans t before now below is text counted so_far cause =
     let at : k ≡ i = cause.0 ∙ counted in
@@ -165,7 +183,8 @@ pub count_pushed : (plans : List (List PlannedData)) (one : List PlannedData) �
 count_pushed plans one = sum-map length (plans ++ one ∷ []) ∙ sum_by_push length plans one ∙ ap (λ (n : ℕ). n + length one) (sym (sum-map length plans))
 
 pub below_pushed : (blocks : Option ℕ) (plans : List (List PlannedData)) (one : List PlannedData)
-    → IfSome blocks (λ b. All (λ l. AreBelow b l) plans) → IfSome blocks (λ b. AreBelow b one) → IfSome blocks (λ b. All (λ l. AreBelow b l) (plans ++ one ∷ []))
+    → IfSome blocks (λ b. All (λ l. AreBelow b l) plans) → IfSome blocks (λ b. AreBelow b one)
+    → IfSome blocks (λ b. All (λ l. AreBelow b l) (plans ++ one ∷ []))
 below_pushed None plans one all last = all
 below_pushed (Some b) plans one all last = All-append (λ (l : List PlannedData). AreBelow b l) plans (one ∷ []) all (search rules)
 

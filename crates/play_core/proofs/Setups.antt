@@ -1,5 +1,6 @@
 -- Players and numbers of a run.
-use Rattle.std.proofs.Common.{◌≡◌, ℕ, zero, suc, ◌+◌, ◌<◌, ◌≤◌, List, [], ◌∷◌, ◌++◌, length, map, take, get_or, refl, sym, ap, ◌∙◌, subst, arith, max, append_assoc}
+use Rattle.std.proofs.Common.{◌≡◌, ℕ, zero, suc, ◌+◌, ◌<◌, ◌≤◌, List, [], ◌∷◌, ◌++◌, length, map, take, get_or, refl, sym, ap, ◌∙◌, subst, arith, max}
+use Rattle.std.proofs.Common.{append_assoc}
 use Rattle.std.specs.Prelude.{All, IfSome, Option, Some, None, sum, slice_index_or, slice_index}
 use Rattle.std.proofs.lemmas.List.Elements.{All-head, All-tail}
 use Rattle.play_core.specs.Scan.{AreBelow}
@@ -32,15 +33,19 @@ one_more_script scripts i script below is = (take_at_read scripts i script below
 pub greatest_more : (scripts : List (List PlannedData)) (i due later : ℕ) (script : List PlannedData) → i < length scripts → script ≡ get_or scripts i script
     → due ≡ greatest_due (take i scripts) → later ≡ max due (last_due script) → later ≡ greatest_due (take (i + 1) scripts)
 greatest_more scripts i due later script below is so_far next =
-    next ∙ ap (λ (n : ℕ). max n (last_due script)) so_far ∙ sym (greatest_pushed (take i scripts) script) ∙ ap greatest_due (sym (one_more_script scripts i script below is))
+    next ∙ ap (λ (n : ℕ). max n (last_due script)) so_far ∙ sym (greatest_pushed (take i scripts) script)
+    ∙ ap greatest_due (sym (one_more_script scripts i script below is))
 
-pub lengths_more : (scripts : List (List PlannedData)) (i : ℕ) (script : List PlannedData) (quotas all : List ℕ) (n : ℕ) → i < length scripts → script ≡ get_or scripts i script
+pub lengths_more : (scripts : List (List PlannedData)) (i : ℕ) (script : List PlannedData) (quotas all : List ℕ) (n : ℕ) → i < length scripts
+    → script ≡ get_or scripts i script
     → quotas ≡ map length (take i scripts) → n ≡ length script → all ≡ quotas ++ n ∷ [] → all ≡ map length (take (i + 1) scripts)
 lengths_more scripts i script quotas all n below is so_far one whole =
     whole ∙ ap (λ (l : List ℕ). l ++ n ∷ []) so_far ∙ ap (λ (m : ℕ). map length (take i scripts) ++ m ∷ []) one
-    ∙ sym (map-append length (take i scripts) (script ∷ [])) ∙ ap (λ (l : List (List PlannedData)). map length l) (sym (one_more_script scripts i script below is))
+    ∙ sym (map-append length (take i scripts) (script ∷ [])) ∙ ap (λ (l : List (List PlannedData)).
+    map length l) (sym (one_more_script scripts i script below is))
 
-pub one_fits : (scripts : List (List PlannedData)) (i : ℕ) (script : List PlannedData) → i < length scripts → script ≡ get_or scripts i script → length script ≤ many_commands scripts
+pub one_fits : (scripts : List (List PlannedData)) (i : ℕ) (script : List PlannedData) → i < length scripts → script ≡ get_or scripts i script
+    → length script ≤ many_commands scripts
 one_fits scripts i script below is =
     rw (sum-map length scripts) (subst (λ (s : List PlannedData). length s ≤ sum_by length scripts) (sym is) (get_or-le-sum_by length scripts i script below))
 
@@ -53,7 +58,8 @@ pub in_time_later : (few many : ℕ) (plans : List (List PlannedData)) → few �
 in_time_later few many [] le all = tt
 in_time_later few many (p ∷ plans) le all = (below_later few many (due_blocks p) le all.0, in_time_later few many plans le all.1)
 
-in_time_pushed : (blocks : ℕ) (plans : List (List PlannedData)) (one : List PlannedData) → AreInTime blocks plans → AllBelow blocks (due_blocks one) → AreInTime blocks (plans ++ one ∷ [])
+in_time_pushed : (blocks : ℕ) (plans : List (List PlannedData)) (one : List PlannedData) → AreInTime blocks plans → AllBelow blocks (due_blocks one)
+    → AreInTime blocks (plans ++ one ∷ [])
 in_time_pushed blocks [] one all last = (last, tt)
 in_time_pushed blocks (p ∷ plans) one all last = (all.0, in_time_pushed blocks plans one all.1 last)
 
@@ -75,13 +81,22 @@ in_time_more scripts i due later script below is so_far next plan =
 
 all_below : (blocks : ℕ) (plan : List PlannedData) → AreBelow blocks plan → AllBelow blocks (due_blocks plan)
 all_below blocks [] all = tt
-all_below blocks (c ∷ plan) all = (All-head (λ (x : PlannedData). x.due < blocks) c plan all, all_below blocks plan (All-tail (λ (x : PlannedData). x.due < blocks) c plan all))
+all_below blocks (c ∷ plan) all = (
+  All-head (λ (x : PlannedData). x.due < blocks) c plan all,
+  all_below blocks plan
+      (All-tail (λ (x : PlannedData). x.due < blocks) c plan all),
+)
 
 pub in_time_of : (blocks : ℕ) (plans : List (List PlannedData)) → All (λ one. AreBelow blocks one) plans → AreInTime blocks plans
 in_time_of blocks [] all = tt
-in_time_of blocks (p ∷ plans) all = (all_below blocks p (All-head (λ (l : List PlannedData). AreBelow blocks l) p plans all), in_time_of blocks plans (All-tail (λ (l : List PlannedData). AreBelow blocks l) p plans all))
+in_time_of blocks (p ∷ plans) all = (
+  all_below blocks p (All-head (λ (l : List PlannedData). AreBelow blocks l) p plans all),
+  in_time_of blocks plans
+      (All-tail (λ (l : List PlannedData). AreBelow blocks l) p plans all),
+)
 
-pub some_in_time : (due : ℕ) (blocks : Option ℕ) (plans : List (List PlannedData)) → AreInTime (due + 1) plans → IfSome blocks (λ b. (b ≡ due + 201) × (b ≤ 1048576)) → IfSome blocks (λ b. AreInTime b plans)
+pub some_in_time : (due : ℕ) (blocks : Option ℕ) (plans : List (List PlannedData)) → AreInTime (due + 1) plans
+    → IfSome blocks (λ b. (b ≡ due + 201) × (b ≤ 1048576)) → IfSome blocks (λ b. AreInTime b plans)
 some_in_time due None plans all is = tt
 some_in_time due (Some b) plans all is = in_time_later (due + 1) b plans (let same = is.0 in omega arith) all
 
@@ -92,7 +107,8 @@ plans_many (p ∷ players) = ap suc (plans_many players)
 pub players_many : (players : List PlayerView) (plans : List (List PlannedData)) → plans_of players ≡ plans → length players ≡ length plans
 players_many players plans is = sym (plans_many players) ∙ ap length is
 
-pub due_at : (blocks : ℕ) (plans : List (List PlannedData)) (k : ℕ) → k < length plans → AreInTime blocks plans → AllBelow blocks (due_blocks (slice_index_or plans k []))
+pub due_at : (blocks : ℕ) (plans : List (List PlannedData)) (k : ℕ) → k < length plans → AreInTime blocks plans
+    → AllBelow blocks (due_blocks (slice_index_or plans k []))
 due_at blocks [] k below all = absurd (omega arith)
 due_at blocks (p ∷ plans) zero below all = all.0
 due_at blocks (p ∷ plans) (suc k) below all = due_at blocks plans k (omega arith) all.1

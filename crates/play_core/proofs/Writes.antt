@@ -82,9 +82,11 @@ module _ (out order : List ℕ) (ne : out ≢ order) where
   text_stopped o before now sound text was (inl same) = inr (0, omega arith, same ∙ was)
   text_stopped o before now sound text was (inr (count, fits, is)) = inr (count, fits, text_grows o before now sound [] (take count text) was is)
 
-  pub stopped_begun : (target : Target) (o now : Option Files) (sound text : List ℕ) → IsStopped target o now out sound order text → AreBegun o now out sound order text
+  pub stopped_begun : (target : Target) (o now : Option Files) (sound text : List ℕ) → IsStopped target o now out sound order text
+      → AreBegun o now out sound order text
   stopped_begun Sound o now sound text (inl same) = rw same (begun_none o sound text)
   stopped_begun Sound o now sound text (inr (count, fits, is)) = begun_both o now sound text count 0 is
   stopped_begun Order o now sound text (inl made) = begun_first o now sound text made
   stopped_begun Order o now sound text (inr (count, fits, is)) =
-      begun_both o now sound text (length sound) count (is ∙ ap (λ (s : List ℕ). option_map (with_two out s order (take count text)) o) (sym (take-length sound)))
+      begun_both o now sound text (length sound) count (is ∙ ap (λ (s : List ℕ).
+      option_map (with_two out s order (take count text)) o) (sym (take-length sound)))

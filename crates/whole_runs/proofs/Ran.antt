@@ -17,7 +17,8 @@ use Rattle.tool_core.specs.Lines.{same_line}
 use Rattle.tool_core.specs.Orders.{order_limit}
 use Rattle.tool_core.specs.Outcomes.{WasDone, IsDone, IsUnread, IsUnwritten, IsRefused, IsPastLimit}
 use Rattle.whole_runs.specs.Verified.{Verified}
-use Rattle.whole_runs.proofs.Verifies.{Left, all_keep, at_some, fewer, long_order, long_there, never_differs, never_refused, prints_same, put_failed, read_failed, sound_kept, verified_by}
+use Rattle.whole_runs.proofs.Verifies.{Left, all_keep, at_some, fewer, long_order, long_there, never_differs, never_refused, prints_same, put_failed}
+use Rattle.whole_runs.proofs.Verifies.{read_failed, sound_kept, verified_by}
 
 -- what both calls say: of the run, and of the command after it
 pub record Ran (words check : List (List ℕ)) (p s : ℕ) (before mid now : Snapshot) : Type 0 where
@@ -43,7 +44,8 @@ module _ (words check : List (List ℕ)) (p s : ℕ) (before mid now : Snapshot)
   at_asked : (P : tool.RequestData → Type 0) (q : tool.RequestData) → requested_by check ≡ Some q → IfSome (requested_by check) P → P q
   at_asked P q asks h = at_some (requested_by check) P q asks h
 
-  module _ (a : RequestData) (files : Files) (is : mid.files ≡ Some files) (left : Left a.order a.out files) (asks : requested_by check ≡ Some (Verify a.order a.out)) where
+  module _ (a : RequestData) (files : Files) (is : mid.files ≡ Some files) (left : Left a.order a.out files)
+      (asks : requested_by check ≡ Some (Verify a.order a.out)) where
     status_left : IsOneOf s (0 ∷ 2 ∷ 3 ∷ 6 ∷ 8 ∷ [])
     status_left =
         fewer s r.status (λ e. let none : requested_by check ≡ None = r.usage e in cc)

@@ -81,7 +81,8 @@ module _ (order sound : List ℕ) (files : Files) (left : Left order sound files
   sound_good : sound_verdict (get files sound) ≡ Good
   unfolding sound_verdict
   sound_good =
-      let within : length (wav left.o.journal left.o.blocks) ≤ sound_limit = omega (arith, length-wav left.o.journal left.o.blocks, left.lists.ordered.few_blocks) in
+      let within : length (wav left.o.journal left.o.blocks) ≤ sound_limit =
+      omega (arith, length-wav left.o.journal left.o.blocks, left.lists.ordered.few_blocks) in
       rw (wav_there, le-ltb sound_limit (length (wav left.o.journal left.o.blocks)) within) refl
 
   at_order : (it : Verdict) → IsOrderVerdict (get files order) it → IsOrderVerdict (Some left.text) it
@@ -125,7 +126,8 @@ module _ (order sound : List ℕ) (files : Files) (left : Left order sound files
           absurd (there_is u.one (one_is mid.files u.one u.reached) (subst (λ (f : Option Files). Lacks f u.one.name) is lacks))
 
   -- ---- the comparison
-  no_offset : (o : OrderData) (offset : Option ℕ) → IsOrder (content files order) o → IsCompared (content files sound) (wav o.journal o.blocks) offset → offset ≡ None
+  no_offset : (o : OrderData) (offset : Option ℕ) → IsOrder (content files order) o → IsCompared (content files sound) (wav o.journal o.blocks) offset
+      → offset ≡ None
   no_offset o None lists compared = refl
   no_offset o (Some place) lists compared =
       let listed : IsOrder left.text o = subst (λ (g : Option (List ℕ)). IsOrder (unwrap_or g []) o) left.there lists in
@@ -178,7 +180,8 @@ module _ (order sound : List ℕ) (files : Files) (left : Left order sound files
   long_there now is long = some_at (file_of now.files order) (λ text. order_limit < length text) left.text
       (ap (λ (f : Option Files). file_of f order) is ∙ left.there) long
 
-  pub sound_kept : (now : Snapshot) → now.files ≡ Some files → (o : OrderData) → Lists now.files order o → file_of now.files sound ≡ Some (wav o.journal o.blocks)
+  pub sound_kept : (now : Snapshot) → now.files ≡ Some files → (o : OrderData) → Lists now.files order o
+      → file_of now.files sound ≡ Some (wav o.journal o.blocks)
   sound_kept now is o lists =
       let listed = some_and (get files order) (λ text. IsOrder text o) (subst (λ (f : Option Files). Lists f order o) is lists) in
       let same : IsOrder left.text o = subst (λ (text : List ℕ). IsOrder text o) (one_text (get files order) listed.0 left.text listed.1 left.there) listed.2 in

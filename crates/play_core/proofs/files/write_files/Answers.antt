@@ -8,11 +8,13 @@ returns-in-Err-create-clause-stopped g c = inl (c.in-Err-create.ensures.failed �
 
 pub returns-in-Err-append_all-clause-stopped : goal.returns-in-Err-append_all-clause-stopped
 returns-in-Err-append_all-clause-stopped g c =
-    sound_stopped _ _ c.requires _ _ _ _ c.args.text.now (both_made _ _ c.requires _ _ _ c.in-Ok.ensures.made c.in-Ok-create.ensures.made) c.in-Err-append_all.ensures.some
+    sound_stopped _ _ c.requires _ _ _ _ c.args.text.now (both_made _ _ c.requires _ _ _ c.in-Ok.ensures.made c.in-Ok-create.ensures.made)
+    c.in-Err-append_all.ensures.some
 
 pub returns-in-Err-append_all-clause-cause : goal.returns-in-Err-append_all-clause-cause
 returns-in-Err-append_all-clause-cause g c =
-    handed_on _ _ _ _ _ _ _ _ _ _ (c.in-Ok-create.ensures.cause.kept ∙ c.in-Ok.ensures.cause.kept) (c.in-Ok-create.ensures.cause.other ∙ c.in-Ok.ensures.cause.other)
+    handed_on _ _ _ _ _ _ _ _ _ _ (c.in-Ok-create.ensures.cause.kept ∙ c.in-Ok.ensures.cause.kept) (c.in-Ok-create.ensures.cause.other
+    ∙ c.in-Ok.ensures.cause.other)
     (has_first _ _ c.requires _ _ _ _ (both_made _ _ c.requires _ _ _ c.in-Ok.ensures.made c.in-Ok-create.ensures.made))
     c.in-Err-append_all.ensures.cause refl
 

@@ -23,16 +23,20 @@ pub play_scripts-journal-requires-clause-due : goal.play_scripts-journal-require
 play_scripts-journal-requires-clause-due g c κs within = all_due c.args.setup.blocks c.args.setup.cast.players.items c.requires.setup.due
 
 pub play_scripts-journal-requires-clause-has_sound : goal.play_scripts-journal-requires-clause-has_sound
-play_scripts-journal-requires-clause-has_sound g c κs within = has_first c.args.request.out.now c.args.request.order.now c.requires.request.differ _ _ _ _ c.in-Ok.ensures.whole
+play_scripts-journal-requires-clause-has_sound g c κs within = has_first c.args.request.out.now c.args.request.order.now c.requires.request.differ _ _ _ _
+    c.in-Ok.ensures.whole
 
 pub play_scripts-journal-requires-clause-has_order : goal.play_scripts-journal-requires-clause-has_order
-play_scripts-journal-requires-clause-has_order g c κs within = has_second c.args.request.out.now c.args.request.order.now c.requires.request.differ _ _ _ _ c.in-Ok.ensures.whole
+play_scripts-journal-requires-clause-has_order g c κs within = has_second c.args.request.out.now c.args.request.order.now c.requires.request.differ _ _ _ _
+    c.in-Ok.ensures.whole
 
 pub returns-in-Err-clause-run : goal.returns-in-Err-clause-run
 returns-in-Err-clause-run g c =
     stopped_at_start (request_data c.args.request)
-    (snapshot (g.S.Shelf.files c.args.shelf.now) (g.S.Shelf.reading c.args.shelf.now) (g.S.Shelf.writing c.args.shelf.now) (g.O.Out.written c.args.out.now) (g.O.Out.faults c.args.out.now))
-    (snapshot (g.S.Shelf.files c.stop.new.shelf) (g.S.Shelf.reading c.stop.new.shelf) (g.S.Shelf.writing c.stop.new.shelf) (g.O.Out.written c.stop.new.out) (g.O.Out.faults c.stop.new.out))
+    (snapshot (g.S.Shelf.files c.args.shelf.now) (g.S.Shelf.reading c.args.shelf.now) (g.S.Shelf.writing c.args.shelf.now) (g.O.Out.written c.args.out.now)
+    (g.O.Out.faults c.args.out.now))
+    (snapshot (g.S.Shelf.files c.stop.new.shelf) (g.S.Shelf.reading c.stop.new.shelf) (g.S.Shelf.writing c.stop.new.shelf) (g.O.Out.written c.stop.new.out)
+    (g.O.Out.faults c.stop.new.out))
     c.stop.result (plans_of c.args.setup.cast.players.items) c.requires.request.differ c.requires.plans c.in-Err.target c.stop.ensures.status
     (rw (← c.requires.setup.blocks_are)
     (none_ordered c.args.setup.blocks (length (plans_of c.args.setup.cast.players.items)) c.requires.setup.some c.requires.setup.few
@@ -51,19 +55,25 @@ returns-in-Ok-result-clause-run g c =
     omega (arith, length-map c.play_scripts-journal.result.0.items logged_data, c.len.ensures, c.play_scripts-journal.result.0.ok) in
     let few : length (journal_data c.play_scripts-journal.result.0.items) ≤ many_commands (plans_of c.args.setup.cast.players.items) =
     not_more (plans_of c.args.setup.cast.players.items) (journal_data c.play_scripts-journal.result.0.items) c.play_scripts-journal.ensures.played in
-    let scripts : length (plans_of c.args.setup.cast.players.items) ≤ 256 = omega (arith, c.requires.plans.0, length-map c.args.request.scripts.now string_bytes, c.requires.request.scripts.1) in
+    let scripts : length (plans_of c.args.setup.cast.players.items) ≤ 256 =
+    omega (arith, c.requires.plans.0, length-map c.args.request.scripts.now string_bytes, c.requires.request.scripts.1) in
     played_whole (request_data c.args.request)
-    (snapshot (g.S.Shelf.files c.args.shelf.now) (g.S.Shelf.reading c.args.shelf.now) (g.S.Shelf.writing c.args.shelf.now) (g.O.Out.written c.args.out.now) (g.O.Out.faults c.args.out.now))
-    (snapshot (g.S.Shelf.files c.play_scripts-journal.new.shelf) (g.S.Shelf.reading c.play_scripts-journal.new.shelf) (g.S.Shelf.writing c.play_scripts-journal.new.shelf) (g.O.Out.written c.put_report.new.out) (g.O.Out.faults c.put_report.new.out))
-    c.put_report.result (plans_of c.args.setup.cast.players.items) c.requires.request.differ c.requires.plans (g.S.Shelf.files c.begin_files.new.shelf) (journal_data c.play_scripts-journal.result.0.items)
+    (snapshot (g.S.Shelf.files c.args.shelf.now) (g.S.Shelf.reading c.args.shelf.now) (g.S.Shelf.writing c.args.shelf.now) (g.O.Out.written c.args.out.now)
+    (g.O.Out.faults c.args.out.now))
+    (snapshot (g.S.Shelf.files c.play_scripts-journal.new.shelf) (g.S.Shelf.reading c.play_scripts-journal.new.shelf)
+    (g.S.Shelf.writing c.play_scripts-journal.new.shelf) (g.O.Out.written c.put_report.new.out) (g.O.Out.faults c.put_report.new.out))
+    c.put_report.result (plans_of c.args.setup.cast.players.items) c.requires.request.differ c.requires.plans (g.S.Shelf.files c.begin_files.new.shelf)
+    (journal_data c.play_scripts-journal.result.0.items)
     (rw (← c.requires.setup.blocks_are, c.requires.plans.0, length-map c.args.request.scripts.now string_bytes) c.in-Ok.ensures.whole)
     (rw (← c.requires.setup.blocks_are) (search rules))
     (rw (← c.requires.setup.blocks_are)
-    (run_ordered (journal_data c.play_scripts-journal.result.0.items) c.args.setup.blocks (length (plans_of c.args.setup.cast.players.items)) (many_commands (plans_of c.args.setup.cast.players.items))
+    (run_ordered (journal_data c.play_scripts-journal.result.0.items) c.args.setup.blocks (length (plans_of c.args.setup.cast.players.items))
+    (many_commands (plans_of c.args.setup.cast.players.items))
     c.requires.setup.some c.requires.setup.few
     (omega (arith, c.requires.plans.0, length-map c.args.request.scripts.now string_bytes, c.requires.request.scripts.0))
     scripts few c.requires.few
-    (all_follow (journal_data c.play_scripts-journal.result.0.items) (plans_of c.args.setup.cast.players.items) c.args.setup.blocks c.play_scripts-journal.ensures.played c.play_scripts-journal.ensures.order
+    (all_follow (journal_data c.play_scripts-journal.result.0.items) (plans_of c.args.setup.cast.players.items) c.args.setup.blocks
+    c.play_scripts-journal.ensures.played c.play_scripts-journal.ensures.order
     c.play_scripts-journal.ensures.ranges c.requires.setup.some c.requires.setup.few scripts (omega (arith, few, c.requires.few)))))
     (rw (← c.requires.setup.places_are) (search rules))
     few
@@ -75,19 +85,25 @@ pub returns-clause-run : goal.returns-clause-run
 returns-clause-run g c =
     let few : length (journal_data c.play_scripts-journal.result.0.items) ≤ many_commands (plans_of c.args.setup.cast.players.items) =
     not_more (plans_of c.args.setup.cast.players.items) (journal_data c.play_scripts-journal.result.0.items) c.play_scripts-journal.ensures.played in
-    let scripts : length (plans_of c.args.setup.cast.players.items) ≤ 256 = omega (arith, c.requires.plans.0, length-map c.args.request.scripts.now string_bytes, c.requires.request.scripts.1) in
+    let scripts : length (plans_of c.args.setup.cast.players.items) ≤ 256 =
+    omega (arith, c.requires.plans.0, length-map c.args.request.scripts.now string_bytes, c.requires.request.scripts.1) in
     stopped_in_turns (request_data c.args.request)
-    (snapshot (g.S.Shelf.files c.args.shelf.now) (g.S.Shelf.reading c.args.shelf.now) (g.S.Shelf.writing c.args.shelf.now) (g.O.Out.written c.args.out.now) (g.O.Out.faults c.args.out.now))
-    (snapshot (g.S.Shelf.files c.stop-in-Err-result.new.shelf) (g.S.Shelf.reading c.stop-in-Err-result.new.shelf) (g.S.Shelf.writing c.stop-in-Err-result.new.shelf) (g.O.Out.written c.stop-in-Err-result.new.out) (g.O.Out.faults c.stop-in-Err-result.new.out))
-    c.stop-in-Err-result.result (plans_of c.args.setup.cast.players.items) c.requires.request.differ c.requires.plans (g.S.Shelf.files c.begin_files.new.shelf) (journal_data c.play_scripts-journal.result.0.items)
+    (snapshot (g.S.Shelf.files c.args.shelf.now) (g.S.Shelf.reading c.args.shelf.now) (g.S.Shelf.writing c.args.shelf.now) (g.O.Out.written c.args.out.now)
+    (g.O.Out.faults c.args.out.now))
+    (snapshot (g.S.Shelf.files c.stop-in-Err-result.new.shelf) (g.S.Shelf.reading c.stop-in-Err-result.new.shelf)
+    (g.S.Shelf.writing c.stop-in-Err-result.new.shelf) (g.O.Out.written c.stop-in-Err-result.new.out) (g.O.Out.faults c.stop-in-Err-result.new.out))
+    c.stop-in-Err-result.result (plans_of c.args.setup.cast.players.items) c.requires.request.differ c.requires.plans (g.S.Shelf.files c.begin_files.new.shelf)
+    (journal_data c.play_scripts-journal.result.0.items)
     (rw (← c.requires.setup.blocks_are, c.requires.plans.0, length-map c.args.request.scripts.now string_bytes) c.in-Ok.ensures.whole)
     c.stop-in-Err-result.ensures.status
     (rw (← c.requires.setup.blocks_are)
-    (run_ordered (journal_data c.play_scripts-journal.result.0.items) c.args.setup.blocks (length (plans_of c.args.setup.cast.players.items)) (many_commands (plans_of c.args.setup.cast.players.items))
+    (run_ordered (journal_data c.play_scripts-journal.result.0.items) c.args.setup.blocks (length (plans_of c.args.setup.cast.players.items))
+    (many_commands (plans_of c.args.setup.cast.players.items))
     c.requires.setup.some c.requires.setup.few
     (omega (arith, c.requires.plans.0, length-map c.args.request.scripts.now string_bytes, c.requires.request.scripts.0))
     scripts few c.requires.few
-    (all_follow (journal_data c.play_scripts-journal.result.0.items) (plans_of c.args.setup.cast.players.items) c.args.setup.blocks c.play_scripts-journal.ensures.played c.play_scripts-journal.ensures.order
+    (all_follow (journal_data c.play_scripts-journal.result.0.items) (plans_of c.args.setup.cast.players.items) c.args.setup.blocks
+    c.play_scripts-journal.ensures.played c.play_scripts-journal.ensures.order
     c.play_scripts-journal.ensures.ranges c.requires.setup.some c.requires.setup.few scripts (omega (arith, few, c.requires.few)))))
     c.play_scripts-journal.ensures.played
     (rw (c.stop-in-Err-result.ensures.files, ← c.requires.setup.blocks_are) (search rules))

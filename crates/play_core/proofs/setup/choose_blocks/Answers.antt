@@ -10,4 +10,5 @@ returns-in-Some-clause-in_time c =
     (subst (λ (o : Option ℕ). IfSome o (λ b. All (λ one. AreBelow b one) c.args.scripts.now)) c.in-Some.is c.requires.below)
 
 pub returns-in-None-clause-in_time : goal.returns-in-None-clause-in_time
-returns-in-None-clause-in_time c = some_in_time c.greatest-due.result c.last_block.result c.args.scripts.now c.greatest-due.ensures.within c.last_block.ensures.some
+returns-in-None-clause-in_time c = some_in_time c.greatest-due.result c.last_block.result c.args.scripts.now c.greatest-due.ensures.within
+    c.last_block.ensures.some

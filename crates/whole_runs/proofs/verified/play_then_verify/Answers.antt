@@ -13,13 +13,16 @@ module _ (g : Over) (c : goal.After-tool_main-verified g) where
   check = map string_bytes c.args.check.now
 
   abbrev before : Snapshot
-  before = snapshot (g.S.Shelf.files c.args.shelf.now) (g.S.Shelf.reading c.args.shelf.now) (g.S.Shelf.writing c.args.shelf.now) (g.O.Out.written c.args.out.now) (g.O.Out.faults c.args.out.now)
+  before = snapshot (g.S.Shelf.files c.args.shelf.now) (g.S.Shelf.reading c.args.shelf.now) (g.S.Shelf.writing c.args.shelf.now)
+      (g.O.Out.written c.args.out.now) (g.O.Out.faults c.args.out.now)
 
   abbrev mid : Snapshot
-  mid = snapshot (g.S.Shelf.files c.play_main-played.new.shelf) (g.S.Shelf.reading c.play_main-played.new.shelf) (g.S.Shelf.writing c.play_main-played.new.shelf) (g.O.Out.written c.play_main-played.new.out) (g.O.Out.faults c.play_main-played.new.out)
+  mid = snapshot (g.S.Shelf.files c.play_main-played.new.shelf) (g.S.Shelf.reading c.play_main-played.new.shelf)
+      (g.S.Shelf.writing c.play_main-played.new.shelf) (g.O.Out.written c.play_main-played.new.out) (g.O.Out.faults c.play_main-played.new.out)
 
   abbrev now : Snapshot
-  now = snapshot (g.S.Shelf.files c.tool_main-verified.new.shelf) (g.S.Shelf.reading c.tool_main-verified.new.shelf) (g.S.Shelf.writing c.tool_main-verified.new.shelf) (g.O.Out.written c.tool_main-verified.new.out) (g.O.Out.faults c.tool_main-verified.new.out)
+  now = snapshot (g.S.Shelf.files c.tool_main-verified.new.shelf) (g.S.Shelf.reading c.tool_main-verified.new.shelf)
+      (g.S.Shelf.writing c.tool_main-verified.new.shelf) (g.O.Out.written c.tool_main-verified.new.out) (g.O.Out.faults c.tool_main-verified.new.out)
 
   ran : Ran words check c.play_main-played.result c.tool_main-verified.result before mid now
   ran =

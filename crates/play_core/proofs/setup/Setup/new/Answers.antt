@@ -9,7 +9,15 @@ returns c = λ request_data is. record {
   renderer = search rules;
   spare = search rules;
   empty = c.in_ok-ends.ensures.items;
-  room = omega (arith, players_many c.in_ok-players.players.items c.args.scripts.items c.in_ok-players.ensures.plans, c.in_ok-ends.ensures.capacity, c.len.ensures, c.in_ok-players.players.ok, c.deref.ensures.len, c.args.scripts.ok);
+  room = omega (
+    arith,
+    players_many c.in_ok-players.players.items c.args.scripts.items c.in_ok-players.ensures.plans,
+    c.in_ok-ends.ensures.capacity,
+    c.len.ensures,
+    c.in_ok-players.players.ok,
+    c.deref.ensures.len,
+    c.args.scripts.ok,
+  );
   blocks_are = is;
   some = c.requires.blocks.0;
   few = c.requires.blocks.1;
