@@ -14,11 +14,11 @@ left_more : (ps : List FeedbackPath) (done : List Bool) (l : Left) (k x : ℕ) (
     → (l.count ≡ 0 → (x : ℕ) → x < 8 → get_or places x 0 ≡ k) → get_or places l.count 0 ≡ k
     → (1 ≤ l.count → (x : ℕ) → x ≢ l.count → get_or places x 0 ≡ get_or l.places x 0) → IsLeft ps done (get_or places x 0)
 left_more ps done l k x places m h lt first here others = elim (lt_or_le l.count 1) [
-    | inl none ↦ subst (λ p. IsLeft ps done p) (sym (first (omega arith) x lt)) h
-    | inr one ↦ elim (cases_eq x l.count) [
-        | inl e ↦ subst (λ p. IsLeft ps done p) (sym (ap (λ i. get_or places i 0) e ∙ here)) h
-        | inr ne ↦ subst (λ p. IsLeft ps done p) (sym (others one x ne)) (m.left one x lt)
-    ]
+  | inl none ↦ subst (λ p. IsLeft ps done p) (sym (first (omega arith) x lt)) h
+  | inr one ↦ elim (cases_eq x l.count) [
+    | inl e ↦ subst (λ p. IsLeft ps done p) (sym (ap (λ i. get_or places i 0) e ∙ here)) h
+    | inr ne ↦ subst (λ p. IsLeft ps done p) (sym (others one x ne)) (m.left one x lt)
+  ]
 ]
 
 pub left_next : (ps : List FeedbackPath) (done : List Bool) (l : Left) (k : ℕ) (places : List ℕ) → AreLeft ps done l → l.count < 8 → IsLeft ps done k
@@ -56,27 +56,27 @@ run_next : (done : List Bool) (first now : List FeedbackPath) (samples : List (L
     → AreMarked done first now samples → k < 16 → IsPathRun (path_at first k) new row → i < 16 → get_or (set done k true) i false ≡ true
     → IsPathRun (path_at first i) (path_at (set now k new) i) (get_or (set samples k row) i [])
 run_next done first now samples k i new row m lt h il t = elim (cases_eq i k) [
-    | inl e ↦
-        let l : k < length now = omega (arith, m.len) in
-        let s : k < length samples = omega (arith, m.samples_len) in
-        let P : ℕ → Type 0 = λ x. IsPathRun (path_at first x) (get_or (set now k new) x no_path) (get_or (set samples k row) x []) in
-        subst P (sym e) (rw (get_or-set_same now k new no_path l, get_or-set_same samples k row [] s) h)
-    | inr ne ↦
-        let d : get_or done i false ≡ true = sym (get_or-set_other done k i true false ne) ∙ t in
-        rw (get_or-set_other now k i new no_path ne, get_or-set_other samples k i row [] ne) (m.run i il d)
+  | inl e ↦
+      let l : k < length now = omega (arith, m.len) in
+      let s : k < length samples = omega (arith, m.samples_len) in
+      let P : ℕ → Type 0 = λ x. IsPathRun (path_at first x) (get_or (set now k new) x no_path) (get_or (set samples k row) x []) in
+      subst P (sym e) (rw (get_or-set_same now k new no_path l, get_or-set_same samples k row [] s) h)
+  | inr ne ↦
+      let d : get_or done i false ≡ true = sym (get_or-set_other done k i true false ne) ∙ t in
+      rw (get_or-set_other now k i new no_path ne, get_or-set_other samples k i row [] ne) (m.run i il d)
 ]
 
 left_stays : (done : List Bool) (first now : List FeedbackPath) (samples : List (List ℤ)) (k i : ℕ) (new : FeedbackPath)
     → AreMarked done first now samples → k < 16 → i < 16 → get_or (set done k true) i false ≡ false → path_at (set now k new) i ≡ path_at first i
 left_stays done first now samples k i new m lt il t = elim (cases_eq i k) [
-    | inl e ↦
-        let l : k < length done = omega (arith, m.done_len) in
-        let s : get_or (set done k true) k false ≡ true = get_or-set_same done k true false l in
-        let u : get_or (set done k true) k false ≡ false = ap (λ x. get_or (set done k true) x false) (sym e) ∙ t in
-        cc
-    | inr ne ↦
-        let d : get_or done i false ≡ false = sym (get_or-set_other done k i true false ne) ∙ t in
-        get_or-set_other now k i new no_path ne ∙ m.left i il d
+  | inl e ↦
+      let l : k < length done = omega (arith, m.done_len) in
+      let s : get_or (set done k true) k false ≡ true = get_or-set_same done k true false l in
+      let u : get_or (set done k true) k false ≡ false = ap (λ x. get_or (set done k true) x false) (sym e) ∙ t in
+      cc
+  | inr ne ↦
+      let d : get_or done i false ≡ false = sym (get_or-set_other done k i true false ne) ∙ t in
+      get_or-set_other now k i new no_path ne ∙ m.left i il d
 ]
 
 -- one more path was run
@@ -114,11 +114,11 @@ kept_then a b d p q = λ k lt. ((q k lt).0 ∙ (p k lt).0, (q k lt).1 ∙ (p k l
 pub kept_set : (ps : List FeedbackPath) (i : ℕ) (new : FeedbackPath) → length ps ≡ 16 → i < 16 → new.op ≡ (path_at ps i).op
     → new.feedback ≡ (path_at ps i).feedback → AreKept ps (set ps i new)
 kept_set ps i new e lt eo ef = λ k kl. elim (cases_eq k i) [
-    | inl s ↦
-        let l : i < length ps = omega (arith, e) in
-        let P : ℕ → Type 0 = λ x. ((get_or (set ps i new) x no_path).op ≡ (path_at ps x).op) × ((get_or (set ps i new) x no_path).feedback ≡ (path_at ps x).feedback) in
-        subst P (sym s) (rw (get_or-set_same ps i new no_path l) (eo, ef))
-    | inr ne ↦ rw (get_or-set_other ps i k new no_path ne) (refl, refl)
+  | inl s ↦
+      let l : i < length ps = omega (arith, e) in
+      let P : ℕ → Type 0 = λ x. ((get_or (set ps i new) x no_path).op ≡ (path_at ps x).op) × ((get_or (set ps i new) x no_path).feedback ≡ (path_at ps x).feedback) in
+      subst P (sym s) (rw (get_or-set_same ps i new no_path l) (eo, ef))
+  | inr ne ↦ rw (get_or-set_other ps i k new no_path ne) (refl, refl)
 ]
 
 pub path_kept : (p q : FeedbackPath) → IsPath p → (q.op ≡ p.op) × (q.feedback ≡ p.feedback) → IsPath q
@@ -133,10 +133,10 @@ done_here done k e lt = let l : k < length done = omega (arith, e) in get_or-set
 
 pub done_stays : (done : List Bool) (k x : ℕ) → length done ≡ 16 → k < 16 → get_or done x false ≡ true → get_or (set done k true) x false ≡ true
 done_stays done k x e lt t = elim (cases_eq x k) [
-    | inl s ↦
-        let P : ℕ → Type 0 = λ i. get_or (set done k true) i false ≡ true in
-        subst P (sym s) (done_here done k e lt)
-    | inr ne ↦ get_or-set_other done k x true false ne ∙ t
+  | inl s ↦
+      let P : ℕ → Type 0 = λ i. get_or (set done k true) i false ≡ true in
+      subst P (sym s) (done_here done k e lt)
+  | inr ne ↦ get_or-set_other done k x true false ne ∙ t
 ]
 
 -- a path that was run alone

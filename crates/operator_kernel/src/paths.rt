@@ -31,10 +31,7 @@ fn is_live(path: &FeedbackPath) -> bool
     requires { IsPath path.now }
     ensures { result ≡ true → IsLive path.now }
 {
-    !is_silent(&path.op)
-        && path.feedback > 0
-        && is_small(path.before_last)
-        && is_small(path.last)
+    !is_silent(&path.op) && path.feedback > 0 && is_small(path.before_last) && is_small(path.last)
 }
 
 /// The places with one more, which all repeat where it is the first.
@@ -155,7 +152,7 @@ fn keep_four(
     requires below { (x : ℕ) → x < 8 → slice_index_or places.now x 0 < 16 }
     ensures run { (first : List FeedbackPath) → AreMarked done.old first paths.old samples.old
         → ((x : ℕ) → x < 4 → IsLaneRun (path_at first (slice_index_or places.now (from + x) 0)) rows.now x
-            (slice_index_or before_last.now x (pos 0)) (slice_index_or last.now x (pos 0)))
+        (slice_index_or before_last.now x (pos 0)) (slice_index_or last.now x (pos 0)))
         → AreMarked done.new first paths.new samples.new }
     ensures kept { AreKept paths.old paths.new }
 {
@@ -193,8 +190,13 @@ fn run_together(
     let high = four_at(paths, &places, 4);
     let mut low_rows = [[0i32; 4]; 64];
     let mut high_rows = [[0i32; 4]; 64];
-    let (low_before, low_last, high_before, high_last) =
-        run_quartets(tables, &low, &high, &mut low_rows, &mut high_rows);
+    let (low_before, low_last, high_before, high_last) = run_quartets(
+        tables,
+        &low,
+        &high,
+        &mut low_rows,
+        &mut high_rows,
+    );
     keep_four(
         paths,
         samples,
@@ -264,11 +266,7 @@ fn none_done() -> [bool; 16]
 }
 
 /// Runs the feedback paths of sixteen notes: `samples[k]` becomes the samples of path k, and its state its last two.
-pub fn run_paths(
-    tables: &Tables,
-    paths: &mut [FeedbackPath; 16],
-    samples: &mut [[i32; 64]; 16],
-)
+pub fn run_paths(tables: &Tables, paths: &mut [FeedbackPath; 16], samples: &mut [[i32; 64]; 16])
     requires { (k : ℕ) → k < 16 → IsPath (path_at paths.old k) }
     ensures { (k : ℕ) → k < 16 → IsPathRun (path_at paths.old k) (path_at paths.new k) (slice_index_or samples.new k []) }
 {
