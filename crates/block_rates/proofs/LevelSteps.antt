@@ -7,7 +7,7 @@ use Rattle.block_rates.specs.Levels.{rise, risen, go, level_motion}
 use Rattle.block_rates.specs.Segments.{RunsOn}
 use Rattle.block_rates.proofs.StageRuns.{lt_or_le}
 
-falling : (s : LevelSegment) (x m : ℕ) → s.target ≤ x → go s x (suc m) ≡ max s.target (x - suc m * s.step)
+falling : (s : LevelSegment) (x m : ℕ) → s.target ≤ x → go s x (suc m) ≡ max s.target (x - suc m * s.increment)
 unfolding go
 falling s x m le = rw (le-leb s.target x le)
 
@@ -19,7 +19,7 @@ pub rising_one : (s : LevelSegment) (x : ℕ) → x < s.target → go s x 1 ≡ 
 unfolding go risen
 rising_one s x lt = rw (lt-leb s.target x lt)
 
-pub falling_one : (s : LevelSegment) (x : ℕ) → s.target ≤ x → go s x 1 ≡ max s.target (x - s.step)
+pub falling_one : (s : LevelSegment) (x : ℕ) → s.target ≤ x → go s x 1 ≡ max s.target (x - s.increment)
 falling_one s x le = falling s x 0 le ∙ omega arith
 
 below_target : (s : LevelSegment) (x : ℕ) → rise s x ≢ s.target → rise s x < s.target
@@ -39,11 +39,11 @@ go_on s x (suc j) ne =
           let below : rise s x < s.target = below_target s x (λ h. ne (e ∙ h)) in
           rising s x (suc j) lt ∙ sym (rising s (rise s x) j below) ∙ ap (λ z. go s z (suc j)) (sym e)
       | inr le ↦
-          let e : go s x 1 ≡ max s.target (x - s.step) = falling_one s x le in
-          let above : s.target < x - s.step = above_target s.target (x - s.step) (λ h. ne (e ∙ h)) in
-          let z = x - s.step in
+          let e : go s x 1 ≡ max s.target (x - s.increment) = falling_one s x le in
+          let above : s.target < x - s.increment = above_target s.target (x - s.increment) (λ h. ne (e ∙ h)) in
+          let z = x - s.increment in
           let f : max s.target z ≡ z = omega arith in
-          let g : max s.target (x - suc (suc j) * s.step) ≡ max s.target (z - suc j * s.step) = omega arith in
+          let g : max s.target (x - suc (suc j) * s.increment) ≡ max s.target (z - suc j * s.increment) = omega arith in
           falling s x (suc j) le ∙ g ∙ sym (falling s z j (omega arith)) ∙ ap (λ w. go s w (suc j)) (sym (e ∙ f))
     ]
 

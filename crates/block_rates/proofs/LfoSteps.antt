@@ -35,7 +35,8 @@ unfolding phase_after
 phase_more o m = omega arith
 
 -- a cycle ends in a step exactly where the phase is then below the phase increment
-more_cycles : (x increment : ℕ) (f : ℕ → ℕ) (r : ℕ) → increment < 2 ^ 32 → times ((x + increment) / 2 ^ 32) f r ≡ cond (ltb ((x + increment) % 2 ^ 32) increment) (f (times (x / 2 ^ 32) f r)) (times (x / 2 ^ 32) f r)
+more_cycles : (x increment : ℕ) (f : ℕ → ℕ) (r : ℕ) → increment < 2 ^ 32 → times ((x + increment) / 2 ^ 32) f r ≡ cond
+    (ltb ((x + increment) % 2 ^ 32) increment) (f (times (x / 2 ^ 32) f r)) (times (x / 2 ^ 32) f r)
 unfolding times
 more_cycles x increment f r small =
     elim (lt_or_le ((x + increment) % 2 ^ 32) increment) [
@@ -47,11 +48,15 @@ more_cycles x increment f r small =
           rw (le-ltb ((x + increment) % 2 ^ 32) increment le, e) refl
     ]
 
-held_more : (b : Bool) (x increment : ℕ) (f : ℕ → ℕ) (r : ℕ) → increment < 2 ^ 32 → cond b (times ((x + increment) / 2 ^ 32) f r) r ≡ cond b (cond (ltb ((x + increment) % 2 ^ 32) increment) (f (cond b (times (x / 2 ^ 32) f r) r)) (cond b (times (x / 2 ^ 32) f r) r)) (cond b (times (x / 2 ^ 32) f r) r)
+held_more : (b : Bool) (x increment : ℕ) (f : ℕ → ℕ) (r : ℕ) → increment < 2 ^ 32
+    → cond b (times ((x + increment) / 2 ^ 32) f r) r ≡ cond b (cond (ltb ((x + increment) % 2 ^ 32) increment) (f (cond b (times (x / 2 ^ 32) f r) r))
+    (cond b (times (x / 2 ^ 32) f r) r)) (cond b (times (x / 2 ^ 32) f r) r)
 held_more true x increment f r small = more_cycles x increment f r small
 held_more false x increment f r small = refl
 
-pub random_more : (o : LfoState) (m : ℕ) → phase_increment o.settings.speed < 2 ^ 32 → random_after o (m + 1) ≡ cond (is_held (wave_of o.settings.wave)) (cond (ltb (phase_after o (m + 1)) (phase_increment o.settings.speed)) (next_random (random_after o m)) (random_after o m)) (random_after o m)
+pub random_more : (o : LfoState) (m : ℕ) → phase_increment o.settings.speed < 2 ^ 32
+    → random_after o (m + 1) ≡ cond (is_held (wave_of o.settings.wave)) (cond (ltb (phase_after o (m + 1)) (phase_increment o.settings.speed))
+    (next_random (random_after o m)) (random_after o m)) (random_after o m)
 unfolding random_after phase_after
 random_more o m small =
     rw (run_more o m) (held_more (is_held (wave_of o.settings.wave)) (run_of o m) (phase_increment o.settings.speed) next_random o.random small)

@@ -13,11 +13,11 @@ down_test a b h = grind (arith, ints)
 up_test : (a b : ℤ) → b <ℤ a → int_le a b ≡ false
 up_test a b h = grind (arith, ints)
 
-pub going_down : (g : PitchSegment) (x : ℤ) (m : ℕ) → g.target ≤ℤ x → pitch_moved g x m ≡ int_max g.target (x -ℤ pos (m * g.step))
+pub going_down : (g : PitchSegment) (x : ℤ) (m : ℕ) → g.target ≤ℤ x → pitch_moved g x m ≡ int_max g.target (x -ℤ pos (m * g.increment))
 unfolding pitch_moved
 going_down g x m h = rw (down_test g.target x h)
 
-pub going_up : (g : PitchSegment) (x : ℤ) (m : ℕ) → x <ℤ g.target → pitch_moved g x m ≡ int_min g.target (x +ℤ pos (m * g.step))
+pub going_up : (g : PitchSegment) (x : ℤ) (m : ℕ) → x <ℤ g.target → pitch_moved g x m ≡ int_min g.target (x +ℤ pos (m * g.increment))
 unfolding pitch_moved
 going_up g x m h = rw (up_test g.target x h)
 
@@ -57,39 +57,39 @@ down_or_up t x = by_lt_z x t (λ h. inr h) (λ h. inl h)
 
 begins_at : (g : PitchSegment) (x : ℤ) → pitch_moved g x 0 ≡ x
 begins_at g x =
-    let z : 0 * g.step ≡ 0 = omega arith in
+    let z : 0 * g.increment ≡ 0 = omega arith in
     elim (down_or_up g.target x) [
       | inl h ↦ going_down g x 0 h ∙ ap (λ n. int_max g.target (x -ℤ pos n)) z ∙ begins_down g.target x h
       | inr h ↦ going_up g x 0 h ∙ ap (λ n. int_min g.target (x +ℤ pos n)) z ∙ begins_up g.target x h
     ]
 
-pub down_one : (g : PitchSegment) (x : ℤ) → g.target ≤ℤ x → pitch_moved g x 1 ≡ int_max g.target (x -ℤ pos g.step)
-down_one g x h = let z : 1 * g.step ≡ g.step = omega arith in going_down g x 1 h ∙ ap (λ n. int_max g.target (x -ℤ pos n)) z
+pub down_one : (g : PitchSegment) (x : ℤ) → g.target ≤ℤ x → pitch_moved g x 1 ≡ int_max g.target (x -ℤ pos g.increment)
+down_one g x h = let z : 1 * g.increment ≡ g.increment = omega arith in going_down g x 1 h ∙ ap (λ n. int_max g.target (x -ℤ pos n)) z
 
-pub up_one : (g : PitchSegment) (x : ℤ) → x <ℤ g.target → pitch_moved g x 1 ≡ int_min g.target (x +ℤ pos g.step)
-up_one g x h = let z : 1 * g.step ≡ g.step = omega arith in going_up g x 1 h ∙ ap (λ n. int_min g.target (x +ℤ pos n)) z
+pub up_one : (g : PitchSegment) (x : ℤ) → x <ℤ g.target → pitch_moved g x 1 ≡ int_min g.target (x +ℤ pos g.increment)
+up_one g x h = let z : 1 * g.increment ≡ g.increment = omega arith in going_up g x 1 h ∙ ap (λ n. int_min g.target (x +ℤ pos n)) z
 
 -- a stage that has not ended goes on from the pitch that it left
 go_on : (g : PitchSegment) (x : ℤ) (m : ℕ) → pitch_moved g x 1 ≢ g.target → pitch_moved g x (suc m) ≡ pitch_moved g (pitch_moved g x 1) m
 go_on g x m ne =
-    let z : suc m * g.step ≡ g.step + m * g.step = omega arith in
+    let z : suc m * g.increment ≡ g.increment + m * g.increment = omega arith in
     elim (down_or_up g.target x) [
       | inl h ↦
           let e = down_one g x h in
-          let ne' : int_max g.target (x -ℤ pos g.step) ≢ g.target = λ q. ne (e ∙ q) in
-          going_down g x (suc m) h ∙ ap (λ n. int_max g.target (x -ℤ pos n)) z ∙ on_down g.target x g.step (m * g.step) h ne'
-          ∙ sym (going_down g (int_max g.target (x -ℤ pos g.step)) m (left_down g.target x g.step h ne')) ∙ ap (λ y. pitch_moved g y m) (sym e)
+          let ne' : int_max g.target (x -ℤ pos g.increment) ≢ g.target = λ q. ne (e ∙ q) in
+          going_down g x (suc m) h ∙ ap (λ n. int_max g.target (x -ℤ pos n)) z ∙ on_down g.target x g.increment (m * g.increment) h ne'
+          ∙ sym (going_down g (int_max g.target (x -ℤ pos g.increment)) m (left_down g.target x g.increment h ne')) ∙ ap (λ y. pitch_moved g y m) (sym e)
       | inr h ↦
           let e = up_one g x h in
-          let ne' : int_min g.target (x +ℤ pos g.step) ≢ g.target = λ q. ne (e ∙ q) in
-          going_up g x (suc m) h ∙ ap (λ n. int_min g.target (x +ℤ pos n)) z ∙ on_up g.target x g.step (m * g.step) h ne'
-          ∙ sym (going_up g (int_min g.target (x +ℤ pos g.step)) m (left_up g.target x g.step h ne')) ∙ ap (λ y. pitch_moved g y m) (sym e)
+          let ne' : int_min g.target (x +ℤ pos g.increment) ≢ g.target = λ q. ne (e ∙ q) in
+          going_up g x (suc m) h ∙ ap (λ n. int_min g.target (x +ℤ pos n)) z ∙ on_up g.target x g.increment (m * g.increment) h ne'
+          ∙ sym (going_up g (int_min g.target (x +ℤ pos g.increment)) m (left_up g.target x g.increment h ne')) ∙ ap (λ y. pitch_moved g y m) (sym e)
     ]
 
 pub pitch_runs : RunsOn pitch_motion
 pitch_runs = record {
   begins = begins_at;
   arrives = λ g x e. same x g.target e;
-  stays = λ g m. going_down g g.target m (le_self g.target) ∙ stays_down g.target (m * g.step);
+  stays = λ g m. going_down g g.target m (le_self g.target) ∙ stays_down g.target (m * g.increment);
   goes_on = λ g x m e. go_on g x m (other (pitch_moved g x 1) g.target e);
 }

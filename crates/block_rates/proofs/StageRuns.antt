@@ -34,16 +34,19 @@ module _ {S X : Type 0} (motion : Motion S X) (laws : RunsOn motion) where
       let d : suc n + 1 - 1 ≡ suc n = omega arith in
       rw d (rw e)
 
-  lasts_more : (s : S) (x : X) (n : ℕ) → motion.is_there s (motion.go s x 1) ≡ false → lasts motion s x (suc n + 1) ≡ suc (lasts motion s (motion.go s x 1) (suc n))
+  lasts_more : (s : S) (x : X) (n : ℕ) → motion.is_there s (motion.go s x 1) ≡ false
+      → lasts motion s x (suc n + 1) ≡ suc (lasts motion s (motion.go s x 1) (suc n))
   unfolding first_from
   lasts_more s x n e =
       let d : suc n + 1 - 1 ≡ suc n = omega arith in
       let f : suc n - 1 ≡ n = omega arith in
       rw (d, f) (rw e
-      (first_later n 1 (λ m. motion.is_there s (motion.go s x m)) (λ m. motion.is_there s (motion.go s (motion.go s x 1) m)) (λ j. ap (motion.is_there s) (laws.goes_on s x j e))))
+      (first_later n 1 (λ m. motion.is_there s (motion.go s x m)) (λ m. motion.is_there s (motion.go s (motion.go s x 1) m)) (λ j.
+      ap (motion.is_there s) (laws.goes_on s x j e))))
 
   -- a step that reaches the target
-  pub after_step_ends : (s : S) (ss : List S) (x : X) (n : ℕ) → motion.is_there s (motion.go s x 1) ≡ true → after motion (s ∷ ss) x (n + 1) ≡ after motion ss (motion.target s) n
+  pub after_step_ends : (s : S) (ss : List S) (x : X) (n : ℕ) → motion.is_there s (motion.go s x 1) ≡ true
+      → after motion (s ∷ ss) x (n + 1) ≡ after motion ss (motion.target s) n
   unfolding after first_from
   after_step_ends s ss x zero e = laws.arrives s _ e ∙ sym (after_zero ss (motion.target s))
   after_step_ends s ss x (suc n) e =
@@ -52,7 +55,8 @@ module _ {S X : Type 0} (motion : Motion S X) (laws : RunsOn motion) where
       rw (l, lt-ltb 1 (suc n + 1) lt) (ap (after motion ss (motion.target s)) (omega arith))
 
   -- a step that does not
-  pub after_step_goes_on : (s : S) (ss : List S) (x : X) (n : ℕ) → motion.is_there s (motion.go s x 1) ≡ false → after motion (s ∷ ss) x (n + 1) ≡ after motion (s ∷ ss) (motion.go s x 1) n
+  pub after_step_goes_on : (s : S) (ss : List S) (x : X) (n : ℕ) → motion.is_there s (motion.go s x 1) ≡ false
+      → after motion (s ∷ ss) x (n + 1) ≡ after motion (s ∷ ss) (motion.go s x 1) n
   unfolding after first_from
   after_step_goes_on s ss x zero e = sym (laws.begins s (motion.go s x 1))
   after_step_goes_on s ss x (suc n) e =
@@ -71,4 +75,5 @@ module _ {S X : Type 0} (motion : Motion S X) (laws : RunsOn motion) where
   -- a value at the target of the last stage stays there
   pub after_there : (s : S) (n : ℕ) → after motion (s ∷ []) (motion.target s) n ≡ motion.target s
   unfolding after
-  after_there s n = elim (ltb (lasts motion s (motion.target s) n) n) as (λ t. cond t (motion.target s) (motion.go s (motion.target s) n) ≡ motion.target s) [ true ↦ refl | false ↦ laws.stays s n ]
+  after_there s n = elim (ltb (lasts motion s (motion.target s) n) n) as (λ t.
+      cond t (motion.target s) (motion.go s (motion.target s) n) ≡ motion.target s) [ true ↦ refl | false ↦ laws.stays s n ]

@@ -20,24 +20,32 @@ target_level parameter out = 65536 * max 16 (64 * (level parameter / 2) + out - 
 abbrev pub scaled_rate : ℕ → ℕ → ℕ
 scaled_rate rate rate_scale = min 63 (rate * 41 / 64 + rate_scale)
 
--- what a stage of this scaled rate moves by
-unfoldable pub rate_step : ℕ → ℕ
-rate_step q = (4 + q % 4) * 2 ^ (8 + q / 4)
+-- by how much a stage of this scaled rate moves the level in a step
+unfoldable pub rate_increment : ℕ → ℕ
+rate_increment q = (4 + q % 4) * 2 ^ (8 + q / 4)
 
 -- the stage of this number, from 0 to 3
 abbrev pub level_segment_at : EnvelopeSettings → ℕ → LevelSegment
 level_segment_at s i = record {
   target = target_level (slice_index s.levels i) s.out;
-  step = rate_step (scaled_rate (slice_index s.rates i) s.rate_scale);
+  increment = rate_increment (scaled_rate (slice_index s.rates i) s.rate_scale);
 }
 
--- what every segment of an envelope is: its target is at most that of level 99 and output level 4288, its step at most that of the scaled rate 63
+-- the highest level of an envelope, that of level 99 at output level 4288
+abbrev pub greatest_level : ℕ
+greatest_level = 65536 * 4064
+
+-- the increment of the highest scaled rate, 63
+abbrev pub greatest_increment : ℕ
+greatest_increment = 7 * 2 ^ 23
+
+-- what every segment of an envelope is
 abbrev pub IsLevelSegment : LevelSegment → Type 0
-IsLevelSegment s = (s.target ≤ 266338304) × (s.step ≤ 58720256)
+IsLevelSegment s = (s.target ≤ greatest_level) × (s.increment ≤ greatest_increment)
 
 -- one step of a rising stage: a level below 1716 * 2 ^ 16 jumps to it first, and the level rises by less the higher it is
 abbrev pub rise : LevelSegment → ℕ → ℕ
-rise s x = let y = max x (1716 * 65536) in min s.target (y + (17 * 2 ^ 24 - y) / 2 ^ 24 * s.step)
+rise s x = let y = max x (1716 * 65536) in min s.target (y + (17 * 2 ^ 24 - y) / 2 ^ 24 * s.increment)
 
 -- m steps of a rising stage
 unfoldable pub risen : LevelSegment → ℕ → ℕ → ℕ
@@ -47,7 +55,7 @@ risen s (suc m) x = risen s m (rise s x)
 -- the level m steps after the stage is entered at x
 unfoldable pub go : LevelSegment → ℕ → ℕ → ℕ
 go s x zero = x
-go s x (suc m) = if nat_le s.target x then max s.target (x - suc m * s.step) else risen s (suc m) x
+go s x (suc m) = if nat_le s.target x then max s.target (x - suc m * s.increment) else risen s (suc m) x
 
 -- how a stage moves a level
 abbrev pub level_motion : Motion LevelSegment ℕ

@@ -1,6 +1,7 @@
 -- The LFO of all notes: its value and its delay, as functions of the steps since it adopted settings or a key went down.
 use Rattle.std.specs.Prelude.{ℕ, zero, suc, ◌+◌, ◌-◌, ◌*◌, ◌/◌, ◌%◌, ◌^◌, max, nat_lt, ◌==◌, if◌then◌else◌, List, slice_index, ℤ}
 use Rattle.voice_record.specs.Voice.{opening_voice}
+use Rattle.voice_record.specs.declared.parameter.TheConstants.{LFO_SPEED, LFO_DELAY, LFO_SYNC, LFO_WAVE}
 use Rattle.block_rates.specs.Waves.{is_held, wave_of, wave_value}
 
 -- speed and delay from 0 to 99, whether a key begins the wave anew (1) or not (0), and the number of the wave
@@ -13,10 +14,10 @@ pub record LfoSettings : Type 0 where
 -- those of a voice
 abbrev pub lfo_settings : List ℕ → LfoSettings
 lfo_settings voice = record {
-  speed = slice_index voice 137;
-  delay = slice_index voice 138;
-  sync = slice_index voice 141;
-  wave = slice_index voice 142;
+  speed = slice_index voice LFO_SPEED;
+  delay = slice_index voice LFO_DELAY;
+  sync = slice_index voice LFO_SYNC;
+  wave = slice_index voice LFO_WAVE;
 }
 
 -- an LFO when it adopted settings or a key went down: its phase, of which 2 ^ 32 is one cycle, the random number that it
@@ -40,9 +41,13 @@ speed_rate speed = if speed == 0 then 1 else 165 * speed / 64
 abbrev pub rate_factor : ℕ → ℕ
 rate_factor rate = if nat_lt rate 160 then 11 else 11 + (rate - 160) / 16
 
+-- what one unit of a rate adds in a step, of which there is one a block, where 2 ^ 32 is one cycle or the whole delay
+abbrev pub rate_unit : ℕ
+rate_unit = 36558
+
 -- what one step adds to the phase
 unfoldable pub phase_increment : ℕ → ℕ
-phase_increment speed = 36558 * (speed_rate speed * rate_factor (speed_rate speed))
+phase_increment speed = rate_unit * (speed_rate speed * rate_factor (speed_rate speed))
 
 -- the next random number
 unfoldable pub next_random : ℕ → ℕ
@@ -56,7 +61,7 @@ delay_rate delay = (16 + (99 - delay) % 16) * 2 ^ (1 + (99 - delay) / 16)
 unfoldable pub raised_delay_state : ℕ → ℕ → ℕ
 raised_delay_state delay delay_state =
     let rate = delay_rate delay in
-    delay_state + 36558 * (if nat_lt delay_state (2 ^ 31) then rate else max 128 (rate - rate % 128))
+    delay_state + rate_unit * (if nat_lt delay_state (2 ^ 31) then rate else max 128 (rate - rate % 128))
 
 -- how far it has gone after one step; at its end it stays, and where there is no delay too
 abbrev pub next_delay_state : ℕ → ℕ → ℕ

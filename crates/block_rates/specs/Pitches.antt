@@ -15,30 +15,30 @@ pub record PitchEnvelopeSettings : Type 0 where
 unfoldable pub pitch_of : ℕ → ℤ
 pitch_of parameter = pitch_level parameter *ℤ pos (2 ^ 19)
 
--- what a stage moves by, for its rate parameter
-unfoldable pub pitch_step : ℕ → ℕ
-pitch_step rate = pitch_rate rate * 1143
+-- by how much a stage moves the pitch in a step, for its rate parameter
+unfoldable pub pitch_increment : ℕ → ℕ
+pitch_increment rate = pitch_rate rate * 1143
 
 -- the stage of this number, from 0 to 3
 abbrev pub pitch_segment_at : PitchEnvelopeSettings → ℕ → PitchSegment
 pitch_segment_at s i = record {
   target = pitch_of (slice_index s.levels i);
-  step = pitch_step (slice_index s.rates i);
+  increment = pitch_increment (slice_index s.rates i);
 }
 
 -- what every pitch of a pitch envelope is: at most four octaves up or down
 abbrev pub IsPitch : ℤ → Type 0
 IsPitch z = (neg_ℤ (pos (2 ^ 26)) ≤ℤ z) × (z ≤ℤ pos (2 ^ 26))
 
--- what every segment of it is: its step is at most that of rate 99
+-- what every segment of it is: its increment is at most that of rate 99
 abbrev pub IsPitchSegment : PitchSegment → Type 0
-IsPitchSegment g = IsPitch g.target × (g.step ≤ 291465)
+IsPitchSegment g = IsPitch g.target × (g.increment ≤ 291465)
 
--- the pitch m steps after the stage is entered at x: nearer to the target by m of its steps, and not past it
+-- the pitch m steps after the stage is entered at x: nearer to the target by m of its increments, and not past it
 unfoldable pub pitch_moved : PitchSegment → ℤ → ℕ → ℤ
 pitch_moved g x m =
-    if int_le g.target x then int_max g.target (x -ℤ pos (m * g.step))
-    else int_min g.target (x +ℤ pos (m * g.step))
+    if int_le g.target x then int_max g.target (x -ℤ pos (m * g.increment))
+    else int_min g.target (x +ℤ pos (m * g.increment))
 
 -- how a stage moves a pitch
 abbrev pub pitch_motion : Motion PitchSegment ℤ

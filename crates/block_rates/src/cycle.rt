@@ -6,6 +6,9 @@ ghost use Rattle.block_rates.specs.Waves.{is_held};
 
 use crate::wave::Wave;
 
+/// What one unit of a rate adds in a step, of which there is one a block, where 2^32 is one cycle of the LFO or its whole delay.
+pub(crate) const RATE_UNIT: u32 = 36_558;
+
 /// What a step adds to the LFO's phase, of which 2^32 is one cycle.
 pub(crate) fn phase_increment(speed: u8) -> u32
     requires { speed ≤ 99 }
@@ -13,10 +16,10 @@ pub(crate) fn phase_increment(speed: u8) -> u32
     ensures bound { result ≤ 149156640 }
 {
     let rate = speed_rate(speed);
-    36558 * (rate * rate_factor(rate))
+    RATE_UNIT * (rate * rate_factor(rate))
 }
 
-/// How fast a speed is.
+/// The rate of a speed setting, from 1 to 255.
 fn speed_rate(speed: u8) -> u32
     requires { speed ≤ 99 }
     ensures value { result ≡ speed_rate speed }
@@ -29,7 +32,7 @@ fn speed_rate(speed: u8) -> u32
     }
 }
 
-/// What a rate is multiplied by.
+/// How many units a rate has for each of its steps: high rates count for more.
 fn rate_factor(rate: u32) -> u32
     requires { rate ≤ 255 }
     ensures value { result ≡ rate_factor rate }

@@ -3,8 +3,13 @@
 ghost use Rattle.std.specs.Prelude.{◌≡◌, ◌≤◌, ◌<◌, ◌^◌};
 ghost use Rattle.block_rates.specs.Lfos.{delay_rate, raised_delay_state, next_delay_state, depth_of};
 
+use crate::cycle::RATE_UNIT;
+
 /// Where the delay's silence ends and the depth begins to rise.
 const RISE: u64 = 0x8000_0000;
+
+/// The depth once the delay is over.
+const GREATEST: u32 = 1 << 24;
 
 /// Where the depth is whole.
 const END: u64 = 0x1_0000_0000;
@@ -30,7 +35,7 @@ pub(crate) fn depth_of(delay: u8, delay_state: u32) -> u32
 {
     let on = raised_delay_state(delay, delay_state);
     if delay == 0 || on >= END {
-        1 << 24
+        GREATEST
     } else if on < RISE {
         0
     } else {
@@ -45,12 +50,12 @@ fn raised_delay_state(delay: u8, delay_state: u32) -> u64
     ensures bound { result < 2 ^ 33 }
 {
     let rate = delay_rate(delay);
-    let step = if u64::from(delay_state) < RISE {
+    let increment = if u64::from(delay_state) < RISE {
         rate
     } else {
         (rate - rate % 128).max(128)
     };
-    u64::from(delay_state) + 36558 * step
+    u64::from(delay_state) + u64::from(RATE_UNIT) * increment
 }
 
 /// How fast a delay above 0 goes by.

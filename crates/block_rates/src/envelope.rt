@@ -1,7 +1,7 @@
 //! The envelope generator of an operator.
 
 ghost use Rattle.std.specs.Prelude.{ℕ, ◌≡◌, ◌≤◌, pos, ◌≤ℤ◌, All, unsigned_abs, Option, None};
-ghost use Rattle.block_rates.specs.Levels.{IsLevelSegment};
+ghost use Rattle.block_rates.specs.Levels.{IsLevelSegment, greatest_level};
 ghost use Rattle.block_rates.specs.Segments.{AllFour};
 
 use crate::level_segment::LevelSegment;
@@ -13,7 +13,7 @@ use crate::stages::Stages;
 pub struct Envelope {
     level: u32,
     stages: Stages<LevelSegment>,
-    ghost level_bound: { level ≤ 266338304 },
+    ghost level_bound: { level ≤ greatest_level },
     ghost segment_bounds: { AllFour IsLevelSegment stages.first stages.second stages.third stages.fourth },
 }
 
@@ -62,7 +62,7 @@ impl Envelope {
         ensures stands { (s : EnvelopeSettings) (k : ℕ) (off : Option ℕ) →
             IsEnvelope self.old s k off → IsEnvelope self.new s (k + 1) off }
         ensures low { pos 0 ≤ℤ result }
-        ensures high { result ≤ℤ pos 266338304 }
+        ensures high { result ≤ℤ pos greatest_level }
     {
         self.level = self.stages.step(self.level);
         self.level as i32

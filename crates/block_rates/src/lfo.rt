@@ -1,12 +1,13 @@
 //! The LFO of all notes.
 
-ghost use Rattle.std.specs.Prelude.{ℕ, ◌≡◌, ◌≤◌, pos, ◌≤ℤ◌};
+ghost use Rattle.std.specs.Prelude.{ℕ, ◌≡◌, ◌≤◌, ◌^◌, pos, ◌≤ℤ◌};
 
 use crate::cycle::{held_random, phase_at_key, phase_increment};
 use crate::delay::{depth_of, next_delay_state};
 use crate::wave::Wave;
 use dx_tables::Tables;
 use voice_record::Voice;
+use voice_record::parameter::{LFO_DELAY, LFO_SPEED, LFO_SYNC, LFO_WAVE};
 
 /// The low-frequency oscillator (LFO) of all notes, which steps once a block.
 #[derive(Clone, Copy)]
@@ -49,10 +50,10 @@ impl Lfo {
         ensures { (o : LfoState) (m : ℕ) →
             IsLfo self.old o m → IsLfo self.new (assigned (lfo_settings voice.now) o m) 0 }
     {
-        self.speed = voice.get(137);
-        self.delay = voice.get(138);
-        self.is_synced = voice.get(141) == 1;
-        self.wave = Wave::of(voice.get(142));
+        self.speed = voice.get(LFO_SPEED);
+        self.delay = voice.get(LFO_DELAY);
+        self.is_synced = voice.get(LFO_SYNC) == 1;
+        self.wave = Wave::of(voice.get(LFO_WAVE));
     }
 
     /// A key goes down: the delay begins anew, and the wave where it is in sync.
@@ -73,9 +74,9 @@ impl Lfo {
         ensures stands { (o : LfoState) (m : ℕ) →
             IsLfo self.old o m → IsLfo self.new o (m + 1) }
         ensures value_low { pos 0 ≤ℤ result.0 }
-        ensures value_high { result.0 ≤ℤ pos 16777216 }
+        ensures value_high { result.0 ≤ℤ pos (2 ^ 24) }
         ensures depth_low { pos 0 ≤ℤ result.1 }
-        ensures depth_high { result.1 ≤ℤ pos 16777216 }
+        ensures depth_high { result.1 ≤ℤ pos (2 ^ 24) }
     {
         let increment = phase_increment(self.speed);
         self.phase = self.phase.wrapping_add(increment);

@@ -53,8 +53,8 @@ impl PitchEnvelope {
             IsPitchEnvelope self.old s k off → result ≡ pitch_envelope_level s (k + 1) off }
         ensures stands { (s : PitchEnvelopeSettings) (k : ℕ) (off : Option ℕ) →
             IsPitchEnvelope self.old s k off → IsPitchEnvelope self.new s (k + 1) off }
-        ensures low { neg_ℤ (pos 67108864) ≤ℤ result }
-        ensures high { result ≤ℤ pos 67108864 }
+        ensures low { neg_ℤ (pos (2 ^ 26)) ≤ℤ result }
+        ensures high { result ≤ℤ pos (2 ^ 26) }
     {
         self.level = self.stages.step(self.level);
         self.level

@@ -1,16 +1,16 @@
 //! One stage of a pitch envelope: where it leads, and how fast.
 
 ghost use Rattle.std.specs.Prelude.{◌≡◌, ◌≤◌};
-ghost use Rattle.block_rates.specs.Pitches.{IsPitch, IsPitchSegment, pitch_of, pitch_step, pitch_motion};
+ghost use Rattle.block_rates.specs.Pitches.{IsPitch, IsPitchSegment, pitch_of, pitch_increment, pitch_motion};
 
 use crate::stages::Segment;
 use dx_tables::constants::{pitch_level, pitch_rate};
 
-/// Where a stage of a pitch envelope leads, and by how much it moves.
+/// Where a stage of a pitch envelope leads, and by how much it moves the pitch in a step.
 #[derive(Clone, Copy)]
 pub(crate) struct PitchSegment {
     pub(crate) target: i32,
-    pub(crate) step: u32,
+    pub(crate) increment: u32,
 }
 
 impl PitchSegment {
@@ -19,12 +19,12 @@ impl PitchSegment {
         requires rate { rate ≤ 99 }
         requires parameter { parameter ≤ 99 }
         ensures target { result.target ≡ pitch_of parameter }
-        ensures step { result.step ≡ pitch_step rate }
+        ensures increment { result.increment ≡ pitch_increment rate }
         ensures bound { IsPitchSegment result }
     {
         PitchSegment {
             target: pitch(parameter),
-            step: step(rate),
+            increment: increment(rate),
         }
     }
 }
@@ -39,11 +39,11 @@ impl Segment for PitchSegment {
     ghost IsWithin = { IsPitch };
 
     fn stepped(self, level: i32) -> i32 {
-        let step = self.step as i32;
+        let increment = self.increment as i32;
         if self.target <= level {
-            self.target.max(level - step)
+            self.target.max(level - increment)
         } else {
-            self.target.min(level + step)
+            self.target.min(level + increment)
         }
     }
 
@@ -61,10 +61,10 @@ pub(crate) fn pitch(parameter: u8) -> i32
     i32::from(pitch_level(parameter)) * 524_288
 }
 
-/// What a stage moves by, for its rate parameter.
-fn step(rate: u8) -> u32
+/// By how much a stage moves the pitch in a step, for its rate parameter.
+fn increment(rate: u8) -> u32
     requires { rate ≤ 99 }
-    ensures value { result ≡ pitch_step rate }
+    ensures value { result ≡ pitch_increment rate }
     ensures bound { result ≤ 291465 }
 {
     u32::from(pitch_rate(rate)) * 1143

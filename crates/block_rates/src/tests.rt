@@ -5,6 +5,7 @@ ghost use Rattle.std.specs.Prelude.{◌≤◌};
 use crate::{Envelope, Lfo, PitchEnvelope};
 use dx_tables::Tables;
 use std::test::Fail;
+use voice_record::parameter::{LFO_DELAY, LFO_SPEED, LFO_SYNC, LFO_WAVE};
 use voice_record::{ValueHigh, Voice};
 
 /// Levels 99, 0, 20, 50 and 60 at an output level of 4064.
@@ -165,10 +166,10 @@ fn pitch_envelope_gives_known_levels(rt: HostRuntime) -> Result<(), Fail> {
 /// An LFO with these settings.
 fn lfo(speed: u8, delay: u8, sync: u8, wave: u8) -> Result<Lfo, ValueHigh> {
     let mut voice = Voice::init();
-    voice.set(137, speed)?;
-    voice.set(138, delay)?;
-    voice.set(141, sync)?;
-    voice.set(142, wave)?;
+    voice.set(LFO_SPEED, speed)?;
+    voice.set(LFO_DELAY, delay)?;
+    voice.set(LFO_SYNC, sync)?;
+    voice.set(LFO_WAVE, wave)?;
     let mut lfo = Lfo::new();
     lfo.assign(&voice);
     Ok(lfo)

@@ -5,6 +5,9 @@ ghost use Rattle.block_rates.specs.Waves.{wave_of, wave_value, triangle, saw_dow
 
 use dx_tables::Tables;
 
+/// The greatest value of a wave.
+const GREATEST: u32 = 1 << 24;
+
 /// Half a cycle of a phase.
 const HALF: u32 = 0x8000_0000;
 
@@ -38,7 +41,7 @@ impl Wave {
     pub(crate) fn value(self, tables: &Tables, phase: u32, random: u8) -> i32
         ensures value { result ≡ wave_value self phase random }
         ensures low { pos 0 ≤ℤ result }
-        ensures high { result ≤ℤ pos 16777216 }
+        ensures high { result ≤ℤ pos (2 ^ 24) }
     {
         match self {
             Wave::Triangle => triangle(phase) as i32,
@@ -59,7 +62,7 @@ fn triangle(phase: u32) -> u32
     if phase < HALF {
         phase >> 7
     } else {
-        0xFF_FFFF - ((phase - HALF) >> 7)
+        GREATEST - 1 - ((phase - HALF) >> 7)
     }
 }
 
@@ -84,15 +87,15 @@ fn square(phase: u32) -> u32
     ensures value { result ≡ square phase }
     ensures bound { result ≤ 2 ^ 24 }
 {
-    if phase < HALF { 1 << 24 } else { 0 }
+    if phase < HALF { GREATEST } else { 0 }
 }
 
 fn sine_wave(tables: &Tables, phase: u32) -> i32
     ensures value { result ≡ sine_wave phase }
     ensures low { pos 0 ≤ℤ result }
-    ensures high { result ≤ℤ pos 16777216 }
+    ensures high { result ≤ℤ pos (2 ^ 24) }
 {
-    (1 << 23) + (tables.sin((phase >> 8) as i32) >> 1)
+    (GREATEST / 2) as i32 + (tables.sin((phase >> 8) as i32) >> 1)
 }
 
 #[tactic(auto, unfolding(crate::specs::Waves::held_value))]

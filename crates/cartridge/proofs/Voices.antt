@@ -1,5 +1,6 @@
 -- Slots of packed bytes, and the voices that they hold.
-use Rattle.std.proofs.Common.{◌≡◌, ◌≢◌, ℕ, ◌+◌, ◌*◌, ◌/◌, ◌%◌, ◌^◌, ◌<◌, min, List, [], length, get_or, set, replicate, ap, sym, ◌∙◌, arith, subst, inl, inr, length-set, get_or-set_same, get_or-set_other}
+use Rattle.std.proofs.Common.{◌≡◌, ◌≢◌, ℕ, ◌+◌, ◌*◌, ◌/◌, ◌%◌, ◌^◌, ◌<◌, min, List, [], length, get_or, set, replicate, ap, sym, ◌∙◌, arith, subst}
+use Rattle.std.proofs.Common.{inl, inr, length-set, get_or-set_same, get_or-set_other}
 use Rattle.std.proofs.lemmas.Bool.{cases_eq}
 use Rattle.std.proofs.lemmas.List.{ext_get_or, get_or-replicate, length-replicate}
 use Rattle.std.proofs.lemmas.List.FromFn.{length-map-range_with_len, get_or-map-range_with_len}
@@ -51,7 +52,8 @@ voices_at : (bytes : List ℕ) (slot : ℕ) → slot < 32 → voice_at (voices_o
 unfolding voices_of
 voices_at bytes slot l = get_or-map-range_with_len (λ k. unpacked (slot_bytes bytes k)) 0 32 slot slot [] l (omega arith)
 
-same_voices : (voices others : List (List ℕ)) → length voices ≡ 32 → length others ≡ 32 → ((slot : ℕ) → slot < 32 → voice_at voices slot ≡ voice_at others slot) → voices ≡ others
+same_voices : (voices others : List (List ℕ)) → length voices ≡ 32 → length others ≡ 32 → ((slot : ℕ) → slot < 32 → voice_at voices slot ≡ voice_at others slot)
+    → voices ≡ others
 same_voices voices others a b h = ext_get_or [] voices others (a ∙ sym b) (λ slot l. h slot (rw a at l))
 
 -- the voices of the packed form are the voices
@@ -62,7 +64,8 @@ voices_are voices bytes p =
 pub packs_own : (voices : List (List ℕ)) (bytes : List ℕ) → PacksAll voices bytes → PacksAll (voices_of bytes) bytes
 packs_own voices bytes p = subst (λ v. PacksAll v bytes) (sym (voices_are voices bytes p)) p
 
-pub all_packed : (bytes : List ℕ) → length bytes ≡ 4096 → ((slot : ℕ) → slot < 32 → Packs (unpacked (slot_bytes bytes slot)) (slot_bytes bytes slot)) → PacksAll (voices_of bytes) bytes
+pub all_packed : (bytes : List ℕ) → length bytes ≡ 4096 → ((slot : ℕ) → slot < 32 → Packs (unpacked (slot_bytes bytes slot)) (slot_bytes bytes slot))
+    → PacksAll (voices_of bytes) bytes
 all_packed bytes size h = record {
   count = voices_count bytes;
   size = size;
@@ -94,7 +97,8 @@ all_data voices bytes p = λ k l.
     let slot : ℕ = k / 128 in
     let place : ℕ = k % 128 in
     let at : 128 * slot + place ≡ k = omega arith in
-    let read : get_or (slot_bytes bytes slot) place 0 ≡ get_or bytes (128 * slot + place) 0 = get_or-between bytes (128 * slot) (128 * slot + 128) place 0 (omega arith) in
+    let read : get_or (slot_bytes bytes slot) place 0 ≡ get_or bytes (128 * slot + place) 0 =
+        get_or-between bytes (128 * slot) (128 * slot + 128) place 0 (omega arith) in
     let seven : get_or (slot_bytes bytes slot) place 0 < 128 = packed_small _ (slot_bytes bytes slot) place (p.slots slot (omega arith)) (omega arith) in
     subst (λ j. get_or bytes j 0 < 128) at (rw read at seven)
 
@@ -123,7 +127,8 @@ voices_written voices old new slot fields bytes p l packed size own others =
     voices_are _ _ (written voices old new slot fields bytes p l packed size own others)
 
 -- ---- the whole list
-pub all_one : (bytes packed fields : List ℕ) → length bytes ≡ 4096 → Packs fields packed → ((k : ℕ) → k < 32 → slot_bytes bytes k ≡ packed) → PacksAll (replicate 32 fields) bytes
+pub all_one : (bytes packed fields : List ℕ) → length bytes ≡ 4096 → Packs fields packed → ((k : ℕ) → k < 32 → slot_bytes bytes k ≡ packed)
+    → PacksAll (replicate 32 fields) bytes
 all_one bytes packed fields size p h = record {
   count = length-replicate 32 fields;
   size = size;
@@ -131,7 +136,8 @@ all_one bytes packed fields size p h = record {
 }
 
 -- the voices of a payload, packed anew
-pub all_unpacked : (payload : List ℕ) (bytes : List ℕ) → length bytes ≡ 4096 → ((k : ℕ) → k < 32 → Packs (unpacked (slot_bytes payload k)) (slot_bytes bytes k)) → PacksAll (voices_of payload) bytes
+pub all_unpacked : (payload : List ℕ) (bytes : List ℕ) → length bytes ≡ 4096 → ((k : ℕ) → k < 32 → Packs (unpacked (slot_bytes payload k)) (slot_bytes bytes k))
+    → PacksAll (voices_of payload) bytes
 all_unpacked payload bytes size h = record {
   count = voices_count payload;
   size = size;

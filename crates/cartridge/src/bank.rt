@@ -9,7 +9,7 @@ use crate::slots;
 use std::alloc::{AllocError, Global};
 use std::marker::Model;
 use sysex_frame::checksum;
-use voice_record::Voice;
+use voice_record::{Voice, parameter};
 
 /// A cartridge, seen as the list of its 32 voices. It keeps them packed, with 0 in the unused bits.
 #[derive(Drop)]
@@ -130,8 +130,9 @@ impl Cartridge {
         ensures cartridge { IsCartridge self.now }
     {
         let voice = self.voice(slot).bytes();
+        let first = usize::from(parameter::NAME);
         let mut name = [0; 10];
-        name.copy_from_slice(&voice[145..155]);
+        name.copy_from_slice(&voice[first..first + 10]);
         name
     }
 

@@ -7,7 +7,7 @@ ghost use Rattle.cartridge.specs.Cartridge.{slot_bytes};
 const SLOT: usize = 128;
 
 /// The bytes of a slot.
-pub fn read(packed: &[u8], slot: u8) -> [u8; 128]
+pub(crate) fn read(packed: &[u8], slot: u8) -> [u8; 128]
     requires size { length packed.now ≡ 4096 }
     requires slot { slot ≤ 31 }
     ensures { result ≡ slot_bytes packed.now slot }
@@ -19,7 +19,7 @@ pub fn read(packed: &[u8], slot: u8) -> [u8; 128]
 }
 
 /// Puts 128 bytes into a slot.
-pub fn write(packed: &mut [u8], slot: u8, bytes: &[u8; 128])
+pub(crate) fn write(packed: &mut [u8], slot: u8, bytes: &[u8; 128])
     requires size { length packed.old ≡ 4096 }
     requires slot { slot ≤ 31 }
     ensures own { slot_bytes packed.new slot ≡ bytes.now }

@@ -1,5 +1,6 @@
 -- What a push and a pop do to the entries of one end, and how many entries there are in all.
-use Rattle.std.proofs.Common.{◌≡◌, ◌≢◌, ◌⊎◌, ℕ, zero, suc, ◌+◌, ◌<◌, ◌≤◌, Bool, true, false, cond, List, [], ◌∷◌, ◌++◌, length, take, refl, sym, ap, ◌∙◌, subst, ⊎_elim, inl, inr, arith, append_assoc, append-nil, eq-eqb, ne_eqb}
+use Rattle.std.proofs.Common.{◌≡◌, ◌≢◌, ◌⊎◌, ℕ, zero, suc, ◌+◌, ◌<◌, ◌≤◌, Bool, true, false, cond, List, [], ◌∷◌, ◌++◌, length, take, refl, sym, ap, ◌∙◌, subst}
+use Rattle.std.proofs.Common.{⊎_elim, inl, inr, arith, append_assoc, append-nil, eq-eqb, ne_eqb}
 use Rattle.std.specs.Prelude.{◌==◌, filter, All, sum, slice_index, slice_index_or}
 use Rattle.std.proofs.lemmas.Bool.Decides.{eqb_tells, nat_tests}
 use Rattle.std.proofs.lemmas.Bool.{lt-ltb}
@@ -30,7 +31,8 @@ sent_by_push_other e xs x h = sent_by_push e xs x ∙ ap (λ l. sent_by e xs ++ 
 pub same_or_not : (a b : ℕ) → (a ≡ b) ⊎ (a ≢ b)
 same_or_not a b = grind (arith, eqb_tells a b)
 
-at_end : (xs : List EntryData) (x d : EntryData) (i : ℕ) → i < length (xs ++ x ∷ []) → ((i < length xs) × (slice_index_or (xs ++ x ∷ []) i d ≡ slice_index_or xs i d)) ⊎ ((i ≡ length xs) × (slice_index_or (xs ++ x ∷ []) i d ≡ x))
+at_end : (xs : List EntryData) (x d : EntryData) (i : ℕ) → i < length (xs ++ x ∷ [])
+    → ((i < length xs) × (slice_index_or (xs ++ x ∷ []) i d ≡ slice_index_or xs i d)) ⊎ ((i ≡ length xs) × (slice_index_or (xs ++ x ∷ []) i d ≡ x))
 at_end [] x d zero h = grind arith
 at_end [] x d (suc i) h = absurd (omega arith)
 at_end (y ∷ ys) x d zero h = grind arith
@@ -58,15 +60,19 @@ bounded_push quotas all x room h e = ⊎_elim
     omega arith)
     (same_or_not x.script e)
 
-all_numbered_push : (all : List EntryData) (x : EntryData) → x.seq ≡ length (sent_by x.script all) → ((e : ℕ) → AreNumbered (sent_by e all)) → (e : ℕ) → AreNumbered (sent_by e (all ++ x ∷ []))
+all_numbered_push : (all : List EntryData) (x : EntryData) → x.seq ≡ length (sent_by x.script all) → ((e : ℕ) → AreNumbered (sent_by e all)) → (e : ℕ)
+    → AreNumbered (sent_by e (all ++ x ∷ []))
 all_numbered_push all x seq h e = ⊎_elim
-    (λ (is : x.script ≡ e). subst AreNumbered (sym (sent_by_push_same e all x is)) (numbered_push (sent_by e all) x (h e) (seq ∙ ap (λ k. length (sent_by k all)) is)))
+    (λ (is : x.script ≡ e). subst AreNumbered (sym (sent_by_push_same e all x is))
+        (numbered_push (sent_by e all) x (h e) (seq ∙ ap (λ k. length (sent_by k all)) is)))
     (λ (is : x.script ≢ e). subst AreNumbered (sym (sent_by_push_other e all x is)) (h e))
     (same_or_not x.script e)
 
 -- the next entry of an end joins those that wait
-pub legal_push : (quotas : List ℕ) (places : ℕ) (taken waiting : List EntryData) (x : EntryData) → x.script < length quotas → x.seq ≡ length (sent_by x.script (taken ++ waiting))
-    → length (sent_by x.script (taken ++ waiting)) < quota_at quotas x.script → length waiting < places → IsInRange x.command → IsLegal quotas places taken waiting → IsLegal quotas places taken (waiting ++ x ∷ [])
+pub legal_push : (quotas : List ℕ) (places : ℕ) (taken waiting : List EntryData) (x : EntryData) → x.script < length quotas
+    → x.seq ≡ length (sent_by x.script (taken ++ waiting))
+    → length (sent_by x.script (taken ++ waiting)) < quota_at quotas x.script → length waiting < places → IsInRange x.command
+        → IsLegal quotas places taken waiting → IsLegal quotas places taken (waiting ++ x ∷ [])
 legal_push quotas places taken waiting x made seq quota room ranges s =
     let all : List EntryData = taken ++ waiting in
     let moved : all ++ x ∷ [] ≡ taken ++ (waiting ++ x ∷ []) = append_assoc taken waiting (x ∷ []) in
@@ -81,7 +87,8 @@ legal_push quotas places taken waiting x made seq quota room ranges s =
     }
 
 -- the first that waits joins those that were taken
-pub legal_pop : (quotas : List ℕ) (places : ℕ) (taken waiting : List EntryData) (x : EntryData) → IsLegal quotas places taken (x ∷ waiting) → IsLegal quotas places (taken ++ x ∷ []) waiting
+pub legal_pop : (quotas : List ℕ) (places : ℕ) (taken waiting : List EntryData) (x : EntryData) → IsLegal quotas places taken (x ∷ waiting)
+    → IsLegal quotas places (taken ++ x ∷ []) waiting
 legal_pop quotas places taken waiting x s =
     let moved : taken ++ x ∷ waiting ≡ (taken ++ x ∷ []) ++ waiting = sym (append_assoc taken (x ∷ []) waiting) in
     let room = s.queued.room in
@@ -121,7 +128,8 @@ tests s n = grind (arith, nat_tests)
 pub below_more : (n : ℕ) (xs : List EntryData) → length (below (n + 1) xs) ≡ length (below n xs) + length (sent_by n xs)
 below_more n [] = omega arith
 below_more n (x ∷ xs) =
-    omega (arith, below_more n xs, tests x.script n, length_cond (ltb x.script (n + 1)) x (below (n + 1) xs), length_cond (ltb x.script n) x (below n xs), length_cond (x.script == n) x (sent_by n xs))
+    omega (arith, below_more n xs, tests x.script n, length_cond (ltb x.script (n + 1)) x (below (n + 1) xs), length_cond (ltb x.script n) x (below n xs),
+        length_cond (x.script == n) x (sent_by n xs))
 
 not_below : (s : ℕ) → ◌≡◌ {A = ℕ} (cond (ltb s 0) 1 0) 0
 not_below s = grind (arith, nat_tests)
@@ -135,10 +143,12 @@ below_all n [] h = refl
 below_all n (x ∷ xs) h =
     let is : x.script < n = All-head (λ y. y.script < n) x xs h in
     let p : ltb x.script n ≡ true = lt-ltb x.script n is in
-    let c : length (cond (ltb x.script n) (x ∷ below n xs) (below n xs)) ≡ suc (length (below n xs)) = ap (λ b. length (cond b (x ∷ below n xs) (below n xs))) p in
+    let c : length (cond (ltb x.script n) (x ∷ below n xs) (below n xs)) ≡ suc (length (below n xs)) =
+        ap (λ b. length (cond b (x ∷ below n xs) (below n xs))) p in
     c ∙ ap suc (below_all n xs (All-tail (λ y. y.script < n) x xs h))
 
-module _ (quotas : List ℕ) (all : List EntryData) (made : All (λ x. x.script < length quotas) all) (bounded : (e : ℕ) → length (sent_by e all) ≤ quota_at quotas e) where
+module _ (quotas : List ℕ) (all : List EntryData) (made : All (λ x. x.script < length quotas) all) (bounded : (e : ℕ)
+    → length (sent_by e all) ≤ quota_at quotas e) where
   upto : (n : ℕ) → n ≤ length quotas → length (below n all) ≤ sum (take n quotas)
   upto zero h = omega (arith, below_none all)
   upto (suc n) h =
@@ -199,7 +209,10 @@ sent_by_nobody n (x ∷ xs) h =
 -- what is left of an end's entries once x is taken is less than before
 pub sent_by_front : (taken items : List EntryData) (x : EntryData) → length (sent_by x.script taken) < length (sent_by x.script (taken ++ x ∷ items))
 sent_by_front taken items x =
-    let e : sent_by x.script (taken ++ x ∷ items) ≡ sent_by x.script taken ++ sent_by x.script (x ∷ items) = filter-append (λ y. y.script == x.script) taken (x ∷ items) in
-    let f : sent_by x.script (x ∷ items) ≡ x ∷ sent_by x.script items = ap (λ b. cond b (x ∷ sent_by x.script items) (sent_by x.script items)) (eq-eqb x.script x.script refl) in
-    let l : length (sent_by x.script (taken ++ x ∷ items)) ≡ length (sent_by x.script taken ++ (x ∷ sent_by x.script items)) = ap length (e ∙ ap (λ r. sent_by x.script taken ++ r) f) in
+    let e : sent_by x.script (taken ++ x ∷ items) ≡ sent_by x.script taken ++ sent_by x.script (x ∷ items) =
+        filter-append (λ y. y.script == x.script) taken (x ∷ items) in
+    let f : sent_by x.script (x ∷ items) ≡ x ∷ sent_by x.script items = ap (λ b.
+        cond b (x ∷ sent_by x.script items) (sent_by x.script items)) (eq-eqb x.script x.script refl) in
+    let l : length (sent_by x.script (taken ++ x ∷ items)) ≡ length (sent_by x.script taken ++ (x ∷ sent_by x.script items)) =
+        ap length (e ∙ ap (λ r. sent_by x.script taken ++ r) f) in
     omega (arith, length-append (sent_by x.script taken) (x ∷ sent_by x.script items))

@@ -1,5 +1,6 @@
 -- Each step keeps the rule.
-use Rattle.std.proofs.Common.{◌≡◌, ◌≢◌, ◌⊎◌, ℕ, ◌+◌, ◌<◌, ◌≤◌, true, false, cond, List, [], ◌∷◌, ◌++◌, length, set, refl, sym, ap, ◌∙◌, subst, ⊎_elim, inl, inr, zero, suc, get_or, arith, append_assoc, true≢false}
+use Rattle.std.proofs.Common.{◌≡◌, ◌≢◌, ◌⊎◌, ℕ, ◌+◌, ◌<◌, ◌≤◌, true, false, cond, List, [], ◌∷◌, ◌++◌, length, set, refl, sym, ap, ◌∙◌, subst, ⊎_elim, inl, inr}
+use Rattle.std.proofs.Common.{zero, suc, get_or, arith, append_assoc, true≢false}
 use Rattle.std.specs.Prelude.{All, ◌==◌, sum, slice_index_or}
 use Rattle.std.proofs.lemmas.List.Elements.{All-push, All-weaker, All-nil, filter-append}
 use Rattle.std.proofs.Math.ListN.{length-append, length-set, length-map, get_or-append}
@@ -15,11 +16,14 @@ use Rattle.command_set.specs.Command.{IsInRange}
 use Rattle.command_set.specs.Entries.{EntryData, entry_data, sent_by, AreNumbered}
 use Rattle.command_queue.specs.declared.rule.Role.{Role}
 use Rattle.command_queue.specs.Entries.{quota_at, IsLegal, IsNextOf}
-use Rattle.command_queue.specs.Rule.{plain, nobody, root, taker, one_more, next_end, joined, with_sent, with_taken, IsEnd, Fits, Kept, Holds, Sent, SenderSees, Accounts, Took, TakerSees}
-use Rattle.command_queue.proofs.Counts.{sent_by_push_same, sent_by_push_other, legal_push, legal_pop, legal_none, total_bound, all_middle, all_none, sent_by_nobody, sent_by_front, same_or_not}
+use Rattle.command_queue.specs.Rule.{plain, nobody, root, taker, one_more, next_end, joined, with_sent, with_taken, IsEnd, Fits, Kept, Holds, Sent, SenderSees}
+use Rattle.command_queue.specs.Rule.{Accounts, Took, TakerSees}
+use Rattle.command_queue.proofs.Counts.{sent_by_push_same, sent_by_push_other, legal_push, legal_pop, legal_none, total_bound, all_middle, all_none}
+use Rattle.command_queue.proofs.Counts.{sent_by_nobody, sent_by_front, same_or_not}
 
 -- all views fit where the one that changed does, and the others do
-fits_set : (t : Role) (all : List EntryData) (views : List Role) (port : ℕ) (w : Role) → Fits t all port w → ((j : ℕ) (u : Role) → j ≢ port → get_elem? views j ≡ some u → Fits t all j u)
+fits_set : (t : Role) (all : List EntryData) (views : List Role) (port : ℕ) (w : Role) → Fits t all port w
+    → ((j : ℕ) (u : Role) → j ≢ port → get_elem? views j ≡ some u → Fits t all j u)
     → (j : ℕ) (u : Role) → get_elem? (set views port w) j ≡ some u → Fits t all j u
 fits_set t all views port w mine others j u e =
     ⊎_elim
@@ -28,10 +32,12 @@ fits_set t all views port w mine others j u e =
     (at_set views port j w u e)
 
 -- the other ends have other numbers
-other_end : (t : Role) (all : List EntryData) (x : EntryData) (port j : ℕ) (v u : Role) → IsEnd t all port v → IsEnd t all j u → j ≢ port → x.script ≡ v.number → x.script ≢ u.number
+other_end : (t : Role) (all : List EntryData) (x : EntryData) (port j : ℕ) (v u : Role) → IsEnd t all port v → IsEnd t all j u → j ≢ port → x.script ≡ v.number
+    → x.script ≢ u.number
 other_end t all x port j v u mine theirs apart is same = apart (theirs.port_is ∙ ap (λ k. k + 2) (sym same ∙ is) ∙ sym mine.port_is)
 
-pub sends : (n port : ℕ) (v : Role) (e : Entry) → v.sends ≡ true → v.takes ≡ false → n ≡ v.places → e.script ≡ v.number → e.seq ≡ length v.sent → length v.sent < quota_at v.quotas v.number → IsInRange (entry_data e).command
+pub sends : (n port : ℕ) (v : Role) (e : Entry) → v.sends ≡ true → v.takes ≡ false → n ≡ v.places → e.script ≡ v.number → e.seq ≡ length v.sent
+    → length v.sent < quota_at v.quotas v.number → IsInRange (entry_data e).command
     → Pushes Holds n port v e (Sent v (entry_data e))
 sends n port v e may stays places script seq quota ranges items views room h at =
     let x : EntryData = entry_data e in
@@ -48,7 +54,8 @@ sends n port v e may stays places script seq quota ranges items views room h at 
     let many : length waiting ≡ length items = length-map items entry_data in
     let legal : IsLegal t.quotas t.places t.taken (waiting ++ x ∷ []) =
     legal_push t.quotas t.places t.taken waiting x (omega arith) (seq ∙ ap length sent)
-    (subst (λ (y : List EntryData × (List ℕ × ℕ)). length y.0 < quota_at y.1.0 y.1.1) (λ i. (sent i, (mine.quotas_is i, sym script i))) quota) (omega arith) ranges h.legal in
+    (subst (λ (y : List EntryData × (List ℕ × ℕ)). length y.0 < quota_at y.1.0 y.1.1) (λ i. (sent i, (mine.quotas_is i, sym script i))) quota) (omega arith)
+        ranges h.legal in
     let fits : (j : ℕ) (u : Role) → get_elem? (set views port w) j ≡ some u → Fits t (all ++ x ∷ []) j u =
     fits_set t (all ++ x ∷ []) views port w (
       (λ p. absurd (true≢false (sym p ∙ stays))),
@@ -79,21 +86,25 @@ sends n port v e may stays places script seq quota ranges items views room h at 
       ends = h.ends;
       made = subst (All (λ y. y.script < t.made)) (sym moved) (All-push (λ y. y.script < t.made) all x h.made made);
       joins = h.joins;
-      known = λ k lt. h.known k lt ∙ sym (sent_by_push_other k all x (λ same. let le = mine.unjoined in absurd (omega (arith, sym same ∙ script)))) ∙ ap (sent_by k) (sym moved);
+      known = λ k lt. h.known k lt ∙ sym (sent_by_push_other k all x (λ same. let le = mine.unjoined in absurd (omega (arith, sym same ∙ script))))
+          ∙ ap (sent_by k) (sym moved);
       each = subst (λ l. (j : ℕ) (u : Role) → get_elem? (set views port w) j ≡ some u → Fits t l j u) (sym moved) fits;
     } in
     (w, subst (λ l. Kept l (set views port w)) (sym (map-append entry_data items (e ∷ []))) kept, refl)
 
 -- the entry at the front is the next of its end
-next_of : (quotas : List ℕ) (taken waiting : List EntryData) (x : EntryData) → AreNumbered (sent_by x.script (taken ++ x ∷ waiting)) → length (sent_by x.script (taken ++ x ∷ waiting)) ≤ quota_at quotas x.script
+next_of : (quotas : List ℕ) (taken waiting : List EntryData) (x : EntryData) → AreNumbered (sent_by x.script (taken ++ x ∷ waiting))
+    → length (sent_by x.script (taken ++ x ∷ waiting)) ≤ quota_at quotas x.script
     → IsNextOf quotas taken x
 next_of quotas taken waiting x numbered bounded =
-    let own : sent_by x.script (x ∷ waiting) ≡ x ∷ sent_by x.script waiting = ap (λ b. cond b (x ∷ sent_by x.script waiting) (sent_by x.script waiting)) (eq-eqb x.script x.script refl) in
+    let own : sent_by x.script (x ∷ waiting) ≡ x ∷ sent_by x.script waiting =
+        ap (λ b. cond b (x ∷ sent_by x.script waiting) (sent_by x.script waiting)) (eq-eqb x.script x.script refl) in
     let all : sent_by x.script (taken ++ x ∷ waiting) ≡ sent_by x.script taken ++ x ∷ sent_by x.script waiting =
     filter-append (λ (e : EntryData). e.script == x.script) taken (x ∷ waiting) ∙ ap (λ (es : List EntryData). sent_by x.script taken ++ es) own in
     let n : ℕ = length (sent_by x.script taken) in
     let lt : n < length (sent_by x.script (taken ++ x ∷ waiting)) = sent_by_front taken waiting x in
-    let here : get_or (sent_by x.script (taken ++ x ∷ waiting)) n x ≡ x = ap (λ (es : List EntryData). get_or es n x) all ∙ get_or-append_seam (sent_by x.script taken) x (sent_by x.script waiting) x in
+    let here : get_or (sent_by x.script (taken ++ x ∷ waiting)) n x ≡ x = ap (λ (es : List EntryData). get_or es n x) all
+        ∙ get_or-append_seam (sent_by x.script taken) x (sent_by x.script waiting) x in
     let seq : x.seq ≡ n = ap (λ (e : EntryData). e.seq) (sym here) ∙ numbered n x lt in
     (seq, omega (arith, seq, lt, bounded))
 
@@ -109,7 +120,8 @@ takes port v may stays e items views h at =
     let moved : t'.taken ++ waiting ≡ all = append_assoc t.taken (x ∷ []) waiting in
     let script : x.script < length t.quotas = all_middle (λ y. y.script < length t.quotas) t.taken x waiting h.legal.queued.made in
     let ranges : IsInRange x.command = all_middle (λ y. IsInRange y.command) t.taken x waiting h.legal.ranges in
-    let total : length t.taken < sum t.quotas = omega (arith, total_bound t.quotas all h.legal.queued.made h.legal.bounded, length-append t.taken (x ∷ waiting)) in
+    let total : length t.taken < sum t.quotas = omega (arith, total_bound t.quotas all h.legal.queued.made h.legal.bounded, length-append t.taken (x ∷ waiting))
+        in
     let left : x.script < length t.known → length (sent_by x.script t.taken) < length (slice_index_or t.known x.script []) =
     λ lt. subst (λ l. length (sent_by x.script t.taken) < length l) (sym (h.known x.script lt)) (sent_by_front t.taken waiting x) in
     let Facts : Role → Type 0 = λ r. (x.script < length r.quotas) × IsInRange x.command × (length r.taken < sum r.quotas)
@@ -150,7 +162,8 @@ snoc [] a b (suc j) e = absurd (some-ne-none b (sym e))
 snoc (x ∷ xs) a b zero e = inl e
 snoc (x ∷ xs) a b (suc j) e = ⊎_elim (λ (p : get_elem? xs j ≡ some b). inl p) (λ (p : (j ≡ length xs) × (a ≡ b)). inr (ap suc p.0, p.1)) (snoc xs a b j e)
 
-fits_snoc : (t : Role) (all : List EntryData) (views : List Role) (a : Role) → ((j : ℕ) (u : Role) → get_elem? views j ≡ some u → Fits t all j u) → Fits t all (length views) a
+fits_snoc : (t : Role) (all : List EntryData) (views : List Role) (a : Role) → ((j : ℕ) (u : Role) → get_elem? views j ≡ some u → Fits t all j u)
+    → Fits t all (length views) a
     → (j : ℕ) (u : Role) → get_elem? (views ++ a ∷ []) j ≡ some u → Fits t all j u
 fits_snoc t all views a old new j u e =
     ⊎_elim
@@ -252,7 +265,8 @@ forks port v may stays opened more items views h at =
           );
     }
 
-pub merges : (port : ℕ) (v : Role) (other : ℕ) (w : Role) → v.takes ≡ true → v.sends ≡ false → w.sends ≡ true → w.number ≡ length v.known → Merges Holds port v other w (joined v w) nobody
+pub merges : (port : ℕ) (v : Role) (other : ℕ) (w : Role) → v.takes ≡ true → v.sends ≡ false → w.sends ≡ true → w.number ≡ length v.known
+    → Merges Holds port v other w (joined v w) nobody
 merges port v other w may stays ended turn items views h at two at' =
     let t : Role = h.t in
     let mine = (h.each port v at).0 may in
@@ -262,7 +276,8 @@ merges port v other w may stays ended turn items views h at two at' =
     let both : Role = joined v w in
     let vs : List Role = set views port both in
     let was : get_elem? views other ≡ some w =
-    ⊎_elim (λ (p : (other ≡ port) × (both ≡ w)). absurd (two p.0)) (λ (p : (other ≢ port) × (get_elem? views other ≡ some w)). p.1) (at_set views port other both w at') in
+    ⊎_elim (λ (p : (other ≡ port) × (both ≡ w)). absurd (two p.0)) (λ (p : (other ≢ port) × (get_elem? views other ≡ some w)).
+        p.1) (at_set views port other both w at') in
     let theirs : IsEnd t all other w = (h.each other w was).1 ended in
     let number : w.number ≡ length t.known = turn ∙ ap (λ (r : Role). length r.known) same in
     let longer : length (t.known ++ w.sent ∷ []) ≡ length t.known + 1 = length-append t.known (w.sent ∷ []) in
@@ -298,7 +313,8 @@ merges port v other w may stays ended turn items views h at two at' =
       each = fits_set t' all vs other nobody (nobody_fits t' all other) (λ j u apart e. now j u e apart);
     }
   where
-    known_more : (known : List (List EntryData)) (sent all : List EntryData) (e : ℕ) → Accounts known all → sent ≡ sent_by (length known) all → e < length (known ++ sent ∷ []) → slice_index_or (known ++ sent ∷ []) e [] ≡ sent_by e all
+    known_more : (known : List (List EntryData)) (sent all : List EntryData) (e : ℕ) → Accounts known all → sent ≡ sent_by (length known) all
+        → e < length (known ++ sent ∷ []) → slice_index_or (known ++ sent ∷ []) e [] ≡ sent_by e all
     known_more known sent all e h last le =
         let l : length (known ++ sent ∷ []) ≡ length known + 1 = length-append known (sent ∷ []) in
         ⊎_elim

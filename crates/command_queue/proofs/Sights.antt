@@ -9,7 +9,8 @@ use Rattle.command_queue.specs.Rule.{plain, SenderSees}
 use Rattle.command_queue.specs.Ends.{SendView, others_of, WasFull}
 use Rattle.command_queue.proofs.Counts.{others_bound}
 
-pub full_seen : (v : Role) (e : SendView) (items : List Entry) → v.number ≡ e.number → v.places ≡ e.line.places → v.quotas ≡ e.line.quotas → v.sent ≡ e.list → length items ≡ e.line.places → SenderSees v (plain items) → WasFull e
+pub full_seen : (v : Role) (e : SendView) (items : List Entry) → v.number ≡ e.number → v.places ≡ e.line.places → v.quotas ≡ e.line.quotas → v.sent ≡ e.list
+    → length items ≡ e.line.places → SenderSees v (plain items) → WasFull e
 full_seen v e items number places quotas sent full s = (
   s.0,
   plain items,

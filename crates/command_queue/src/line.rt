@@ -1,4 +1,4 @@
-//! The line.
+//! The bounded line that all ends share: it is made with its ends, and entries are sent into it and taken out of it.
 ghost use Rattle.std.specs.Prelude.{sum, ◌≡◌, ◌+◌, ◌<◌, ◌≤◌, true, false, [], length, IfOk, IfErr, IfSome, IfNone};
 ghost use Rattle.crossbeam_queue.specs.Passes.{IsPassOf, IsSamePass};
 ghost use Rattle.command_set.specs.Command.{content, IsInRange};

@@ -7,12 +7,12 @@ use crossbeam_queue::{Pass, RuledArrayQueue};
 use std::collections::LinkedList;
 use std::marker::{Brand, Model, PhantomData};
 
-/// An entry as a role notes it. Contracts see its plain data. No value of it is made.
-pub struct Noted {
+/// An entry as it stands in a role. Contracts see its plain data. No value of it is made.
+pub(crate) struct QueuedEntry {
     entry: Entry,
 }
 
-impl Model for Noted {
+impl Model for QueuedEntry {
     ghost use Rattle.command_set.specs.Entries.{EntryData, entry_data};
 
     ghost Value = { EntryData };
@@ -21,7 +21,7 @@ impl Model for Noted {
 }
 
 /// What a pass knows. No value of it is made. The taker's pass has number 0, and the end n's has number n + 2.
-pub struct Role {
+pub(crate) struct Role {
     /// Whether the pass takes entries.
     pub takes: bool,
     /// Whether it sends them.
@@ -33,19 +33,19 @@ pub struct Role {
     /// Of an end: its number.
     pub number: u32,
     /// Of an end: the entries that were accepted of it.
-    pub sent: LinkedList<Noted>,
+    pub sent: LinkedList<QueuedEntry>,
     /// Of the taker: whether the quotas are fixed, 0 or 1.
     pub opened: u32,
     /// Of the taker: how many ends were made.
     pub made: u32,
     /// Of the taker: what it took.
-    pub taken: LinkedList<Noted>,
+    pub taken: LinkedList<QueuedEntry>,
     /// Of the taker: what the ends that it joined had sent.
-    pub known: LinkedList<LinkedList<Noted>>,
+    pub known: LinkedList<LinkedList<QueuedEntry>>,
 }
 
 /// The rule of a line's queue.
-pub struct InTurn;
+pub(crate) struct InTurn;
 
 impl Protocol<Entry, Role> for InTurn {
     ghost use Rattle.command_queue.specs.Rule.{Holds, root};
@@ -56,7 +56,7 @@ impl Protocol<Entry, Role> for InTurn {
 }
 
 /// The places and the quotas of a line, picked where it is made.
-pub trait Plan {
+pub(crate) trait Plan {
     ghost places: { ℕ };
 
     ghost quotas: { List ℕ };
@@ -71,7 +71,7 @@ impl Plan for Brand {
 }
 
 /// Fixes the places and the quotas. The second pass is of no use.
-pub struct Opening<K: Plan> {
+pub(crate) struct Opening<K: Plan> {
     plan: PhantomData<K>,
 }
 
@@ -84,7 +84,7 @@ impl<K: Plan> Split<Role> for Opening<K> {
 }
 
 /// Makes the next end, and later takes it in again.
-pub struct Ends;
+pub(crate) struct Ends;
 
 impl Split<Role> for Ends {
     ghost use Rattle.command_queue.specs.Rule.{one_more, next_end};
@@ -103,7 +103,7 @@ impl Join<Role> for Ends {
 }
 
 /// What a push lets its end know, accepted or refused.
-pub struct Sends;
+pub(crate) struct Sends;
 
 impl Outcome<Entry, Role> for Sends {
     ghost use Rattle.command_set.specs.Entries.{entry_data};
@@ -119,7 +119,7 @@ impl Lesson<Entry, Role> for Sends {
 }
 
 /// What a pop lets the taker know, with an entry or without.
-pub struct Takes;
+pub(crate) struct Takes;
 
 impl Outcome<Entry, Role> for Takes {
     ghost use Rattle.command_set.specs.Entries.{entry_data};
@@ -135,7 +135,7 @@ impl Lesson<Entry, Role> for Takes {
 }
 
 /// The queue of a line.
-pub type Queue = RuledArrayQueue<Entry, Role, InTurn>;
+pub(crate) type Queue = RuledArrayQueue<Entry, Role, InTurn>;
 
 /// A pass of it.
-pub type Seat = Pass<Entry, Role>;
+pub(crate) type Seat = Pass<Entry, Role>;

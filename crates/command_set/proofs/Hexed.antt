@@ -40,9 +40,11 @@ as_voice word d r same =
 pub as_cartridge : (word : List ℕ) (d : CommandData) → IsInRange d → words d ≡ codes "cartridge" ∷ word ∷ []
     → (voices : List (List ℕ)) × (d ≡ LoadsCartridge voices) × IsCartridge voices × (encode_lower (flat_map packed voices) ≡ word)
 as_cartridge word d r same =
-    let found = some_bytes (λ bytes. LoadsCartridge (voices_of bytes)) (decode_of word) d (sym (cartridge_words word) ∙ sym (one_word (codes "cartridge") word) ∙ read_as _ d r same) in
+    let found = some_bytes (λ bytes. LoadsCartridge (voices_of bytes)) (decode_of word) d (sym (cartridge_words word) ∙ sym (one_word (codes "cartridge") word)
+        ∙ read_as _ d r same) in
     let is : d ≡ LoadsCartridge (voices_of found.0) = found.2 in
-    (voices_of found.0, is, subst IsInRange is r, second_word (words (LoadsCartridge (voices_of found.0))) _ (subst (λ x. words x ≡ codes "cartridge" ∷ word ∷ []) is same))
+    (voices_of found.0, is, subst IsInRange is r, second_word (words (LoadsCartridge (voices_of found.0))) _
+        (subst (λ x. words x ≡ codes "cartridge" ∷ word ∷ []) is same))
 
 voice_decoded : (voice word : List ℕ) → IsVoice voice → encode_lower voice ≡ word → decode_sized word 155 ≡ Ok voice
 voice_decoded voice word v is = subst (λ w. decode_sized w 155 ≡ Ok voice) is (decode_sized-encode_lower voice 155 v.count (voice_bytes voice v))
@@ -104,11 +106,13 @@ pub voice_read : (word voice : List ℕ) → IsVoice voice → encode_lower voic
 voice_read word voice v is = (v, ap (λ w. codes "voice" ∷ w ∷ []) is)
 
 -- a word that no 155 bytes have
-pub no_voice : (word : List ℕ) → ((bytes : List ℕ) → IsBytes bytes → length bytes ≡ 155 → encode_lower bytes ≢ word) → AreWordsOfNone (codes "voice" ∷ word ∷ [])
+pub no_voice : (word : List ℕ) → ((bytes : List ℕ) → IsBytes bytes → length bytes ≡ 155 → encode_lower bytes ≢ word)
+    → AreWordsOfNone (codes "voice" ∷ word ∷ [])
 no_voice word none d r same = let own = as_voice word d r same in none own.0 (voice_bytes own.0 own.2) own.2.count own.3
 
 -- a word of bytes that are no voice
-pub other_voice : (word bytes voice : List ℕ) → ((xs : List ℕ) → IsBytes xs → encode_lower xs ≡ word → xs ≡ bytes) → (IsVoice bytes → voice ≡ bytes) → voice ≢ bytes
+pub other_voice : (word bytes voice : List ℕ) → ((xs : List ℕ) → IsBytes xs → encode_lower xs ≡ word → xs ≡ bytes) → (IsVoice bytes → voice ≡ bytes)
+    → voice ≢ bytes
     → AreWordsOfNone (codes "voice" ∷ word ∷ [])
 other_voice word bytes voice only same differs d r e =
     let own = as_voice word d r e in

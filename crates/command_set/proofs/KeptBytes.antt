@@ -2,7 +2,8 @@
 use Rattle.std.proofs.Common.{◌≡◌, ℕ, ◌≤◌, List, [], length, refl, ap, arith}
 use Rattle.std.specs.Prelude.{Option, Some, None, unwrap_or, IfSome}
 use Rattle.midi_stream.specs.declared.message.MidiMessage.{MidiMessage}
-use Rattle.midi_stream.specs.declared.message.MidiMessage.TheVariants.{NoteOff, NoteOn, KeyPressure, Control, Program, ChannelPressure, Bend, SysEx, SysExTooLong}
+use Rattle.midi_stream.specs.declared.message.MidiMessage.TheVariants.{NoteOff, NoteOn, KeyPressure, Control, Program, ChannelPressure, Bend, SysEx}
+use Rattle.midi_stream.specs.declared.message.MidiMessage.TheVariants.{SysExTooLong}
 use Rattle.midi_stream.specs.Ranges.{InRange}
 use Rattle.midi_stream.specs.Standing.{HasBytes}
 use Rattle.velocity_map.specs.declared.curve.Curve.{Curve}

@@ -28,7 +28,8 @@ pub voices_known : (payload : List ℕ) (voices : List (List ℕ)) → UnpacksAl
 voices_known payload voices u =
     let own = unpacks_all payload in
     ext_get_or [] voices (voices_of payload) (u.count ∙ sym (own.count))
-    (λ k l. let below : k < 32 = rw u.count at l in unpacks_unique (slot_bytes payload k) (voice_at voices k) (voice_at (voices_of payload) k) (u.slots k below) (own.slots k below))
+    (λ k l. let below : k < 32 = rw u.count at l in unpacks_unique (slot_bytes payload k) (voice_at voices k) (voice_at (voices_of payload) k) (u.slots k below)
+        (own.slots k below))
 
 -- the voice that bytes send is theirs
 pub clamped_clamps : (bytes : List ℕ) → IsClamped bytes (clamped_voice bytes)

@@ -1,5 +1,6 @@
 -- Commands of numbers: what is read has the words that were read.
-use Rattle.std.proofs.Common.{◌≡◌, ◌≢◌, ℕ, ◌^◌, ◌<◌, List, [], ◌∷◌, Option, Some, None, Bool, true, false, inl, inr, ◌⊎◌, refl, ap, sym, ◌∙◌, arith, lit<, if◌then◌else◌}
+use Rattle.std.proofs.Common.{◌≡◌, ◌≢◌, ℕ, ◌^◌, ◌<◌, List, [], ◌∷◌, Option, Some, None, Bool, true, false, inl, inr, ◌⊎◌, refl, ap, sym, ◌∙◌, arith}
+use Rattle.std.proofs.Common.{lit<, if◌then◌else◌}
 use Rattle.std.specs.Prelude.{codes, decimal, option_map, option_and_then, bytes_eq}
 use Rattle.std.proofs.lemmas.Slice.Eq.{bytes_eq-Decides}
 use Rattle.plain_text.specs.Number.{number}
@@ -32,7 +33,8 @@ some_is : (a b : CommandData) → Some a ≡ Some b → a ≡ b
 some_is a b e = cc
 
 -- a kind that was found, with other words after it
-kinded : (kind own : List ℕ) (more : List (List ℕ)) (a d : CommandData) → bytes_eq kind own ≡ true → Some a ≡ Some d → words a ≡ own ∷ more → words d ≡ kind ∷ more
+kinded : (kind own : List ℕ) (more : List (List ℕ)) (a d : CommandData) → bytes_eq kind own ≡ true → Some a ≡ Some d → words a ≡ own ∷ more → words d ≡ kind
+    ∷ more
 kinded kind own more a d e f is =
     ap words (sym (some_is a d f)) ∙ is ∙ ap (λ k. k ∷ more) (sym (bytes_same kind own e))
 

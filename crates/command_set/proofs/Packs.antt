@@ -1,5 +1,6 @@
 -- The packed bytes of a voice, filled field by field, and those of 32 voices.
-use Rattle.std.proofs.Common.{◌≡◌, ◌≢◌, ℕ, zero, suc, ◌+◌, ◌-◌, ◌*◌, ◌^◌, ◌<◌, ◌≤◌, List, [], ◌∷◌, ◌++◌, map, length, get_or, set, take, drop, refl, ap, sym, ◌∙◌, subst, arith, inl, inr, length-set, get_or-set_same, get_or-set_other, length-append}
+use Rattle.std.proofs.Common.{◌≡◌, ◌≢◌, ℕ, zero, suc, ◌+◌, ◌-◌, ◌*◌, ◌^◌, ◌<◌, ◌≤◌, List, [], ◌∷◌, ◌++◌, map, length, get_or, set, take, drop, refl}
+use Rattle.std.proofs.Common.{ap, sym, ◌∙◌, subst, arith, inl, inr, length-set, get_or-set_same, get_or-set_other, length-append}
 use Rattle.std.specs.List.{sum, range_with_len, flat_map}
 use Rattle.std.proofs.lemmas.Bool.{eq-eqb, ne_eqb, cases_eq, cases_lt}
 use Rattle.std.proofs.lemmas.List.{ext_get_or, get_or_past}
@@ -47,10 +48,12 @@ grown voice n l =
     let there : (row_of n).byte < length (partly voice n) = rw count (place.byte) in
     ext_get_or 0 _ _ (length-set _ _ _ ∙ count ∙ sym (partly_count voice (n + 1)))
     (λ byte below.
-    let small : byte < 128 = (rw (length-set (partly voice n) (row_of n).byte (get_or (partly voice n) (row_of n).byte 0 + get_or voice n 0 * 2 ^ (row_of n).shift), count) at below) in
+    let small : byte < 128 = (rw (length-set (partly voice n) (row_of n).byte
+        (get_or (partly voice n) (row_of n).byte 0 + get_or voice n 0 * 2 ^ (row_of n).shift), count) at below) in
     let next = partly_at voice (n + 1) byte small ∙ filled_next voice n byte in
     elim (cases_eq (row_of n).byte byte) [
-      | inl e ↦ subst (λ b. get_or (set (partly voice n) (row_of n).byte (get_or (partly voice n) (row_of n).byte 0 + get_or voice n 0 * 2 ^ (row_of n).shift)) b 0 ≡ get_or (partly voice (n + 1)) b 0) e
+      | inl e ↦ subst (λ b. get_or (set (partly voice n) (row_of n).byte (get_or (partly voice n) (row_of n).byte 0 + get_or voice n 0 * 2 ^ (row_of n).shift))
+          b 0 ≡ get_or (partly voice (n + 1)) b 0) e
           (get_or-set_same (partly voice n) (row_of n).byte _ 0 there
           ∙ ap (λ x. x + get_or voice n 0 * 2 ^ (row_of n).shift) (partly_at voice n (row_of n).byte place.byte)
           ∙ ap (λ x. filled_byte voice n (row_of n).byte + x) (sym (share_here voice n (row_of n).byte refl))

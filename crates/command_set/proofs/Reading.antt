@@ -1,5 +1,6 @@
 -- The command that some words write, and that each text has one.
-use Rattle.std.proofs.Common.{◌≡◌, ℕ, ◌^◌, ◌<◌, ◌≤◌, List, [], ◌∷◌, Option, Some, None, Result, Ok, Err, false, refl, ap, sym, ◌∙◌, subst, arith, if◌then◌else◌}
+use Rattle.std.proofs.Common.{◌≡◌, ℕ, ◌^◌, ◌<◌, ◌≤◌, List, [], ◌∷◌, Option, Some, None, Result, Ok, Err, false, refl, ap, sym, ◌∙◌, subst, arith}
+use Rattle.std.proofs.Common.{if◌then◌else◌}
 use Rattle.std.specs.Prelude.{codes, decimal, bytes_eq}
 use Rattle.std.specs.List.{flat_map, join_with_byte}
 use Rattle.std.proofs.lemmas.List.Splits.{join_with_byte-slice_split}
@@ -13,7 +14,8 @@ use Rattle.cartridge.proofs.Voices.{voices_are}
 use Rattle.plain_text.specs.Number.{number}
 use Rattle.plain_text.specs.Split.{split}
 use Rattle.plain_text.proofs.Numbers.{reads_decimal}
-use Rattle.command_set.specs.Command.{CommandData, StartsNote, EndsNote, Bends, Controls, PicksProgram, SetsParameter, StoresVoice, LoadsVoice, LoadsCartridge, IsInRange}
+use Rattle.command_set.specs.Command.{CommandData, StartsNote, EndsNote, Bends, Controls, PicksProgram, SetsParameter, StoresVoice, LoadsVoice}
+use Rattle.command_set.specs.Command.{LoadsCartridge, IsInRange}
 use Rattle.command_set.specs.Text.{text, packed}
 use Rattle.command_set.specs.Unique.{TextsAreUnique}
 use Rattle.command_set.specs.Words.{words, AreWordsOf, AreWordsOfNone, store_of, two_bytes_of, two_of, three_bytes_of, three_of}
@@ -71,7 +73,8 @@ cartridge_words word = refl
 own_voice : (voice : List ℕ) → IsVoice voice → one_of (codes "voice") (encode_lower voice) ≡ Some (LoadsVoice voice)
 own_voice voice v = voice_words (encode_lower voice) ∙ ap (bytes_of LoadsVoice) (decode_of-encode_lower voice (voice_bytes voice v))
 
-own_cartridge : (voices : List (List ℕ)) → IsCartridge voices → one_of (codes "cartridge") (encode_lower (flat_map packed voices)) ≡ Some (LoadsCartridge voices)
+own_cartridge : (voices : List (List ℕ)) → IsCartridge voices → one_of (codes "cartridge") (encode_lower (flat_map packed voices)) ≡ Some
+    (LoadsCartridge voices)
 own_cartridge voices h =
     cartridge_words (encode_lower (flat_map packed voices))
     ∙ ap (bytes_of (λ bytes. LoadsCartridge (voices_of bytes))) (decode_of-encode_lower (flat_map packed voices) (cartridge_bytes voices h))

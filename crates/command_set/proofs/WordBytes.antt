@@ -30,7 +30,8 @@ digits_from_48 = refl
 
 digit_whole : (code k : ℕ) → code < 48 → k < 16 → (get_or lower_digits k 0 == code) ≡ false
 digit_whole code k low l =
-    let from : 48 ≤ get_or lower_digits k 0 = leb-true 48 (get_or lower_digits k 0) (every_at (λ k. nat_le 48 (get_or lower_digits k 0)) 16 digits_from_48 k l) in
+    let from : 48 ≤ get_or lower_digits k 0 = leb-true 48 (get_or lower_digits k 0) (every_at (λ k. nat_le 48 (get_or lower_digits k 0)) 16 digits_from_48 k l)
+        in
     ne_eqb (get_or lower_digits k 0) code (λ e. absurd (omega (arith, from, e)))
 
 pub hex_whole : (code : ℕ) (bytes : List ℕ) → code < 48 → IsBytes bytes → HasNo code (encode_lower bytes)
@@ -38,8 +39,10 @@ unfolding encode_with
 hex_whole code [] low h = All-nil (λ byte. (byte == code) ≡ false)
 hex_whole code (byte ∷ bytes) low h =
     let fits : byte < 256 = h 0 in
-    All-cons (λ byte. (byte == code) ≡ false) (get_or lower_digits (byte / 16) 0) (get_or lower_digits (byte % 16) 0 ∷ encode_lower bytes) (digit_whole code (byte / 16) low (omega arith))
-    (All-cons (λ byte. (byte == code) ≡ false) (get_or lower_digits (byte % 16) 0) (encode_lower bytes) (digit_whole code (byte % 16) low (omega arith)) (hex_whole code bytes low (λ k. h (suc k))))
+    All-cons (λ byte. (byte == code) ≡ false) (get_or lower_digits (byte / 16) 0) (get_or lower_digits (byte % 16) 0
+        ∷ encode_lower bytes) (digit_whole code (byte / 16) low (omega arith))
+    (All-cons (λ byte. (byte == code) ≡ false) (get_or lower_digits (byte % 16) 0) (encode_lower bytes) (digit_whole code (byte % 16) low (omega arith))
+        (hex_whole code bytes low (λ k. h (suc k))))
 
 not_true : (t : Bool) → not t ≡ true → t ≡ false
 not_true true e = absurd (cc)

@@ -13,7 +13,8 @@ use Rattle.voice_record.proofs.Voices.{greatest_small}
 use Rattle.cartridge.specs.Cartridge.{IsCartridge}
 use Rattle.cartridge.proofs.Voices.{all_data}
 use Rattle.plain_text.specs.Split.{split, spaced}
-use Rattle.command_set.specs.Command.{CommandData, StartsNote, EndsNote, Bends, Controls, PicksProgram, SetsParameter, StoresVoice, LoadsVoice, LoadsCartridge, IsKnownControl, IsInRange}
+use Rattle.command_set.specs.Command.{CommandData, StartsNote, EndsNote, Bends, Controls, PicksProgram, SetsParameter, StoresVoice, LoadsVoice}
+use Rattle.command_set.specs.Command.{LoadsCartridge, IsKnownControl, IsInRange}
 use Rattle.command_set.specs.Text.{text, packed}
 use Rattle.command_set.specs.Words.{words}
 use Rattle.command_set.proofs.Packs.{packs_all}
@@ -38,7 +39,8 @@ pub cartridge_bytes : (voices : List (List ℕ)) → IsCartridge voices → IsBy
 cartridge_bytes voices h i =
     let all = packs_all voices h in
     elim (cases_lt i 4096) [
-      | inl below ↦ (let seven : get_or (flat_map packed voices) i 0 < 128 = all_data voices (flat_map packed voices) all i (rw (all.size) below) in omega arith)
+      | inl below ↦ (let seven : get_or (flat_map packed voices) i 0 < 128 = all_data voices (flat_map packed voices) all i (rw (all.size) below) in
+          omega arith)
       | inr past ↦ (let none : get_or (flat_map packed voices) i 0 ≡ 0 = get_or_past (flat_map packed voices) i 0 (rw (all.size) past) in omega arith)
     ]
 
@@ -67,7 +69,8 @@ known_small number (inr (inr a)) = omega arith
 pub parts_text : (command : CommandData) → IsInRange command → split 32 (text command) ≡ words command
 unfolding text every
 parts_text (StartsNote channel key velocity) (a, b, low, high) =
-    parts_spaced _ _ (codes_whole 32 (codes "on") refl) (three_whole _ _ _ (number_whole channel (omega arith)) (number_whole key (omega arith)) (number_whole velocity (omega arith)))
+    parts_spaced _ _ (codes_whole 32 (codes "on") refl) (three_whole _ _ _ (number_whole channel (omega arith)) (number_whole key (omega arith))
+        (number_whole velocity (omega arith)))
 parts_text (EndsNote channel key) (a, b) =
     parts_spaced _ _ (codes_whole 32 (codes "off") refl) (two_whole _ _ (number_whole channel (omega arith)) (number_whole key (omega arith)))
 parts_text (Bends channel value) (a, b) =

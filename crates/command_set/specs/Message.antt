@@ -4,11 +4,9 @@ use Rattle.std.specs.List.{range_with_len}
 use Rattle.voice_record.specs.Voice.{greatest_value}
 use Rattle.cartridge.specs.Cartridge.{voices_of}
 use Rattle.sysex_frame.specs.Frame.{Content, VoiceDump, CartridgeDump, ParamChange, OtherChange, DumpRequest}
-use Rattle.sysex_frame.specs.FrameFault.{first_fault}
-use Rattle.sysex_frame.specs.Reading.{reading}
+use Rattle.sysex_frame.specs.FrameFault.{first_fault, is_foreign}
+use Rattle.sysex_frame.specs.ParsedFrame.{reading}
 use Rattle.sysex_frame.specs.declared.frame.FrameFault.{FrameFault}
-use Rattle.sysex_frame.specs.declared.frame.FrameFault.TheVariants.{NotFramed, NotYamaha, DataByte, Short, UnknownSubstatus}
-use Rattle.sysex_frame.specs.declared.frame.FrameFault.TheVariants.{UnknownFormat, CountBytes, Length, Checksum, ParamValue}
 use Rattle.midi_stream.specs.declared.message.MidiMessage.{MidiMessage}
 use Rattle.midi_stream.specs.declared.message.MidiMessage.TheVariants.{NoteOff, NoteOn, KeyPressure, Control, Program, ChannelPressure}
 use Rattle.midi_stream.specs.declared.message.MidiMessage.TheVariants.{Bend, SysEx, SysExTooLong}
@@ -18,7 +16,8 @@ use Rattle.command_set.specs.Command.{CommandData, StartsNote, EndsNote, Bends, 
 use Rattle.command_set.specs.declared.message.CommandFault.{CommandFault}
 use Rattle.command_set.specs.declared.message.CommandFault.TheVariants as faults
 
--- the outcome of a message: a command; or nothing, it is passed over; or it is a SysEx one of more than 5000 bytes, by their count, or with this fault
+-- the outcome of a message: a command; or nothing, it is passed over; or it is a SysEx one of more than 5000 bytes, by their
+-- count, or with this fault
 pub data MessageOutcome : Type 0 where
   Yields : CommandData → MessageOutcome
   PassedOver : MessageOutcome
@@ -49,18 +48,9 @@ IsSound (ParamChange device number value) = (number ≤ 155) × (value ≤ great
 IsSound (OtherChange device group number) = Unit {0}
 IsSound (DumpRequest device) = Unit {0}
 
--- a message of another manufacturer, or of a kind that the DX7 doesn't know, is passed over
+-- a message that is none of the DX7's is passed over, and every other fault refuses it
 abbrev pub fault_outcome : FrameFault → MessageOutcome
-fault_outcome NotFramed = Faulty NotFramed
-fault_outcome NotYamaha = PassedOver
-fault_outcome (DataByte place) = Faulty (DataByte place)
-fault_outcome (Short length) = Faulty (Short length)
-fault_outcome (UnknownSubstatus found) = PassedOver
-fault_outcome (UnknownFormat found) = PassedOver
-fault_outcome (CountBytes high low) = Faulty (CountBytes high low)
-fault_outcome (Length found wanted) = Faulty (Length found wanted)
-fault_outcome (Checksum found wanted) = Faulty (Checksum found wanted)
-fault_outcome (ParamValue number value) = Faulty (ParamValue number value)
+fault_outcome fault = if is_foreign fault then PassedOver else Faulty fault
 
 -- the outcome of SysEx bytes by their first fault, and by what they hold where they have none
 abbrev pub frame_outcome : Option FrameFault → Content → MessageOutcome

@@ -63,10 +63,12 @@ impl Command {
             Command::Param { number, value } => *number <= 155 && *value <= greatest(*number),
             Command::Store { slot } => *slot <= 31,
             Command::Voice(voice) => {
+                // For its contract alone: every voice is in range.
                 let _ = voice.get(0);
                 true
             }
             Command::Cartridge(cartridge) => {
+                // For its contract alone: every cartridge is in range.
                 let _ = cartridge.payload();
                 true
             }

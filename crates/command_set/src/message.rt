@@ -5,7 +5,7 @@ ghost use Rattle.midi_stream.specs.Ranges.{InRange};
 ghost use Rattle.velocity_map.specs.Map.{curve_of};
 ghost use Rattle.sysex_frame.specs.Frame.{content_of};
 ghost use Rattle.sysex_frame.specs.FrameFault.{first_fault};
-ghost use Rattle.sysex_frame.specs.Reading.{reading};
+ghost use Rattle.sysex_frame.specs.ParsedFrame.{reading};
 ghost use Rattle.cartridge.specs.Cartridge.{IsCartridge, voices_of};
 ghost use Rattle.command_set.specs.Command.{Controls, IsInRange, LoadsCartridge, LoadsVoice, content};
 ghost use Rattle.command_set.specs.Message.{IsRefusal, IsSound, PassedOver, Yields, acts, answer_outcome, clamped_voice, command_of, content_outcome};
@@ -125,17 +125,10 @@ fn from_fault(fault: FrameFault) -> Result<Option<Command>, CommandFault>
     ensures none { IfOk result (λ found. IsNone found) }
     ensures memory { result ≢ Err Memory }
 {
-    match fault {
-        FrameFault::NotYamaha
-        | FrameFault::UnknownSubstatus { .. }
-        | FrameFault::UnknownFormat { .. } => Ok(None),
-        FrameFault::NotFramed
-        | FrameFault::DataByte { .. }
-        | FrameFault::Short { .. }
-        | FrameFault::CountBytes { .. }
-        | FrameFault::Length { .. }
-        | FrameFault::Checksum { .. }
-        | FrameFault::ParamValue { .. } => Err(CommandFault::Frame(fault)),
+    if fault.is_foreign() {
+        Ok(None)
+    } else {
+        Err(CommandFault::Frame(fault))
     }
 }
 

@@ -1,4 +1,4 @@
--- The history that kept changes stand for, after an act and after a step.
+-- The history that kept changes stand for, after an act and after a revision.
 use Rattle.std.proofs.Common.{◌≡◌, ◌≢◌, ℕ, zero, suc, ◌<◌, List, [], ◌∷◌, length, take, drop, set, get_or, Some, None, Result, Ok, Err, OnErr, refl, ap, arith}
 use Rattle.std.specs.Prelude.{slice_get}
 use Rattle.std.proofs.lemmas.Bool.{ne_eqb}
@@ -9,7 +9,7 @@ use Rattle.command_set.specs.VoiceAfter.{Turns}
 use Rattle.editor.specs.declared.change.Change.{Change}
 use Rattle.editor.specs.declared.change.Change.TheVariants.{Parameter, Whole}
 use Rattle.editor.specs.Changes.{left_by, other_voice, kind_of, command_of, history_of}
-use Rattle.editor.specs.History.{History, left, acted, answer, step, IsWholeNext, WholeVoice}
+use Rattle.editor.specs.History.{History, left, acted, answer, revision, IsWholeNext, WholeVoice}
 
 -- the latest changes stand for the latest voices
 left_by-take : (voice : List ℕ) (n : ℕ) (cs : List Change) → left_by voice (take n cs) ≡ take n (left_by voice cs)
@@ -37,23 +37,24 @@ turns_by voice (Parameter s) = record {
 }
 turns_by voice (Whole boxed) = record { edit = tt; voice = refl }
 
-pub no_first : (voice : List ℕ) (from to : List Change) → None ≡ slice_get from 0 → step voice (left_by voice from) (left_by voice to) ≡ None
+pub no_first : (voice : List ℕ) (from to : List Change) → None ≡ slice_get from 0 → revision voice (left_by voice from) (left_by voice to) ≡ None
 no_first voice [] to e = refl
 no_first voice (c ∷ cs) to e = cc
 
--- a step makes the latest change of the one list, and keeps the one that leads back in the other
+-- a revision makes the latest change of the one list, and keeps the one that leads back in the other
 pub stepped_by :
     (voice new : List ℕ) (from from' to to' : List Change) (x y : Change) (command : CommandData)
     → Some x ≡ slice_get from 0 → new ≡ other_voice voice x → answer (kind_of x) new ≡ command → other_voice new y ≡ voice → kind_of y ≡ kind_of x
     → from' ≡ drop 1 from → to' ≡ y ∷ to
-    → step voice (left_by voice from) (left_by voice to) ≡ Some (record { voice = new; from = left_by new from'; to = left_by new to'; command = command })
+    → revision voice (left_by voice from) (left_by voice to) ≡ Some (record { voice = new; from = left_by new from'; to = left_by new to'; command = command })
 stepped_by voice new [] from' to to' x y command s n a o k f t = cc
 stepped_by voice new (c ∷ cs) from' to to' x y command s n a o k f t =
     let xc : x ≡ c = cc in
     rw (t, f, ← a, o, k, n, xc) refl
 
 -- where a first change's command wants memory, the change is of a whole voice
-pub whole_first : (voice : List ℕ) (cs : List Change) (boxed : Change) → Some boxed ≡ slice_get cs 0 → kind_of boxed ≡ WholeVoice → IsWholeNext (left_by voice cs)
+pub whole_first : (voice : List ℕ) (cs : List Change) (boxed : Change) → Some boxed ≡ slice_get cs 0 → kind_of boxed ≡ WholeVoice
+    → IsWholeNext (left_by voice cs)
 whole_first voice [] boxed e k = cc
 whole_first voice (c ∷ cs) boxed e k = let same : boxed ≡ c = cc in rw (← same) k
 

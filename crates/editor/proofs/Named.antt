@@ -1,5 +1,6 @@
 -- A voice with another name.
-use Rattle.std.proofs.Common.{◌≡◌, ℕ, ◌+◌, ◌-◌, ◌<◌, ◌≤◌, true, false, Bool, List, [], ◌++◌, length, take, drop, cond, get_or, Some, None, refl, arith, nat_le, inl, inr}
+use Rattle.std.proofs.Common.{◌≡◌, ℕ, ◌+◌, ◌-◌, ◌<◌, ◌≤◌, true, false, Bool, List, [], ◌++◌, length, take, drop, cond, get_or, Some, None, refl, arith, nat_le}
+use Rattle.std.proofs.Common.{inl, inr}
 use Rattle.std.specs.Prelude.{nat_lt, not}
 use Rattle.std.specs.List.{position_or_len}
 use Rattle.std.proofs.lemmas.Bool.{leb-true, ltb-false, cases_lt}
@@ -34,7 +35,8 @@ none_high name k e l =
     let passes : not (nat_lt 127 (get_or name k 0)) ≡ true = prefix_len_passes (λ byte. not (nat_lt 127 byte)) name k 0 (omega arith) in
     ltb-false _ _ (not_true _ passes)
 
-named_within : (voice name : List ℕ) (n : ℕ) → IsVoice voice → length name ≡ 10 → first_high name ≡ None → n < 155 → get_or (take 145 voice ++ name) n 0 ≤ greatest_value n
+named_within : (voice name : List ℕ) (n : ℕ) → IsVoice voice → length name ≡ 10 → first_high name ≡ None → n < 155
+    → get_or (take 145 voice ++ name) n 0 ≤ greatest_value n
 named_within voice name n v ten low l =
     let prefix : length (take 145 voice) ≡ 145 = length-take-le 145 voice (omega (arith, v.count)) in
     elim (cases_lt n 145) [

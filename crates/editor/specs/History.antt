@@ -40,25 +40,25 @@ abbrev pub answer : Kind → List ℕ → CommandData
 answer (OneParameter number) voice = SetsParameter number (slice_index voice number)
 answer WholeVoice voice = LoadsVoice voice
 
--- a step from one list to the other: the voice, the two lists, and the command that is answered
-pub record Step : Type 0 where
+-- a revision from one list to the other: the voice, the two lists, and the command that is answered
+pub record Revision : Type 0 where
   pub voice : List ℕ
   pub from : List Left
   pub to : List Left
   pub command : CommandData
 
 -- the latest voice of the one list is the voice again, and the present one is the latest of the other list, with the same kind
-abbrev pub step : List ℕ → List Left → List Left → Option Step
-step voice [] to = None
-step voice (l ∷ from) to = Some (record { voice = l.voice; from = from; to = left voice l.kind ∷ to; command = answer l.kind l.voice })
+abbrev pub revision : List ℕ → List Left → List Left → Option Revision
+revision voice [] to = None
+revision voice (l ∷ from) to = Some (record { voice = l.voice; from = from; to = left voice l.kind ∷ to; command = answer l.kind l.voice })
 
 -- an undo and its command, where there is something in the past
 abbrev pub undone : History → Option (History × CommandData)
-undone h = option_map (λ s. (record h { voice = s.voice; past = s.from; future = s.to }, s.command)) (step h.voice h.past h.future)
+undone h = option_map (λ s. (record h { voice = s.voice; past = s.from; future = s.to }, s.command)) (revision h.voice h.past h.future)
 
 -- a redo and its command, where there is something in the future: the same with the lists exchanged
 abbrev pub redone : History → Option (History × CommandData)
-redone h = option_map (λ s. (record h { voice = s.voice; past = s.to; future = s.from }, s.command)) (step h.voice h.future h.past)
+redone h = option_map (λ s. (record h { voice = s.voice; past = s.to; future = s.from }, s.command)) (revision h.voice h.future h.past)
 
 -- the latest is the voice before a rename or a load
 abbrev pub IsWholeNext : List Left → Type 0

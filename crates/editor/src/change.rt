@@ -60,6 +60,7 @@ impl Change {
                 value: *value,
             }),
             Change::Whole(voice) => {
+                // For its contract alone: a voice is in range, and so is the command that loads it.
                 let _ = voice.get(0);
                 Ok(Command::Voice(Box::new(alloc, **voice)?))
             }

@@ -1,4 +1,4 @@
-//! The editor.
+//! The editor: a voice with its kept changes, and the command that each act, undo and redo answers.
 
 ghost use Rattle.std.specs.Prelude.{◌≡◌, ◌≤◌, ◌↔◌, ℕ, [], IsOk, None, IfOk, IfErr, OnOk, OnErr, IfSome, Some, ◌⊎◌, slice_set, ◌<◌};
 ghost use Rattle.voice_record.specs.Voice.{greatest_value};
@@ -9,12 +9,12 @@ ghost use Rattle.editor.specs.Names.{first_high, renamed};
 
 use crate::change::{Change, Setting};
 use crate::fault::EditFault;
-use crate::step::{Changes, keep, turn};
+use crate::revise::{Changes, keep, revise};
 use circular_buffer::HeapCircularBuffer;
 use command_set::Command;
 use std::alloc::{AllocError, Global};
 use std::marker::Model;
-use voice_record::Voice;
+use voice_record::{Voice, parameter};
 
 /// A voice that is edited, seen as its editing history: the voice, and what undo and redo come back to.
 #[derive(Drop)]
@@ -50,7 +50,7 @@ fn with_name(voice: &Voice, name: &[u8; 10]) -> Voice
     ensures { result ≡ renamed voice.now name.now }
 {
     let mut fields = voice.bytes();
-    fields[145..].copy_from_slice(name);
+    fields[parameter::NAME as usize..].copy_from_slice(name);
     Voice::from_bytes(&fields)
 }
 
@@ -123,6 +123,7 @@ impl Editor {
         ensures range { IfOk result (λ command. IsInRange (content command)) }
         ensures kept { OnErr result (self.new ≡ self.old) }
     {
+        // For its contract alone: a voice is in range, and so is the command that loads it.
         let _ = voice.get(0);
         let command = Command::Voice(Box::new(alloc, *voice)?);
         let old = Box::new(alloc, self.voice)?;
@@ -140,7 +141,7 @@ impl Editor {
         ensures refused { IfErr result (λ fault. (fault ≡ EditFault.NothingToUndo) ⊎ ((fault ≡ EditFault.Memory) × IsWholeNext self.old.past)) }
         ensures kept { OnErr result (self.new ≡ self.old) }
     {
-        match turn(alloc, &mut self.voice, &mut self.past, &mut self.future)? {
+        match revise(alloc, &mut self.voice, &mut self.past, &mut self.future)? {
             Some(command) => Ok(command),
             None => Err(EditFault::NothingToUndo),
         }
@@ -155,7 +156,7 @@ impl Editor {
         ensures refused { IfErr result (λ fault. (fault ≡ EditFault.NothingToRedo) ⊎ ((fault ≡ EditFault.Memory) × IsWholeNext self.old.future)) }
         ensures kept { OnErr result (self.new ≡ self.old) }
     {
-        match turn(alloc, &mut self.voice, &mut self.future, &mut self.past)? {
+        match revise(alloc, &mut self.voice, &mut self.future, &mut self.past)? {
             Some(command) => Ok(command),
             None => Err(EditFault::NothingToRedo),
         }

@@ -5,7 +5,7 @@
 mod change;
 mod editor;
 mod fault;
-mod step;
+mod revise;
 
 pub use editor::Editor;
 pub use fault::EditFault;

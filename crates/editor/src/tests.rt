@@ -1,4 +1,4 @@
-//! Worked lists of acts, and long random ones against a plain program that keeps whole voices.
+//! Worked lists of acts, and long random ones against a reference program that keeps whole voices.
 
 ghost use Rattle.std.specs.Prelude.{◌≤◌, ◌<◌};
 
@@ -49,9 +49,9 @@ fn ask(alloc: Global, editor: &mut Editor, call: &Call) -> Answer {
 /// A voice that was left, and the number that was changed then, where it was one.
 type Left = (Voice, Option<u8>);
 
-/// The plain program: each voice that was left, whole, the oldest first.
+/// The reference program: each voice that was left, whole, the oldest first.
 #[derive(Drop)]
-struct Plain {
+struct Reference {
     depth: usize,
     voice: Voice,
     past: Vec<Left>,
@@ -65,7 +65,7 @@ fn expected(voice: &Voice, kind: Option<u8>) -> Answer {
     }
 }
 
-impl Plain {
+impl Reference {
     fn act(&mut self, voice: Voice, kind: Option<u8>) -> Result<Answer, AllocError> {
         self.past.push((self.voice, kind))?;
         if self.past.len() > self.depth {
@@ -247,7 +247,7 @@ fn random_acts(rt: HostRuntime) -> Result<(), Fail> {
         let mut state = depth as u64;
         let voice = draw_voice(&mut state);
         let mut editor = Editor::new(rt.alloc(), &voice, depth)?;
-        let mut plain = Plain {
+        let mut reference = Reference {
             depth,
             voice,
             past: Vec::new(rt.alloc()),
@@ -257,10 +257,10 @@ fn random_acts(rt: HostRuntime) -> Result<(), Fail> {
         for act in 0..2000u32 {
             let call = draw_call(&mut state);
             let answer = ask(rt.alloc(), &mut editor, &call);
-            assert_eq!(rt; answer, plain.ask(&call)?, "act {act}");
+            assert_eq!(rt; answer, reference.ask(&call)?, "act {act}");
             follower = follow(follower, &answer);
-            assert_eq!(rt; *editor.voice(), plain.voice, "act {act}");
-            assert_eq!(rt; follower, plain.voice, "act {act}");
+            assert_eq!(rt; *editor.voice(), reference.voice, "act {act}");
+            assert_eq!(rt; follower, reference.voice, "act {act}");
         }
     }
     Ok(())

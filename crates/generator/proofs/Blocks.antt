@@ -1,5 +1,6 @@
 -- A block of the four scripts, script after script.
-use Rattle.std.proofs.Common.{◌≡◌, ◌≢◌, ℕ, zero, suc, ◌+◌, ◌-◌, ◌*◌, ◌<◌, ◌≤◌, List, [], ◌∷◌, ◌++◌, length, get_or, set, map, refl, sym, ◌∙◌, ap, subst, arith, inl, inr, length-append}
+use Rattle.std.proofs.Common.{◌≡◌, ◌≢◌, ℕ, zero, suc, ◌+◌, ◌-◌, ◌*◌, ◌<◌, ◌≤◌, List, [], ◌∷◌, ◌++◌, length, get_or, set, map, refl, sym, ◌∙◌, ap, subst, arith}
+use Rattle.std.proofs.Common.{inl, inr, length-append}
 use Rattle.std.specs.Prelude.{◌⊎◌}
 use Rattle.std.specs.List.{range_with_len}
 use Rattle.std.proofs.lemmas.Bool.{cases_eq, cases_lt}
@@ -21,7 +22,8 @@ use Rattle.generator.proofs.DueBlocks.{due_of, due_run, none_before}
 abbrev count_of : GeneratedScript → ℕ
 count_of s = s.count
 
-generated_most : (n : ℕ) (scripts : List GeneratedScript) → ((j : ℕ) (e : GeneratedScript) → j < length scripts → (get_or scripts j e).count ≤ n) → generated_of scripts ≤ length scripts * n
+generated_most : (n : ℕ) (scripts : List GeneratedScript) → ((j : ℕ) (e : GeneratedScript) → j < length scripts → (get_or scripts j e).count ≤ n)
+    → generated_of scripts ≤ length scripts * n
 generated_most n [] few = omega arith
 generated_most n (s ∷ ss) few =
     let rest : generated_of ss ≤ length ss * n = generated_most n ss (λ j e below. few (suc j) e (omega (arith, below))) in
@@ -37,7 +39,8 @@ generated_room n (s ∷ ss) zero d below few =
     let here : s.count ≤ n = few 0 s (omega arith) in
     omega (arith, rest, here, sum_by-cons count_of s ss)
 generated_room n (s ∷ ss) (suc k) d below few =
-    let rest : generated_of ss + (n - (get_or ss k d).count) ≤ length ss * n = generated_room n ss k d (omega (arith, below)) (λ j e below. few (suc j) e (omega (arith, below))) in
+    let rest : generated_of ss + (n - (get_or ss k d).count) ≤ length ss * n =
+    generated_room n ss k d (omega (arith, below)) (λ j e below. few (suc j) e (omega (arith, below))) in
     let here : s.count ≤ n = few 0 s (omega arith) in
     omega (arith, rest, here, sum_by-cons count_of s ss)
 
@@ -55,12 +58,14 @@ changed P scripts k j script e below here there = by_place P scripts k j script 
 
 -- a script's turn
 
-pub few_of : {seed n b k : ℕ} {scripts : List GeneratedScript} {w : Core} → IsInBlock seed n b k scripts w → (j : ℕ) (e : GeneratedScript) → j < 4 → (j < k) ⊎ (k ≤ j)
+pub few_of : {seed n b k : ℕ} {scripts : List GeneratedScript} {w : Core} → IsInBlock seed n b k scripts w → (j : ℕ) (e : GeneratedScript) → j < 4 → (j < k)
+    ⊎ (k ≤ j)
     → (get_or scripts j e).count ≤ n
 few_of h j e below (inl inside) = (h.past j e inside).count
 few_of h j e below (inr behind) = (h.next j e behind below).count
 
-pub all_few : {seed n b k : ℕ} {scripts : List GeneratedScript} {w : Core} → IsInBlock seed n b k scripts w → (j : ℕ) (e : GeneratedScript) → j < 4 → (get_or scripts j e).count ≤ n
+pub all_few : {seed n b k : ℕ} {scripts : List GeneratedScript} {w : Core} → IsInBlock seed n b k scripts w → (j : ℕ) (e : GeneratedScript) → j < 4
+    → (get_or scripts j e).count ≤ n
 all_few {k} h j e below = few_of h j e below (cases_lt j k)
 
 pub may_send : (seed n b k : ℕ) (scripts : List GeneratedScript) (e : GeneratedScript) (w : Core) → n ≤ 25000 → k < 4
@@ -78,7 +83,8 @@ may_send seed n b k scripts e w small below h =
     }
 
 pub next_script : (seed n b k : ℕ) (scripts : List GeneratedScript) (e script : GeneratedScript) (old new : Core) → k < 4
-    → (h : IsInBlock seed n b k scripts old) → HasSentTo old k (script_seed seed k) n (get_or scripts k e).count script new → AreBefore (script_seed seed k) n (b + 1) script.count
+    → (h : IsInBlock seed n b k scripts old) → HasSentTo old k (script_seed seed k) n (get_or scripts k e).count script new
+    → AreBefore (script_seed seed k) n (b + 1) script.count
     → (get_or scripts k e).count ≤ script.count → IsInBlock seed n b (k + 1) (set scripts k script) new
 next_script seed n b k scripts before script old new below h g last up =
     let d : Core = new in
@@ -141,7 +147,8 @@ first_block seed n scripts w four is none generated =
     })
 
 -- what is logged when the line is settled
-pub settled_is : (seed n b : ℕ) (scripts : List GeneratedScript) (w : Core) → IsInBlock seed n b 4 scripts w → (step w Settle).journal ≡ journal_below seed n (b + 1)
+pub settled_is : (seed n b : ℕ) (scripts : List GeneratedScript) (w : Core) → IsInBlock seed n b 4 scripts w
+    → (step w Settle).journal ≡ journal_below seed n (b + 1)
 settled_is seed n b scripts w h =
     ap (λ (prefix : List LoggedData). prefix ++ map (logged_at w.blocks) w.waiting) h.journal
     ∙ ap (λ (now : ℕ). journal_below seed n b ++ map (logged_at now) w.waiting) h.blocks

@@ -5,7 +5,7 @@ use Rattle.std.proofs.lemmas.Bool.{lt-ltb, le-ltb, cond-true, cond-false}
 use Rattle.voice_record.specs.Voice.{greatest_value}
 use Rattle.command_set.specs.Command.{StartsNote, EndsNote, SetsParameter}
 use Rattle.generator.specs.Lcg.{next, state, below, number_at}
-use Rattle.generator.specs.Generated.{kind, command_at, numbers_at, place, due}
+use Rattle.generator.specs.Generated.{kind, command_at, numbers_at, numbers_before, due}
 
 next_state : (seed k : ℕ) → state seed (k + 1) ≡ next (state seed k)
 unfolding state
@@ -15,8 +15,8 @@ next_state seed k = rw add-one refl
 state_on : (seed k j x y : ℕ) → x ≡ state seed k → k + 1 ≡ j → y ≡ next x → y ≡ state seed j
 state_on seed k j x y at up is = is ∙ ap next at ∙ sym (next_state seed k) ∙ ap (state seed) up
 
-pub begins : (seed x later : ℕ) → x ≡ next seed → later ≡ below 8 x → (x ≡ state seed (place seed 0 + 1)) × (later ≡ due seed 0)
-unfolding state place due
+pub begins : (seed x later : ℕ) → x ≡ next seed → later ≡ below 8 x → (x ≡ state seed (numbers_before seed 0 + 1)) × (later ≡ due seed 0)
+unfolding state numbers_before due
 begins seed x later is value = (is, value ∙ ap (below 8) is)
 
 -- a note
@@ -81,17 +81,19 @@ algorithm_fits number low = omega (arith, low)
 
 -- the command after it
 
-place_more : (seed i : ℕ) → place seed (i + 1) ≡ place seed i + numbers_at seed (place seed i)
-unfolding place
-place_more seed i = rw add-one refl
+numbers_before_more : (seed i : ℕ) → numbers_before seed (i + 1) ≡ numbers_before seed i + numbers_at seed (numbers_before seed i)
+unfolding numbers_before
+numbers_before_more seed i = rw add-one refl
 
-pub due_more : (seed i : ℕ) → due seed (i + 1) ≡ due seed i + number_at seed (place seed (i + 1) + 1) 8
+pub due_more : (seed i : ℕ) → due seed (i + 1) ≡ due seed i + number_at seed (numbers_before seed (i + 1) + 1) 8
 unfolding due
 due_more seed i = rw add-one refl
 
-pub goes_on : (seed i x y before later : ℕ) → x ≡ state seed (place seed i + numbers_at seed (place seed i)) → y ≡ next x → later ≡ below 8 y → before ≡ due seed i
-    → (y ≡ state seed (place seed (i + 1) + 1)) × (before + later ≡ due seed (i + 1))
+pub goes_on : (seed i x y before later : ℕ) → x ≡ state seed (numbers_before seed i + numbers_at seed (numbers_before seed i)) → y ≡ next x → later ≡ below 8 y
+    → before ≡ due seed i
+    → (y ≡ state seed (numbers_before seed (i + 1) + 1)) × (before + later ≡ due seed (i + 1))
 goes_on seed i x y before later at is value was =
-    let here : y ≡ state seed (place seed (i + 1) + 1) =
-    state_on seed (place seed i + numbers_at seed (place seed i)) (place seed (i + 1) + 1) x y at (omega (arith, place_more seed i)) is in
+    let here : y ≡ state seed (numbers_before seed (i + 1) + 1) =
+    state_on seed (numbers_before seed i + numbers_at seed (numbers_before seed i)) (numbers_before seed (i + 1) + 1) x y at
+    (omega (arith, numbers_before_more seed i)) is in
     (here, omega (arith, was, due_more seed i, value, ap (below 8) here))

@@ -19,12 +19,14 @@ abbrev grown : Core → ℕ → ℕ → ℕ → Core
 grown c number seed i = queued c (next_entry c number (due seed i) (command seed i))
 
 send_is : (c : Core) (number seed i : ℕ) → length c.waiting < c.places → after_send c number seed i ≡ grown c number seed i
-send_is c number seed i room = cond-true (nat_lt (length c.waiting) c.places) (grown c number seed i) (refused c number) (lt-ltb (length c.waiting) c.places room)
+send_is c number seed i room = cond-true (nat_lt (length c.waiting) c.places) (grown c number seed i) (refused c number)
+    (lt-ltb (length c.waiting) c.places room)
 
 own_grows : (c : Core) (number seed i : ℕ) → number < length c.scripts → length (accepted_of (grown c number seed i) number) ≡ length (accepted_of c number) + 1
 own_grows c number seed i made =
     let e : EntryData = next_entry c number (due seed i) (command seed i) in
-    ap length (accepted_queued c e number made ∙ cond-true (number == number) (accepted_of c number ++ e ∷ []) (accepted_of c number) (eq-eqb number number refl))
+    ap length (accepted_queued c e number made ∙ cond-true (number == number) (accepted_of c number ++ e
+    ∷ []) (accepted_of c number) (eq-eqb number number refl))
     ∙ length_push (accepted_of c number) e
 
 others_stay : (c : Core) (number seed i k : ℕ) → number < length c.scripts → k ≢ number → accepted_of (grown c number seed i) k ≡ accepted_of c k
@@ -49,7 +51,8 @@ pub one_sent : (c d : Core) (number seed from i : ℕ) → from ≤ i → number
     → IsSent c number seed from (i + 1) (after_send d number seed i)
 one_sent c d number seed from i up made room h =
     let e : EntryData = next_entry d number (due seed i) (command seed i) in
-    let same : e ≡ entry seed number i = ap (λ (n : ℕ). let x : EntryData = record { script = number; seq = n; sent_at = due seed i; command = command seed i } in x) h.own in
+    let same : e ≡ entry seed number i = ap (λ (n : ℕ). let x : EntryData =
+    record { script = number; seq = n; sent_at = due seed i; command = command seed i } in x) h.own in
     let is : after_send d number seed i ≡ grown d number seed i = send_is d number seed i room in
     let long : i + 1 - from ≡ i - from + 1 = omega (arith, up) in
     subst (λ (x : Core). IsSent c number seed from (i + 1) x) (sym is) (record {

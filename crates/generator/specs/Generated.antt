@@ -3,6 +3,7 @@ use Rattle.std.specs.Prelude.{ℕ, zero, suc, ◌+◌, ◌*◌, ◌/◌, ◌%◌
 use Rattle.std.specs.Prelude.{pos, ◌+ℤ◌, fold, codes, decimal}
 use Rattle.std.specs.List.{range_with_len, flat_map}
 use Rattle.plain_text.specs.Split.{spaced}
+use Rattle.voice_record.specs.declared.parameter.TheConstants.{ALGORITHM}
 use Rattle.command_set.specs.Command.{CommandData, StartsNote, EndsNote, SetsParameter}
 use Rattle.command_set.specs.Entries.{EntryData, LoggedData}
 use Rattle.command_set.specs.Text.{text}
@@ -16,32 +17,32 @@ script_seed seed script = (seed + 1000003 * script) % 2 ^ 64
 
 -- After so many numbers a command begins: the first says how many blocks pass, the second which of eight kinds it is.
 abbrev pub kind : ℕ → ℕ → ℕ
-kind seed place = number_at seed (place + 2) 8
+kind seed index = number_at seed (index + 2) 8
 
 -- that command with the numbers that are generated for it: four kinds of eight are notes, three are releases, and one sets the algorithm
 unfoldable pub command_at : ℕ → ℕ → CommandData
-command_at seed place =
-    if nat_lt (kind seed place) 4 then StartsNote 0 (36 + number_at seed (place + 3) 60) (1 + number_at seed (place + 4) 127)
-    else if nat_lt (kind seed place) 7 then EndsNote 0 (36 + number_at seed (place + 3) 60)
-    else SetsParameter 134 (number_at seed (place + 3) 32)
+command_at seed index =
+    if nat_lt (kind seed index) 4 then StartsNote 0 (36 + number_at seed (index + 3) 60) (1 + number_at seed (index + 4) 127)
+    else if nat_lt (kind seed index) 7 then EndsNote 0 (36 + number_at seed (index + 3) 60)
+    else SetsParameter ALGORITHM (number_at seed (index + 3) 32)
 
 -- how many numbers it needs
 unfoldable pub numbers_at : ℕ → ℕ → ℕ
-numbers_at seed place = if nat_lt (kind seed place) 4 then 4 else 3
+numbers_at seed index = if nat_lt (kind seed index) 4 then 4 else 3
 
 -- how many numbers stand before command i
-unfoldable pub place : ℕ → ℕ → ℕ
-place seed zero = 0
-place seed (suc i) = place seed i + numbers_at seed (place seed i)
+unfoldable pub numbers_before : ℕ → ℕ → ℕ
+numbers_before seed zero = 0
+numbers_before seed (suc i) = numbers_before seed i + numbers_at seed (numbers_before seed i)
 
 -- command i, from 0 on
 abbrev pub command : ℕ → ℕ → CommandData
-command seed i = command_at seed (place seed i)
+command seed i = command_at seed (numbers_before seed i)
 
 -- the block at which command i is due: up to 7 blocks after the one before
 unfoldable pub due : ℕ → ℕ → ℕ
 due seed zero = number_at seed 1 8
-due seed (suc i) = due seed i + number_at seed (place seed (suc i) + 1) 8
+due seed (suc i) = due seed i + number_at seed (numbers_before seed (suc i) + 1) 8
 
 -- the line `BLOCK TEXT` of command i
 abbrev pub line : ℕ → ℕ → List ℕ

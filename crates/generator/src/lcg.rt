@@ -5,7 +5,7 @@ ghost use Rattle.std.specs.Prelude.{◌≡◌, ◌+◌, ◌*◌, ◌%◌, ◌^�
 /// A linear congruential generator of 64 bits.
 #[derive(Clone, Copy)]
 pub(crate) struct Lcg {
-    pub state: u64,
+    pub(crate) state: u64,
 }
 
 impl Lcg {
@@ -14,7 +14,7 @@ impl Lcg {
 
     /// The generator of a script, by the seed of all and the script's number.
     #[tactic(auto, unfolding(crate::specs::Generated::script_seed))]
-    pub fn of_script(seed: u64, script: u32) -> Lcg
+    pub(crate) fn of_script(seed: u64, script: u32) -> Lcg
         ensures { result.state ≡ script_seed seed script }
     {
         Lcg {
@@ -24,7 +24,7 @@ impl Lcg {
 
     /// The next number below another.
     #[tactic(auto, unfolding(crate::specs::Lcg::below, crate::specs::Lcg::next))]
-    pub fn next_below(&mut self, bound: u8) -> u8
+    pub(crate) fn next_below(&mut self, bound: u8) -> u8
         requires { 0 < bound }
         ensures state { self.new.state ≡ next self.old.state }
         ensures value { result ≡ below bound self.new.state }

@@ -7,13 +7,14 @@ ghost use Rattle.generator.specs.Generated.{command, command_at, numbers_at, scr
 
 use crate::lcg::Lcg;
 use command_set::Command;
+use voice_record::parameter::ALGORITHM;
 
 /// A script whose commands are generated one after the other: how many were generated, and the block at which the next one is due.
 #[derive(Clone, Copy)]
 pub(crate) struct GeneratedScript {
-    pub lcg: Lcg,
-    pub count: u32,
-    pub due: u32,
+    pub(crate) lcg: Lcg,
+    pub(crate) count: u32,
+    pub(crate) due: u32,
     ghost early: { due ≤ 7 * (count + 1) },
 }
 
@@ -21,7 +22,7 @@ impl GeneratedScript {
     ghost use Rattle.generator.specs.Scripts.{IsGenerated};
 
     /// A script before its first command.
-    pub fn new(seed: u64, script: u32) -> GeneratedScript
+    pub(crate) fn new(seed: u64, script: u32) -> GeneratedScript
         ensures none { result.count ≡ 0 }
         ensures generated { IsGenerated (script_seed seed script) result }
     {
@@ -31,7 +32,7 @@ impl GeneratedScript {
     }
 
     /// Generates the next command, and the block at which the one after it is due.
-    pub fn next_command(&mut self) -> Command
+    pub(crate) fn next_command(&mut self) -> Command
         requires { self.old.count < 1000000 }
         ensures count { self.new.count ≡ self.old.count + 1 }
         ensures range { IsInRange (content result) }
@@ -59,8 +60,8 @@ const FIRST_ALGORITHM: u8 = 7;
 /// Generates a command's kind and its numbers.
 fn generate_command(lcg: &mut Lcg) -> Command
     ensures range { IsInRange (content result) }
-    ensures command { (seed place : ℕ) → lcg.old.state ≡ state seed (place + 1) → content result ≡ command_at seed place }
-    ensures state { (seed place : ℕ) → lcg.old.state ≡ state seed (place + 1) → lcg.new.state ≡ state seed (place + numbers_at seed place) }
+    ensures command { (seed index : ℕ) → lcg.old.state ≡ state seed (index + 1) → content result ≡ command_at seed index }
+    ensures state { (seed index : ℕ) → lcg.old.state ≡ state seed (index + 1) → lcg.new.state ≡ state seed (index + numbers_at seed index) }
 {
     let kind = lcg.next_below(8);
     if kind < FIRST_RELEASE {
@@ -80,7 +81,7 @@ fn generate_command(lcg: &mut Lcg) -> Command
     } else {
         let algorithm = lcg.next_below(32);
         Command::Param {
-            number: 134,
+            number: ALGORITHM,
             value: algorithm,
         }
     }

@@ -56,7 +56,7 @@ fn send_due(
     Ok(())
 }
 
-/// Sends the next command of a script. The line has a place for it.
+/// Sends the next command of a script. The line has room for it.
 fn send_next(
     alloc: Global,
     world: &mut World,

@@ -1,4 +1,4 @@
-//! Scripts beside a plain program, and numbers that other programs gave.
+//! Scripts beside a reference program, and numbers that other programs gave.
 
 ghost use Rattle.std.specs.Prelude.{◌<◌};
 
@@ -18,7 +18,7 @@ fn next_below(state: &mut u64, bound: u64) -> u64
 }
 
 /// The text of a script.
-fn plain_script(
+fn reference_script(
     alloc: Global,
     seed: u64,
     script: u32,
@@ -72,8 +72,8 @@ fn texts(rt: HostRuntime) -> Result<(), Fail> {
     }
     for script in 0..4u32 {
         let text = script_text(alloc, 1, script, 5000)?;
-        let plain = plain_script(alloc, 1, script, 5000)?;
-        assert!(rt; text.as_slice() == plain.as_bytes(), "script {script}");
+        let reference = reference_script(alloc, 1, script, 5000)?;
+        assert!(rt; text.as_slice() == reference.as_bytes(), "script {script}");
     }
     Ok(())
 }

@@ -36,7 +36,7 @@ pub fn script_text(
     Ok(text)
 }
 
-/// Writes the line of a command that is due at a block, with its line feed, in the place of the text.
+/// Writes the line of a command that is due at a block, with its line feed, in place of the text there.
 fn write_line(due: u32, command: &Command, into: &mut LineText)
     requires { IsInRange (content command.now) }
     ensures { into.new.items ≡ spaced (decimal due) (text (content command.now) ∷ []) ++ 10 ∷ [] }

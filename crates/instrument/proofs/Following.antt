@@ -3,12 +3,13 @@ use Rattle.std.proofs.Common.{ℕ, ◌≡◌, List, [], ◌∷◌, true, false, 
 use Rattle.std.specs.Prelude.{◌==◌, Bool}
 use Rattle.command_set.specs.Command.{CommandData, StartsNote, EndsNote, Bends, Controls, PicksProgram, SetsParameter, StoresVoice, LoadsVoice, LoadsCartridge}
 use Rattle.command_set.specs.VoiceAfter.{voice_after, IsEdit, TurnsAll}
-use Rattle.instrument.specs.State.{State, apply}
+use Rattle.instrument.specs.State.{State, apply, passed}
 use Rattle.instrument.specs.Journal.{applied}
 
-numbered_voice : (b : Bool) (s : State) (value : ℕ) (voice : List ℕ) → (cond b (record s { switch = value }) (record s { voice = voice })).voice ≡ cond b s.voice voice
-numbered_voice true s value voice = refl
-numbered_voice false s value voice = refl
+with_parameter_voice : (b : Bool) (s : State) (value : ℕ) (voice : List ℕ)
+    → (cond b (record s { switch = value }) (record s { voice = voice })).voice ≡ cond b s.voice voice
+with_parameter_voice true s value voice = refl
+with_parameter_voice false s value voice = refl
 
 -- what a command that edits does to the voice of an instrument
 pub apply_voice : (s : State) (c : CommandData) → IsEdit c → (apply s c).voice ≡ voice_after s.voice c
@@ -18,7 +19,7 @@ apply_voice s (EndsNote channel key) e = absurd e
 apply_voice s (Bends channel value) e = absurd e
 apply_voice s (Controls channel number value) e = absurd e
 apply_voice s (PicksProgram channel number) e = absurd e
-apply_voice s (SetsParameter number value) e = numbered_voice (number == 155) s value _
+apply_voice s (SetsParameter number value) e = with_parameter_voice (number == 155) s value _
 apply_voice s (StoresVoice slot) e = absurd e
 apply_voice s (LoadsVoice voice) e = refl
 apply_voice s (LoadsCartridge voices) e = absurd e
@@ -29,3 +30,8 @@ applied_voice s [] new h = h
 applied_voice s (c ∷ cs) new h =
     let here : (apply s c).voice ≡ h.0 = apply_voice s c h.1.0.edit ∙ h.1.0.voice in
     applied_voice (apply s c) cs new (rw here h.1.1)
+
+-- a block leaves the voice
+pub passed_voice : (s : State) → (passed s).voice ≡ s.voice
+unfolding passed
+passed_voice s = refl

@@ -1,5 +1,6 @@
 -- A journal that grows by entries at the present block: its entries, its commands by block, and the state that they lead to.
-use Rattle.std.proofs.Common.{◌≡◌, ℕ, zero, suc, ◌+◌, ◌-◌, ◌≤◌, ◌<◌, List, [], ◌∷◌, ◌++◌, length, get_or, map, refl, ◌∙◌, ap, arith, add-one, length-append, inl, inr}
+use Rattle.std.proofs.Common.{◌≡◌, ℕ, zero, suc, ◌+◌, ◌-◌, ◌≤◌, ◌<◌, List, [], ◌∷◌, ◌++◌, length, get_or, map, refl, ◌∙◌, ap, arith, add-one, length-append}
+use Rattle.std.proofs.Common.{inl, inr}
 use Rattle.std.specs.Prelude.{◌==◌, ◌⊎◌, Bool, true, false, filter, All}
 use Rattle.std.proofs.lemmas.Bool.{eq-eqb, ne_eqb, cases_lt}
 use Rattle.std.proofs.lemmas.List.{append-nil, map-append, get_or_append_left, get_or-append_right}
@@ -17,7 +18,8 @@ abbrev command_in : LoggedData → CommandData
 command_in l = l.entry.command
 
 pub commands_appended : (journal more : List LoggedData) (b : ℕ) → commands_at (journal ++ more) b ≡ commands_at journal b ++ commands_at more b
-commands_appended journal more b = ap (map command_in) (filter-append (is_at b) journal more) ∙ map-append command_in (filter (is_at b) journal) (filter (is_at b) more)
+commands_appended journal more b = ap (map command_in) (filter-append (is_at b) journal more)
+    ∙ map-append command_in (filter (is_at b) journal) (filter (is_at b) more)
 
 commands_here : (b : ℕ) (e : EntryData) → commands_at (logged_at b e ∷ []) b ≡ e.command ∷ []
 commands_here b e = let same : (b == b) ≡ true = eq-eqb b b refl in rw same refl
@@ -27,9 +29,11 @@ commands_elsewhere b c [] ne = refl
 commands_elsewhere b c (e ∷ es) ne = let other : (b == c) ≡ false = ne_eqb b c ne in rw other (commands_elsewhere b c es ne)
 
 -- what is logged at a block changes no other one
-pub commands_kept : (journal : List LoggedData) (es : List EntryData) (b c : ℕ) → (b ≡ c → ⊥) → commands_at (journal ++ map (logged_at b) es) c ≡ commands_at journal c
+pub commands_kept : (journal : List LoggedData) (es : List EntryData) (b c : ℕ) → (b ≡ c → ⊥)
+    → commands_at (journal ++ map (logged_at b) es) c ≡ commands_at journal c
 commands_kept journal es b c ne =
-    commands_appended journal (map (logged_at b) es) c ∙ ap (λ (cs : List CommandData). commands_at journal c ++ cs) (commands_elsewhere b c es ne) ∙ append-nil (commands_at journal c)
+    commands_appended journal (map (logged_at b) es) c ∙ ap (λ (cs : List CommandData). commands_at journal c ++ cs) (commands_elsewhere b c es ne)
+    ∙ append-nil (commands_at journal c)
 
 commands_pushed : (journal : List LoggedData) (b : ℕ) (e : EntryData) → commands_at (journal ++ logged_at b e ∷ []) b ≡ commands_at journal b ++ e.command ∷ []
 commands_pushed journal b e = commands_appended journal (logged_at b e ∷ []) b ∙ ap (λ (cs : List CommandData). commands_at journal b ++ cs) (commands_here b e)
@@ -96,25 +100,30 @@ IsPast present l = l.block ≤ present
 abbrev IsAt : ℕ → LoggedData → Type 0
 IsAt present l = l.block ≡ present
 
-past_more : (present : ℕ) (journal : List LoggedData) (es : List EntryData) → All (IsPast present) journal → All (IsPast present) (journal ++ map (logged_at present) es)
-past_more present journal es past = All-append (IsPast present) journal (map (logged_at present) es) past (All-map (IsPast present) (logged_at present) es (λ k d below. omega arith))
+past_more : (present : ℕ) (journal : List LoggedData) (es : List EntryData) → All (IsPast present) journal
+    → All (IsPast present) (journal ++ map (logged_at present) es)
+past_more present journal es past = All-append (IsPast present) journal (map (logged_at present) es) past
+    (All-map (IsPast present) (logged_at present) es (λ k d below. omega arith))
 
 order_by : (present : ℕ) (journal : List LoggedData) (es : List EntryData) (i j : ℕ) (d : LoggedData) → AreTakenUpTo present journal
     → i ≤ j → j < length (journal ++ map (logged_at present) es) → (j < length journal) ⊎ (length journal ≤ j)
     → (get_or (journal ++ map (logged_at present) es) i d).block ≤ (get_or (journal ++ map (logged_at present) es) j d).block
 order_by present journal es i j d h up below (inl inside) =
     let early : i < length journal = omega (arith, up, inside) in
-    rw (get_or_append_left journal (map (logged_at present) es) d i early, get_or_append_left journal (map (logged_at present) es) d j inside) (h.order i j d up inside)
+    rw (get_or_append_left journal (map (logged_at present) es) d i early, get_or_append_left journal (map (logged_at present) es) d j inside)
+    (h.order i j d up inside)
 order_by present journal es i j d h up below (inr after) =
     let at : get_or (journal ++ map (logged_at present) es) j d ≡ get_or (map (logged_at present) es) (j - length journal) d =
     get_or-append_right journal (map (logged_at present) es) (length journal) j d refl after in
     let inside : j - length journal < length (map (logged_at present) es) = omega (arith, length-append journal (map (logged_at present) es)) in
-    let last : (get_or (map (logged_at present) es) (j - length journal) d).block ≡ present = All-map (IsAt present) (logged_at present) es (λ k d below. refl) (j - length journal) d inside in
+    let last : (get_or (map (logged_at present) es) (j - length journal) d).block ≡ present =
+    All-map (IsAt present) (logged_at present) es (λ k d below. refl) (j - length journal) d inside in
     let same : (get_or (journal ++ map (logged_at present) es) j d).block ≡ present = ap (λ (l : LoggedData). l.block) at ∙ last in
     let low : (get_or (journal ++ map (logged_at present) es) i d).block ≤ present = past_more present journal es h.past i d (omega (arith, up, below)) in
     omega (arith, low, same)
 
-pub taken_up_to : (present : ℕ) (journal : List LoggedData) (es : List EntryData) → AreTakenUpTo present journal → AreTakenUpTo present (journal ++ map (logged_at present) es)
+pub taken_up_to : (present : ℕ) (journal : List LoggedData) (es : List EntryData) → AreTakenUpTo present journal
+    → AreTakenUpTo present (journal ++ map (logged_at present) es)
 taken_up_to present journal es h = record {
   order = λ i j d up below. order_by present journal es i j d h up below (cases_lt j (length journal));
   past = past_more present journal es h.past;

@@ -32,7 +32,8 @@ first_that_ends p k le =
     rw e (first_that_none p k)
 
 -- what the code sees of slot k of the round
-pub up_is : (vs : List Slot) (ws : ℕ → Option SlotData) (next next' k : ℕ) (d : Slot) (r : Bool) → next ≡ next' → AreSlots vs ws → ((w : Option SlotData) → IsSlot (get_or vs ((next + k) % 16) d) w → r ≡ is_up w) → is_up (ws (round_from next' k)) ≡ r
+pub up_is : (vs : List Slot) (ws : ℕ → Option SlotData) (next next' k : ℕ) (d : Slot) (r : Bool) → next ≡ next' → AreSlots vs ws
+    → ((w : Option SlotData) → IsSlot (get_or vs ((next + k) % 16) d) w → r ≡ is_up w) → is_up (ws (round_from next' k)) ≡ r
 up_is vs ws next next' k d r n h f =
     let lt : (next + k) % 16 < 16 = omega arith in
     rw (← n) (sym (f (ws ((next + k) % 16)) (h _ d lt)))

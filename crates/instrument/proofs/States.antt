@@ -12,7 +12,8 @@ use Rattle.instrument.specs.Running.{AreSlots}
 use Rattle.instrument.specs.State.{State, free_slot, fresh, occupied, apply}
 use Rattle.instrument.specs.declared.slot.Key.TheVariants.{Down}
 
-pub apply_free : (s : State) (channel key velocity f : ℕ) → free_slot s ≡ Some f → apply s (StartsNote channel key velocity) ≡ occupied s (fresh s channel key velocity) f
+pub apply_free : (s : State) (channel key velocity f : ℕ) → free_slot s ≡ Some f
+    → apply s (StartsNote channel key velocity) ≡ occupied s (fresh s channel key velocity) f
 unfolding apply
 apply_free s channel key velocity f e = rw e
 
@@ -21,14 +22,19 @@ unfolding apply
 apply_full s channel key velocity e = rw e
 
 -- a note of the voice whose key goes down
-pub fresh_slots : (vs : List Slot) (s : State) (voice : List ℕ) (switch channel key velocity f : ℕ) → voice ≡ s.voice → switch ≡ s.switch → AreSlots vs (λ i. cond (eqb i f) (Some (record { channel = channel; note = begun voice switch key velocity; key_state = Down })) (s.slots i)) → AreSlots vs (λ i. cond (eqb i f) (Some (fresh s channel key velocity)) (s.slots i))
+pub fresh_slots : (vs : List Slot) (s : State) (voice : List ℕ) (switch channel key velocity f : ℕ) → voice ≡ s.voice → switch ≡ s.switch
+    → AreSlots vs (λ i. cond (eqb i f) (Some (record { channel = channel; note = begun voice switch key velocity; key_state = Down })) (s.slots i))
+    → AreSlots vs (λ i. cond (eqb i f) (Some (fresh s channel key velocity)) (s.slots i))
 fresh_slots vs s voice switch channel key velocity f vo sw h =
-    let P : List ℕ → Type 0 = λ v. AreSlots vs (λ i. cond (eqb i f) (Some (record { channel = channel; note = begun v s.switch key velocity; key_state = Down })) (s.slots i)) in
-    let Q : ℕ → Type 0 = λ t. AreSlots vs (λ i. cond (eqb i f) (Some (record { channel = channel; note = begun voice t key velocity; key_state = Down })) (s.slots i)) in
+    let P : List ℕ → Type 0 = λ v. AreSlots vs (λ i. cond (eqb i f) (Some
+    (record { channel = channel; note = begun v s.switch key velocity; key_state = Down })) (s.slots i)) in
+    let Q : ℕ → Type 0 = λ t. AreSlots vs (λ i. cond (eqb i f) (Some (record { channel = channel; note = begun voice t key velocity; key_state = Down }))
+    (s.slots i)) in
     subst P vo (subst Q sw h)
 
 -- the LFO adopts the settings of the voice, and a key goes down
-pub pressed_is : (l : Lfo) (s : State) (voice : List ℕ) → voice ≡ s.voice → IsLfo l (key_pressed (assigned (lfo_settings voice) s.lfo s.steps) 0) 0 → IsLfo l (key_pressed (assigned (lfo_settings s.voice) s.lfo s.steps) 0) 0
+pub pressed_is : (l : Lfo) (s : State) (voice : List ℕ) → voice ≡ s.voice → IsLfo l (key_pressed (assigned (lfo_settings voice) s.lfo s.steps) 0) 0
+    → IsLfo l (key_pressed (assigned (lfo_settings s.voice) s.lfo s.steps) 0) 0
 pressed_is l s voice vo h = rw (← vo) h
 
 pub none_is : (o : Option ℕ) → ((x : ℕ) → o ≡ Some x → ⊥) → o ≡ None

@@ -18,7 +18,11 @@ add_zero_left z = omega (arith, ints)
 
 -- one sum after the other
 IsAdded-then : (y y' : ℕ → ℤ) (a b c : List ℤ) → IsAdded y a b → IsAdded y' b c → IsAdded (λ j. y j +ℤ y' j) a c
-IsAdded-then y y' a b c m n = record { len = n.len; sample = λ j lt. n.sample j lt ∙ ap (λ z. z +ℤ y' j) (m.sample j lt) ∙ add_assoc_z (get_or a j (pos 0)) (y j) (y' j) }
+IsAdded-then y y' a b c m n = record {
+  len = n.len;
+  sample = λ j lt. n.sample j lt ∙ ap (λ z. z +ℤ y' j) (m.sample j lt)
+      ∙ add_assoc_z (get_or a j (pos 0)) (y j) (y' j);
+}
 
 -- no slots add nothing
 pub none_added : (m : Modulation) (ws : ℕ → Option SlotData) (xs : List ℤ) → length xs ≡ 64 → IsAdded (mix_of m ws 0) xs xs
@@ -30,7 +34,8 @@ unfolding mix_of
 one_more m ws i j = rw add-one refl
 
 -- one slot more
-pub one_added : (m : Modulation) (ws : ℕ → Option SlotData) (i : ℕ) (a b c : List ℤ) → IsAdded (mix_of m ws i) a b → IsAdded (slot_sample m (ws i)) b c → IsAdded (mix_of m ws (i + 1)) a c
+pub one_added : (m : Modulation) (ws : ℕ → Option SlotData) (i : ℕ) (a b c : List ℤ) → IsAdded (mix_of m ws i) a b → IsAdded (slot_sample m (ws i)) b c
+    → IsAdded (mix_of m ws (i + 1)) a c
 one_added m ws i a b c h n = IsAdded-same _ _ _ _ (IsAdded-then _ _ _ _ _ h n) (λ j lt. one_more m ws i j)
 
 -- a sum is as small as it was

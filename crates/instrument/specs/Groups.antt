@@ -4,7 +4,7 @@ use Rattle.std.specs.Prelude.{List, length, slice_index_or, ℤ, pos, ◌+ℤ◌
 use Rattle.operator_kernel.specs.Operator.{feedback_state_of}
 use Rattle.algorithm_bus.specs.declared.note_block.NoteBlock.{NoteBlock}
 use Rattle.algorithm_bus.specs.Signals.{feedback_state_left, note_output}
-use Rattle.algorithm_bus.specs.NoteBlocks.{block_patch}
+use Rattle.algorithm_bus.specs.NoteBlocks.{block_input}
 use Rattle.note_voice.specs.Mix.{IsAdded}
 
 -- the sum of the first k of some samples j
@@ -22,28 +22,28 @@ is_done done i = slice_index_or done i false
 
 -- the blocks make these samples
 abbrev pub AreOutputs : List NoteBlock → (ℕ → ℕ → ℤ) → Type 0
-AreOutputs bs y = (i : ℕ) (d : NoteBlock) → i < 16 → (j : ℕ) → note_output (block_patch (slice_index_or bs i d)) j ≡ y i j
+AreOutputs bs y = (i : ℕ) (d : NoteBlock) → i < 16 → (j : ℕ) → note_output (block_input (slice_index_or bs i d)) j ≡ y i j
 
 -- what the blocks left are the last two samples of the operators with feedback
 abbrev pub AreLeft : List NoteBlock → List NoteBlock → Type 0
 AreLeft bs new = (i : ℕ) (d e : NoteBlock) → i < 16
-    → feedback_state_of (slice_index_or new i d).feedback_state ≡ feedback_state_left (block_patch (slice_index_or bs i e))
+    → feedback_state_of (slice_index_or new i d).feedback_state ≡ feedback_state_left (block_input (slice_index_or bs i e))
 
 -- of the blocks those were run that are marked, and the others are as before
 pub record AreMarked (done : List Bool) (bs new : List NoteBlock) : Type 0 where
   pub done_len : length done ≡ 16
   pub len : length new ≡ 16
   pub run : (i : ℕ) (d e : NoteBlock) → i < 16 → is_done done i ≡ true
-      → feedback_state_of (slice_index_or new i d).feedback_state ≡ feedback_state_left (block_patch (slice_index_or bs i e))
+      → feedback_state_of (slice_index_or new i d).feedback_state ≡ feedback_state_left (block_input (slice_index_or bs i e))
   pub same : (i : ℕ) (d e : NoteBlock) → i < 16 → is_done done i ≡ false
-      → block_patch (slice_index_or new i d) ≡ block_patch (slice_index_or bs i e)
+      → block_input (slice_index_or new i d) ≡ block_input (slice_index_or bs i e)
 
 -- the same, and the samples of those that were run were added to a sum
 pub record AreRun (done : List Bool) (bs new : List NoteBlock) (from mix : List ℤ) : Type 0 where
   pub marked : AreMarked done bs new
   pub added : (y : ℕ → ℕ → ℤ) → AreOutputs bs y → IsAdded (sum_where (is_done done) y 16) from mix
 
--- a slot from a place on that was not run and has this algorithm and feedback
+-- a slot from this one on that was not run and has this algorithm and feedback
 pub record IsAlike (blocks : List NoteBlock) (done : List Bool) (from algorithm feedback x : ℕ) : Type 0 where
   pub low : from ≤ x
   pub high : x < 16

@@ -6,3 +6,4 @@ pub mod Logging
 pub mod Running
 pub mod Instrument
 pub mod Limits
+pub mod EditorLaw

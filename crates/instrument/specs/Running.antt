@@ -2,10 +2,10 @@
 use Rattle.std.specs.Prelude.{ℕ, ◌≡◌, ◌<◌, Bool, false, List, length, slice_index_or, Option, Some, None, pos, unsigned_abs}
 use Rattle.algorithm_bus.specs.declared.note_block.NoteBlock.{NoteBlock}
 use Rattle.algorithm_bus.specs.Signals.{note_output}
-use Rattle.algorithm_bus.specs.NoteBlocks.{block_patch}
+use Rattle.algorithm_bus.specs.NoteBlocks.{block_input}
 use Rattle.note_voice.specs.declared.note.Note.{Note}
 use Rattle.note_voice.specs.Modulation.{Modulation}
-use Rattle.note_voice.specs.Note.{after_block, note_patch}
+use Rattle.note_voice.specs.Note.{after_block, note_input}
 use Rattle.note_voice.specs.Running.{IsNote, IsNoteBegun}
 use Rattle.instrument.specs.declared.modulation.BlockModulation.{BlockModulation}
 use Rattle.instrument.specs.declared.slot.Slot.{Slot}
@@ -39,13 +39,13 @@ pub record IsOccupiedBegun (channel key : ℕ) (note : Note) (key_state : Key) (
   pub channel_is : channel ≡ w.channel
   pub key_is : key ≡ w.note.key
   pub note_is : IsNoteBegun note (after_block w.note m)
-  pub block_is : block_patch b ≡ note_patch (after_block w.note m) (length w.note.past)
+  pub block_is : block_input b ≡ note_input (after_block w.note m) (length w.note.past)
   pub key_state_is : key_state ≡ w.key_state
 
 -- an empty slot, whose block has no sound
 pub record IsEmptyBegun (note : Note) (key_state : Key) (b : NoteBlock) : Type 0 where
   pub empty : IsEmpty note key_state
-  pub silent : (j : ℕ) → note_output (block_patch b) j ≡ pos 0
+  pub silent : (j : ℕ) → note_output (block_input b) j ≡ pos 0
 
 abbrev pub IsSlotBegun : Slot → NoteBlock → Modulation → Option SlotData → Type 0
 IsSlotBegun v b m None = IsEmptyBegun v.note v.key_state b

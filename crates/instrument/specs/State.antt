@@ -5,9 +5,11 @@ use Rattle.std.specs.Int.{int_shr, int_min, int_max}
 use Rattle.std.specs.List.{range_with_len}
 use Rattle.std.specs.Option.{option_map_or}
 use Rattle.voice_record.specs.Voice.{opening_voice}
+use Rattle.voice_record.specs.declared.parameter.TheConstants.{OPERATOR_SWITCH}
 use Rattle.cartridge.specs.Cartridge.{voice_at}
 use Rattle.command_set.specs.Command.{CommandData, StartsNote, EndsNote, Bends, Controls, PicksProgram}
 use Rattle.command_set.specs.Command.{SetsParameter, StoresVoice, LoadsVoice, LoadsCartridge}
+use Rattle.command_set.specs.declared.command.TheConstants.{MODULATION_WHEEL, HOLD_PEDAL, ALL_NOTES_OFF}
 use Rattle.block_rates.specs.Lfos.{LfoState, opening_lfo, lfo_settings, assigned, key_pressed, lfo_value, lfo_depth}
 use Rattle.note_voice.specs.Modulation.{Modulation}
 use Rattle.note_voice.specs.Note.{NoteData, begun, note_released, after_block, note_sample}
@@ -108,29 +110,29 @@ abbrev pub pedal_up : Option SlotData → Option SlotData
 pedal_up None = None
 pedal_up (Some w) = if is_held w.key_state then Some (released w) else Some w
 
--- a slot whose key was down or that the pedal held
-abbrev pub silenced : Option SlotData → Option SlotData
-silenced None = None
-silenced (Some w) = if is_down w.key_state || is_held w.key_state then Some (released w) else Some w
+-- a slot whose key was down or that the pedal held: it is released
+abbrev pub released_if_sounding : Option SlotData → Option SlotData
+released_if_sounding None = None
+released_if_sounding (Some w) = if is_down w.key_state || is_held w.key_state then Some (released w) else Some w
 
 -- the pedal, which is down from 64 on
 abbrev pub pedal : State → ℕ → State
 pedal s value = if nat_lt value 64 then record s { is_pedal_down = false; slots = λ i. pedal_up (s.slots i) } else record s { is_pedal_down = true }
 
--- modulation wheel (1), hold pedal (64), all notes off (123)
+-- the modulation wheel, the hold pedal, or all notes off; other controls do nothing
 abbrev pub controlled : State → ℕ → ℕ → State
 controlled s number value =
-    if number == 1 then record s { wheel = value }
-    else (if number == 64 then pedal s value
-    else (if number == 123 then record s { slots = λ i. silenced (s.slots i) } else s))
+    if number == MODULATION_WHEEL then record s { wheel = value }
+    else (if number == HOLD_PEDAL then pedal s value
+    else (if number == ALL_NOTES_OFF then record s { slots = λ i. released_if_sounding (s.slots i) } else s))
 
 -- another voice, with all operators on
 abbrev pub voiced : State → List ℕ → State
 voiced s voice = record s { voice = voice; switch = 63 }
 
--- a parameter of the voice, or the operator switch, which is number 155
-abbrev pub numbered : State → ℕ → ℕ → State
-numbered s number value = if number == 155 then record s { switch = value } else record s { voice = slice_set s.voice number value }
+-- a parameter of the voice, or the operator switch
+abbrev pub with_parameter : State → ℕ → ℕ → State
+with_parameter s number value = if number == OPERATOR_SWITCH then record s { switch = value } else record s { voice = slice_set s.voice number value }
 
 -- what a command does
 unfoldable pub apply : State → CommandData → State
@@ -139,7 +141,7 @@ apply s (EndsNote channel key) = record s { slots = λ i. key_up s.is_pedal_down
 apply s (Bends channel value) = record s { bend = value }
 apply s (Controls channel number value) = controlled s number value
 apply s (PicksProgram channel number) = voiced s (voice_at s.bank (number % 32))
-apply s (SetsParameter number value) = numbered s number value
+apply s (SetsParameter number value) = with_parameter s number value
 apply s (StoresVoice slot) = record s { bank = slice_set s.bank slot s.voice }
 apply s (LoadsVoice voice) = voiced s voice
 apply s (LoadsCartridge voices) = record s { bank = voices }

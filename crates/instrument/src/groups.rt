@@ -10,7 +10,7 @@ use algorithm_bus::NoteBlock;
 use dx_tables::Tables;
 use note_voice::{sound_alone, sound_eight, sound_four};
 
-/// The first slot from a place on that is audible, was not run, and has this algorithm and feedback.
+/// The first slot from this one on that is audible, was not run, and has this algorithm and feedback.
 fn next_alike(
     blocks: &[NoteBlock; 16],
     done: &[bool; 16],

@@ -9,13 +9,14 @@ ghost use Rattle.instrument.specs.State.{State, apply, controlled, free_slot, mo
 use crate::mix::{empty_mix, output};
 use crate::modulation::BlockModulation;
 use crate::slot::Slot;
-use crate::slots::{key_up_all, pedal_up_all, silence_all, sound_all, start_at};
+use crate::slots::{all_notes_off, key_up_all, pedal_up_all, sound_all, start_at};
 use block_rates::Lfo;
 use cartridge::Cartridge;
-use command_set::Command;
+use command_set::{ALL_NOTES_OFF, Command, HOLD_PEDAL, MODULATION_WHEEL};
 use dx_tables::{Engine, Tables};
 use std::alloc::{AllocError, Global};
 use voice_record::Voice;
+use voice_record::parameter::OPERATOR_SWITCH;
 
 /// Sixteen slots for notes, a voice and a cartridge of voices. Commands act between blocks of 64 samples at 44100 Hz.
 #[derive(Drop)]
@@ -80,8 +81,8 @@ impl Instrument {
                 number,
                 value,
             } => self.control(*number, *value),
-            Command::Program { channel: _, number } => self.pick(*number),
-            Command::Param { number, value } => self.set_number(*number, *value),
+            Command::Program { channel: _, number } => self.program_change(*number),
+            Command::Param { number, value } => self.set_parameter(*number, *value),
             Command::Store { slot } => self.store(*slot),
             Command::Voice(voice) => self.load_voice(voice),
             Command::Cartridge(cartridge) => self.load_cartridge(cartridge),
@@ -161,15 +162,15 @@ impl Instrument {
         self.bend = value;
     }
 
-    /// The modulation wheel (1), the hold pedal (64) or all notes off (123).
+    /// The modulation wheel, the hold pedal or all notes off; other controls do nothing.
     fn control(&mut self, number: u8, value: u8)
         requires { value ≤ 127 }
         ensures { (s : State) → IsIn self.old s → IsIn self.new (controlled s number value) }
     {
         match number {
-            1 => self.wheel = value,
-            64 => self.pedal(value),
-            123 => silence_all(&mut self.slots),
+            MODULATION_WHEEL => self.wheel = value,
+            HOLD_PEDAL => self.pedal(value),
+            ALL_NOTES_OFF => all_notes_off(&mut self.slots),
             _ => {}
         }
     }
@@ -187,7 +188,7 @@ impl Instrument {
     }
 
     /// Loads the voice of a slot of the cartridge, the number modulo 32, with all operators on.
-    fn pick(&mut self, number: u8)
+    fn program_change(&mut self, number: u8)
         ensures { (s : State) → IsIn self.old s → IsIn self.new (voiced s (voice_at s.bank (number % 32))) }
     {
         let voice = self.bank.voice(number % 32);
@@ -195,12 +196,12 @@ impl Instrument {
     }
 
     /// Sets a parameter of the voice, 0 to 154, or the operator switch, 155.
-    fn set_number(&mut self, number: u8, value: u8)
+    fn set_parameter(&mut self, number: u8, value: u8)
         requires number { number ≤ 155 }
         requires value { value ≤ greatest_value number }
         ensures { (s : State) → IsIn self.old s → IsIn self.new (apply s (SetsParameter number value)) }
     {
-        if number == 155 {
+        if number == OPERATOR_SWITCH {
             self.switch = value;
         } else {
             let _ = self.voice.set(number, value);

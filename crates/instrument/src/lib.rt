@@ -1,6 +1,7 @@
 //! The instrument: sixteen slots for notes, played block by block.
 #![tactic(auto)]
 
+mod editor_law;
 mod groups;
 mod instrument;
 mod mix;
@@ -12,9 +13,10 @@ mod slots;
 pub const BLOCK_LIMIT: u32 = 1_048_576;
 
 pub use dx_tables::Engine;
+pub use editor_law::follows_an_editor;
 pub use instrument::Instrument;
 
 #[cfg(test)]
-mod plain;
+mod reference;
 #[cfg(test)]
 mod tests;

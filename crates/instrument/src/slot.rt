@@ -1,13 +1,13 @@
-//! A slot: a place for one note, with the state of its key.
+//! A slot: room for one note, with the state of its key.
 
 ghost use Rattle.std.specs.Prelude.{◌≡◌, ◌≤◌, ◌+◌, ◌^◌, ℕ, Option, Some, None};
 ghost use Rattle.operator_kernel.specs.Operator.{feedback_state_of};
 ghost use Rattle.algorithm_bus.specs.declared.note_block.NoteBlock.{NoteBlock};
 ghost use Rattle.algorithm_bus.specs.Signals.{feedback_state_left};
-ghost use Rattle.algorithm_bus.specs.NoteBlocks.{block_patch};
+ghost use Rattle.algorithm_bus.specs.NoteBlocks.{block_input};
 ghost use Rattle.note_voice.specs.Modulation.{Modulation};
 ghost use Rattle.note_voice.specs.Note.{begun};
-ghost use Rattle.instrument.specs.State.{SlotData, held, is_down, is_held, is_up, key_up, released, silenced, slot_later, pedal_up};
+ghost use Rattle.instrument.specs.State.{SlotData, held, is_down, is_held, is_up, key_up, released, released_if_sounding, slot_later, pedal_up};
 ghost use Rattle.instrument.specs.declared.slot.Key.TheVariants.{Down};
 
 use crate::modulation::BlockModulation;
@@ -41,7 +41,7 @@ impl Key {
     }
 }
 
-/// A place for a note. A note keeps its slot after its key was released, until another note occupies it.
+/// Room for a note. A note keeps its slot after its key was released, until another note occupies it.
 #[derive(Clone, Copy)]
 pub(crate) struct Slot {
     channel: u8,
@@ -123,9 +123,9 @@ impl Slot {
         }
     }
 
-    /// All notes are released.
-    pub(crate) fn silence(&mut self)
-        ensures { (w : Option SlotData) → IsSlot self.old w → IsSlot self.new (silenced w) }
+    /// Releases the note where its key is down or the pedal holds it.
+    pub(crate) fn release_if_sounding(&mut self)
+        ensures { (w : Option SlotData) → IsSlot self.old w → IsSlot self.new (released_if_sounding w) }
     {
         if self.key_state.is_down() || self.key_state.is_held() {
             self.release();
@@ -145,10 +145,10 @@ impl Slot {
         )
     }
 
-    /// Ends a block that was run, with the two samples that it left.
+    /// Ends a block that was run, with the feedback state that it left.
     pub(crate) fn end_block(&mut self, feedback_state: [i32; 2])
         ensures { (b : NoteBlock) (m : Modulation) (w : Option SlotData) → IsSlotBegun self.old b m w
-            → feedback_state_of feedback_state ≡ feedback_state_left (block_patch b) → IsSlot self.new (slot_later m w) }
+            → feedback_state_of feedback_state ≡ feedback_state_left (block_input b) → IsSlot self.new (slot_later m w) }
     {
         self.note.end_block(feedback_state);
     }

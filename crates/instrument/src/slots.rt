@@ -8,7 +8,7 @@ ghost use Rattle.note_voice.specs.Mix.{IsAdded};
 ghost use Rattle.instrument.specs.Mix.{AreZeros};
 ghost use Rattle.instrument.specs.Running.{AreSlots, AreSlotsBegun, modulation_of};
 ghost use Rattle.instrument.specs.Groups.{AreLeft};
-ghost use Rattle.instrument.specs.State.{SlotData, key_up, mix_of, silenced, slot_later, pedal_up};
+ghost use Rattle.instrument.specs.State.{SlotData, key_up, mix_of, released_if_sounding, slot_later, pedal_up};
 ghost use Rattle.instrument.specs.declared.slot.Key.TheVariants.{Down};
 
 use crate::groups::run_all;
@@ -57,12 +57,12 @@ pub(crate) fn pedal_up_all(slots: &mut [Slot; 16])
     }
 }
 
-/// All notes are released.
-pub(crate) fn silence_all(slots: &mut [Slot; 16])
-    ensures { (ws : ℕ → Option SlotData) → AreSlots slots.old ws → AreSlots slots.new (λ i. silenced (ws i)) }
+/// All notes whose key is down or that the pedal holds are released; they sound on as their envelopes say.
+pub(crate) fn all_notes_off(slots: &mut [Slot; 16])
+    ensures { (ws : ℕ → Option SlotData) → AreSlots slots.old ws → AreSlots slots.new (λ i. released_if_sounding (ws i)) }
 {
     for i in 0..16usize {
-        slots[i].silence();
+        slots[i].release_if_sounding();
     }
 }
 

@@ -1,23 +1,25 @@
-//! The instrument beside a plain program.
+//! The instrument beside the reference program.
 
 ghost use Rattle.std.specs.Prelude.{◌≤◌};
 
 use super::*;
-use crate::plain::PlainInstrument;
+use crate::reference::ReferenceInstrument;
 use cartridge::Cartridge;
-use command_set::Command;
+use command_set::{ALL_NOTES_OFF, Command, HOLD_PEDAL, MODULATION_WHEEL};
 use dx_tables::Tables;
 use std::alloc::{AllocError, Global};
 use std::process::Abort;
 use std::test::Fail;
+use voice_record::operator_parameter::OUTPUT_LEVEL;
+use voice_record::parameter::{ALGORITHM, OPERATOR_FIELDS, OPERATOR_SWITCH, PITCH_RATES};
 use voice_record::{Voice, greatest};
 
-/// The instrument with the plain program beside it.
+/// The instrument with the reference program beside it.
 #[derive(Drop)]
 struct Pair {
     tables: Tables,
     instrument: Instrument,
-    plain: PlainInstrument,
+    reference: ReferenceInstrument,
 }
 
 impl Pair {
@@ -25,21 +27,21 @@ impl Pair {
         Ok(Pair {
             tables: Tables::new(alloc)?,
             instrument: Instrument::new(alloc, Engine::One)?,
-            plain: PlainInstrument::new(),
+            reference: ReferenceInstrument::new(),
         })
     }
 
     fn apply(&mut self, rt: &impl Abort, command: &Command) {
         assert!(rt; command.in_range());
         self.instrument.apply(command);
-        self.plain.apply(&self.tables, command);
+        self.reference.apply(&self.tables, command);
     }
 
     /// Renders a block with both.
     fn block(&mut self, rt: &impl Abort, block: u32) -> [i16; 64] {
         let mut out = [0i16; 64];
         self.instrument.block(&mut out);
-        let samples = self.plain.block(&self.tables);
+        let samples = self.reference.block(&self.tables);
         for j in 0..64usize {
             assert_eq!(rt; out[j], samples[j], "block {block} sample {j}");
         }
@@ -52,17 +54,17 @@ impl Pair {
         for slot in 0..32u8 {
             let voice = bank.voice(slot).bytes();
             assert!(rt;
-                voice == self.plain.bank[slot as usize],
+                voice == self.reference.bank[slot as usize],
                 "block {block} slot {slot}"
             );
         }
         assert!(rt;
-            self.instrument.voice().bytes() == self.plain.voice,
+            self.instrument.voice().bytes() == self.reference.voice,
             "block {block}"
         );
         assert_eq!(rt;
             self.instrument.switch(),
-            self.plain.switch,
+            self.reference.switch,
             "block {block}"
         );
     }
@@ -83,7 +85,7 @@ fn note_off(key: u8) -> Command {
 fn pedal(value: u8) -> Command {
     Command::Control {
         channel: 3,
-        number: 64,
+        number: HOLD_PEDAL,
         value,
     }
 }
@@ -117,15 +119,19 @@ fn a_seventeenth_note_waits_for_a_slot(rt: HostRuntime) -> Result<(), Fail> {
     }
     pair.block(&rt, 0);
     pair.apply(&rt, &note_on(56));
-    assert_eq!(rt; pair.plain.dropped, 1);
+    assert_eq!(rt; pair.reference.dropped, 1);
     pair.block(&rt, 1);
     pair.apply(&rt, &note_off(42));
     pair.apply(&rt, &note_on(90));
-    assert_eq!(rt; (pair.plain.dropped, pair.plain.last), (1, 2));
+    assert_eq!(rt; (pair.reference.dropped, pair.reference.last), (1, 2));
     for b in 2..20u32 {
         pair.block(&rt, b);
     }
-    assert!(rt; pair.plain.limited > 100, "limited {}", pair.plain.limited);
+    assert!(rt;
+        pair.reference.limited > 100,
+        "limited {}",
+        pair.reference.limited
+    );
     Ok(())
 }
 
@@ -167,7 +173,7 @@ fn a_program_is_taken_modulo_32(rt: HostRuntime) -> Result<(), Fail> {
     let mut pair = Pair::new(rt.alloc())?;
     for command in [
         Command::Param {
-            number: 134,
+            number: ALGORITHM,
             value: 31,
         },
         Command::Store { slot: 1 },
@@ -176,13 +182,13 @@ fn a_program_is_taken_modulo_32(rt: HostRuntime) -> Result<(), Fail> {
             number: 0,
         },
         Command::Param {
-            number: 155,
+            number: OPERATOR_SWITCH,
             value: 32,
         },
     ] {
         pair.apply(&rt, &command);
     }
-    assert_eq!(rt; pair.instrument.voice().get(134), 0);
+    assert_eq!(rt; pair.instrument.voice().get(ALGORITHM), 0);
     assert_eq!(rt; pair.instrument.switch(), 32);
     pair.apply(
         &rt,
@@ -191,17 +197,17 @@ fn a_program_is_taken_modulo_32(rt: HostRuntime) -> Result<(), Fail> {
             number: 33,
         },
     );
-    assert_eq!(rt; pair.instrument.voice().get(134), 31);
+    assert_eq!(rt; pair.instrument.voice().get(ALGORITHM), 31);
     assert_eq!(rt; pair.instrument.switch(), 63);
     pair.compare_voices(&rt, 0);
     Ok(())
 }
 
 /// A number below a bound, from one that looks random.
-fn pick(random: u32, place: u32, bound: u32) -> u8
+fn draw(random: u32, index: u32, bound: u32) -> u8
     requires { bound ≤ 256 }
 {
-    let mixed = random.wrapping_add(place).wrapping_mul(2_654_435_761);
+    let mixed = random.wrapping_add(index).wrapping_mul(2_654_435_761);
     ((mixed >> 8) % bound.max(1)) as u8
 }
 
@@ -212,7 +218,7 @@ fn voice_of(seed: u32) -> Voice {
     for i in 0..155usize {
         random = random.wrapping_mul(1_664_525).wrapping_add(1_013_904_223);
         numbers[i] = ((random >> 16) % (u32::from(greatest(i as u8)) + 1)) as u8;
-        if i < 126 && i % 21 == 16 {
+        if i < PITCH_RATES as usize && i % OPERATOR_FIELDS as usize == OUTPUT_LEVEL as usize {
             numbers[i] = 90 + numbers[i] % 10;
         }
     }
@@ -228,17 +234,17 @@ fn cartridge_of(alloc: Global, seed: u32) -> Result<Cartridge, AllocError> {
 }
 
 fn control_of(random: u32) -> Command {
-    let value = pick(random, 3, 128);
-    match pick(random, 4, 8) {
+    let value = draw(random, 3, 128);
+    match draw(random, 4, 8) {
         0..=2 => Command::Control {
             channel: 0,
-            number: 1,
+            number: MODULATION_WHEEL,
             value,
         },
         3..=6 => pedal(value),
         _ => Command::Control {
             channel: 1,
-            number: 123,
+            number: ALL_NOTES_OFF,
             value,
         },
     }
@@ -246,34 +252,34 @@ fn control_of(random: u32) -> Command {
 
 /// A command that looks random.
 fn command_of(alloc: Global, random: u32) -> Result<Command, AllocError> {
-    let channel = pick(random, 1, 2);
-    let key = 36 + pick(random, 2, 20) % 20;
-    Ok(match pick(random, 0, 100) {
+    let channel = draw(random, 1, 2);
+    let key = 36 + draw(random, 2, 20) % 20;
+    Ok(match draw(random, 0, 100) {
         0..=44 => Command::NoteOn {
             channel,
             key,
-            velocity: 127 - pick(random, 3, 100) % 100,
+            velocity: 127 - draw(random, 3, 100) % 100,
         },
         45..=74 => Command::NoteOff { channel, key },
         75..=78 => Command::Bend {
             channel,
-            value: u16::from(pick(random, 3, 128)) * 128,
+            value: u16::from(draw(random, 3, 128)) * 128,
         },
         79..=86 => control_of(random),
         87..=89 => Command::Program {
             channel,
-            number: pick(random, 3, 128),
+            number: draw(random, 3, 128),
         },
         90..=95 => {
-            let number = pick(random, 3, 156).min(155);
+            let number = draw(random, 3, 156).min(OPERATOR_SWITCH);
             let bound = u32::from(greatest(number)) + 1;
             Command::Param {
                 number,
-                value: pick(random, 4, bound),
+                value: draw(random, 4, bound),
             }
         }
         96 => Command::Store {
-            slot: pick(random, 3, 32),
+            slot: draw(random, 3, 32),
         },
         97 => Command::Cartridge(Box::new(alloc, cartridge_of(alloc, random)?)?),
         _ => Command::Voice(Box::new(alloc, voice_of(random))?),
@@ -281,7 +287,7 @@ fn command_of(alloc: Global, random: u32) -> Result<Command, AllocError> {
 }
 
 #[test]
-fn sounds_like_the_plain_program(rt: HostRuntime) -> Result<(), Fail> {
+fn sounds_like_the_reference(rt: HostRuntime) -> Result<(), Fail> {
     let mut pair = Pair::new(rt.alloc())?;
     let mut random = 1u32;
     let mut sounding = 0u32;
@@ -296,7 +302,11 @@ fn sounds_like_the_plain_program(rt: HostRuntime) -> Result<(), Fail> {
         pair.compare_voices(&rt, block);
     }
     assert!(rt; sounding > 500, "sounding {sounding}");
-    assert!(rt; pair.plain.dropped > 100, "dropped {}", pair.plain.dropped);
-    assert!(rt; pair.plain.held > 50, "held {}", pair.plain.held);
+    assert!(rt;
+        pair.reference.dropped > 100,
+        "dropped {}",
+        pair.reference.dropped
+    );
+    assert!(rt; pair.reference.held > 50, "held {}", pair.reference.held);
     Ok(())
 }

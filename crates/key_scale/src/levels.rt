@@ -31,7 +31,7 @@ fn rounded(weight: i32) -> i32
 
 /// What the level of an operator gains by a velocity.
 #[tactic(auto, unfolding(crate::specs::Levels::velocity_part))]
-pub fn velocity_gain(sensitivity: u8, velocity: u8) -> i32
+pub(crate) fn velocity_gain(sensitivity: u8, velocity: u8) -> i32
     requires sensitivity { sensitivity ≤ 7 }
     requires velocity { velocity ≤ 127 }
     ensures value { result ≡ velocity_part sensitivity velocity }
@@ -68,7 +68,7 @@ fn above_zero(level: i32, velocity: i32) -> i32
 
 /// The whole level of an operator.
 #[tactic(auto, unfolding(crate::specs::Levels::whole_level))]
-pub fn level_sum(setting: u8, scaling: i32, velocity: i32) -> i32
+pub(crate) fn level_sum(setting: u8, scaling: i32, velocity: i32) -> i32
     requires setting { setting ≤ 99 }
     requires scaling_low { neg_ℤ (pos 400) ≤ℤ scaling }
     requires scaling_high { scaling ≤ℤ pos 400 }

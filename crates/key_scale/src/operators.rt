@@ -4,14 +4,15 @@ ghost use Rattle.std.specs.Prelude.{◌≡◌, ◌≤◌, ◌^◌, pos, neg_ℤ,
 ghost use Rattle.key_scale.specs.Levels.{output_level, rate_scale_of};
 ghost use Rattle.key_scale.specs.Pitch.{pitch_of_operator};
 
-use crate::fields::{
-    COARSE, DETUNE, FINE, MODE, OUTPUT_LEVEL, RATE_SCALING, VELOCITY_SENSITIVITY, operator_setting,
-};
+use crate::fields::operator_setting;
 use crate::levels::{level_sum, velocity_gain};
 use crate::pitch;
 use crate::scaling::{level_scaling, rate_scaling};
 use dx_tables::Tables;
 use voice_record::Voice;
+use voice_record::operator_parameter::{
+    COARSE, DETUNE, FINE, MODE, OUTPUT_LEVEL, RATE_SCALING, VELOCITY_SENSITIVITY,
+};
 
 /// The output level of an operator, 1 to 6, at a note from -24 to 151 and a velocity from 1 to 127:
 /// its level setting with key scaling and velocity, in units of 1/256 octave of gain.

@@ -41,7 +41,7 @@ fn ratio(tables: &Tables, coarse_step: u8, fine_step: u8) -> i32
 
 /// A pitch by ratio.
 #[tactic(auto, unfolding(crate::specs::Pitch::ratio_pitch))]
-pub fn by_ratio(tables: &Tables, note: i32, coarse: u8, fine: u8, detune: u8) -> i32
+pub(crate) fn by_ratio(tables: &Tables, note: i32, coarse: u8, fine: u8, detune: u8) -> i32
     requires low { neg_ℤ (pos 24) ≤ℤ note }
     requires high { note ≤ℤ pos 151 }
     requires coarse { coarse ≤ 31 }
@@ -56,7 +56,7 @@ pub fn by_ratio(tables: &Tables, note: i32, coarse: u8, fine: u8, detune: u8) ->
 
 /// A fixed pitch.
 #[tactic(auto, unfolding(crate::specs::Pitch::fixed_pitch))]
-pub fn fixed(coarse: u8, fine: u8, detune: u8) -> i32
+pub(crate) fn fixed(coarse: u8, fine: u8, detune: u8) -> i32
     requires coarse { coarse ≤ 31 }
     requires fine { fine ≤ 99 }
     requires detune { detune ≤ 14 }

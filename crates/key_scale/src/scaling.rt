@@ -4,11 +4,12 @@ ghost use Rattle.std.specs.Prelude.{◌≡◌, ◌+◌, ◌-◌, ◌*◌, ◌/�
 ghost use Rattle.dx_tables.specs.Constants.{exponential_scaling};
 ghost use Rattle.key_scale.specs.Levels.{key_distance, key_group, curve_height, curve_value, key_scaling, rate_scale_by};
 
-use crate::fields::{
-    BREAK_POINT, LEFT_CURVE, LEFT_DEPTH, RIGHT_CURVE, RIGHT_DEPTH, operator_setting,
-};
+use crate::fields::operator_setting;
 use dx_tables::constants::exponential_scaling;
 use voice_record::Voice;
+use voice_record::operator_parameter::{
+    BREAK_POINT, LEFT_CURVE, LEFT_DEPTH, RIGHT_CURVE, RIGHT_DEPTH,
+};
 
 /// How many keys a note lies above a break point.
 fn distance(note: i32, point: u8) -> i32
@@ -80,7 +81,7 @@ fn curve(curve: u8, depth: u8, keys: u32) -> i32
 }
 
 /// What the level of an operator gains at a note.
-pub fn level_scaling(voice: &Voice, operator: u8, note: i32) -> i32
+pub(crate) fn level_scaling(voice: &Voice, operator: u8, note: i32) -> i32
     requires first { 1 ≤ operator }
     requires last { operator ≤ 6 }
     requires low { neg_ℤ (pos 24) ≤ℤ note }
@@ -102,7 +103,7 @@ pub fn level_scaling(voice: &Voice, operator: u8, note: i32) -> i32
 
 /// How much faster envelopes run at a note.
 #[tactic(auto, unfolding(crate::specs::Levels::rate_scale_by))]
-pub fn rate_scaling(sensitivity: u8, note: i32) -> i32
+pub(crate) fn rate_scaling(sensitivity: u8, note: i32) -> i32
     requires sensitivity { sensitivity ≤ 7 }
     requires high { note ≤ℤ pos 151 }
     ensures value { result ≡ pos (rate_scale_by sensitivity note) }

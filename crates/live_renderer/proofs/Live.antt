@@ -1,5 +1,6 @@
 -- A renderer that takes one entry more, or renders one block more.
-use Rattle.std.proofs.Common.{◌≡◌, ℕ, ◌+◌, ◌-◌, ◌≤◌, ◌<◌, List, [], ◌∷◌, ◌++◌, length, get_or, map, refl, sym, ◌∙◌, ap, subst, arith, append_assoc, append-nil, length-append, inl, inr}
+use Rattle.std.proofs.Common.{◌≡◌, ℕ, ◌+◌, ◌-◌, ◌≤◌, ◌<◌, List, [], ◌∷◌, ◌++◌, length, get_or, map, refl, sym, ◌∙◌, ap, subst, arith, append_assoc, append-nil}
+use Rattle.std.proofs.Common.{length-append, inl, inr}
 use Rattle.std.specs.Prelude.{All, ◌⊎◌}
 use Rattle.std.proofs.lemmas.Bool.{cases_lt}
 use Rattle.std.proofs.lemmas.List.{map-append, length-map, get_or_append_left, get_or-append_right}
@@ -18,8 +19,10 @@ use Rattle.live_renderer.specs.Renderer.{RendererView, new_renderer, rendered, I
 
 -- a renderer that took nothing
 
-pub live_none : (taker : TakeView) (journal : List LoggedData) (spare : ℕ) → taker.list ≡ [] → journal ≡ [] → IsLive (record { taker = taker; journal = journal; blocks = 0; spare = spare })
-live_none taker journal spare none empty = subst (λ (j : List LoggedData). IsLive (record { taker = taker; journal = j; blocks = 0; spare = spare })) (sym empty) (record {
+pub live_none : (taker : TakeView) (journal : List LoggedData) (spare : ℕ) → taker.list ≡ [] → journal ≡ []
+    → IsLive (record { taker = taker; journal = journal; blocks = 0; spare = spare })
+live_none taker journal spare none empty = subst (λ (j : List LoggedData).
+    IsLive (record { taker = taker; journal = j; blocks = 0; spare = spare })) (sym empty) (record {
   list = sym none;
   order = record { order = λ i j d up below. absurd (omega (arith, below)); past = All-nil (λ (l : LoggedData). l.block ≤ 0) };
   ranges = All-nil (λ (l : LoggedData). IsInRange l.entry.command);
@@ -40,19 +43,24 @@ live_push v x spare h script range = record {
   scripts = All-push (λ (l : LoggedData). l.entry.script < length v.taker.line.quotas) v.journal (logged_at v.blocks x) h.scripts script;
 }
 
-pub live_took : (v : RendererView) (taker : TakeView) (journal : List LoggedData) (spare : ℕ) (x : EntryData) → IsLive v → taker ≡ took v.taker x → journal ≡ v.journal ++ logged_at v.blocks x ∷ []
+pub live_took : (v : RendererView) (taker : TakeView) (journal : List LoggedData) (spare : ℕ) (x : EntryData) → IsLive v → taker ≡ took v.taker x
+    → journal ≡ v.journal ++ logged_at v.blocks x ∷ []
     → x.script < length v.taker.line.quotas → IsInRange x.command → IsLive (record { taker = taker; journal = journal; blocks = v.blocks; spare = spare })
 live_took v taker journal spare x h took_is log script range =
-    subst (λ (y : TakeView × List LoggedData). IsLive (record { taker = y.0; journal = y.1; blocks = v.blocks; spare = spare })) (λ i. (sym took_is i, sym log i)) (live_push v x spare h script range)
+    subst (λ (y : TakeView × List LoggedData). IsLive (record { taker = y.0; journal = y.1; blocks = v.blocks; spare = spare })) (λ i.
+        (sym took_is i, sym log i)) (live_push v x spare h script range)
 
-pub in_logged : (old new : Instrument) (before journal : List LoggedData) (b : ℕ) (x : EntryData) → IsIn old (state_at before b) → journal ≡ before ++ logged_at b x ∷ []
+pub in_logged : (old new : Instrument) (before journal : List LoggedData) (b : ℕ) (x : EntryData) → IsIn old (state_at before b) → journal ≡ before
+    ++ logged_at b x ∷ []
     → ((s : State) → IsIn old s → IsIn new (apply s x.command)) → IsIn new (state_at journal b)
 in_logged old new before journal b x h log played =
     subst (λ (s : State). IsIn new s) (sym (state_logged before b x) ∙ ap (λ (j : List LoggedData). state_at j b) (sym log)) (played (state_at before b) h)
 
-pub sound_kept : (before journal : List LoggedData) (n : ℕ) (x : EntryData) → journal ≡ before ++ logged_at n x ∷ [] → (b : ℕ) → b < n → sound journal b ≡ sound before b
+pub sound_kept : (before journal : List LoggedData) (n : ℕ) (x : EntryData) → journal ≡ before ++ logged_at n x ∷ [] → (b : ℕ) → b < n
+    → sound journal b ≡ sound before b
 sound_kept before journal n x log b below =
-    ap (λ (j : List LoggedData). sound j b) log ∙ sound_agrees (before ++ logged_at n x ∷ []) before b (λ a low. commands_kept before (x ∷ []) n a (λ e. absurd (omega (arith, e, low, below))))
+    ap (λ (j : List LoggedData). sound j b) log ∙ sound_agrees (before ++ logged_at n x ∷ []) before b (λ a low.
+        commands_kept before (x ∷ []) n a (λ e. absurd (omega (arith, e, low, below))))
 
 -- one block more
 
@@ -62,8 +70,10 @@ order_later b journal h = record { order = h.order; past = λ k d lt. let e : (g
 pub live_rendered : (v : RendererView) → IsLive v → IsLive (rendered v)
 live_rendered v h = record { list = h.list; order = order_later v.blocks v.journal h.order; ranges = h.ranges; scripts = h.scripts }
 
-pub in_passed : (old new : Instrument) (v : RendererView) → IsLive v → IsIn old (state_at v.journal v.blocks) → ((s : State) → IsIn old s → IsIn new (passed s)) → IsIn new (state_at v.journal (v.blocks + 1))
-in_passed old new v live h played = subst (λ (s : State). IsIn new s) (sym (state_passed v.journal v.blocks live.order.past)) (played (state_at v.journal v.blocks) h)
+pub in_passed : (old new : Instrument) (v : RendererView) → IsLive v → IsIn old (state_at v.journal v.blocks) → ((s : State) → IsIn old s → IsIn new (passed s))
+    → IsIn new (state_at v.journal (v.blocks + 1))
+in_passed old new v live h played = subst (λ (s : State). IsIn new s) (sym (state_passed v.journal v.blocks live.order.past))
+    (played (state_at v.journal v.blocks) h)
 
 -- a list of takes
 
@@ -92,7 +102,8 @@ logs_got n a b c h k = record {
   spare = omega (arith, k.spare, h.spare);
 }
 
-pub logs_same : (n : ℕ) (a b c : RendererView) → Logs n a b → c.journal ≡ b.journal → c.taker.list ≡ b.taker.list → c.taker.line ≡ b.taker.line → c.blocks ≡ b.blocks → c.spare ≡ b.spare → Logs n a c
+pub logs_same : (n : ℕ) (a b c : RendererView) → Logs n a b → c.journal ≡ b.journal → c.taker.list ≡ b.taker.list → c.taker.line ≡ b.taker.line
+    → c.blocks ≡ b.blocks → c.spare ≡ b.spare → Logs n a c
 logs_same n a b c h journal list line blocks spare = record {
   entries = h.entries;
   many = h.many;

@@ -1,4 +1,4 @@
-//! The renderer.
+//! The end of a line that plays what it takes: each entry is logged at the present block and applied, and block after block is rendered.
 ghost use Rattle.std.specs.Prelude.{◌≡◌, ◌+◌, ◌<◌, ◌≤◌, ◌++◌, ◌∷◌, [], MatchBool, IfOk, IfErr, OnOk, OnErr};
 ghost use Rattle.std.specs.Prelude.{length, vec_len, vec_capacity};
 ghost use Rattle.command_set.specs.Command.{IsInRange};

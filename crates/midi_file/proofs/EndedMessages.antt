@@ -18,7 +18,7 @@ use Rattle.midi_stream.specs.Ended.{ended_message}
 use Rattle.script_outcome.specs.Outcomes.{Fails}
 use Rattle.midi_file.specs.Track.{TimedData, TrackOutcome, Comes, Breaks, message_outcomes, ended_outcomes, bytes_outcomes}
 use Rattle.midi_file.specs.File.{first_fault}
-use Rattle.midi_file.specs.Reading.{Faults, all_come}
+use Rattle.midi_file.specs.FileSoFar.{Faults, all_come}
 use Rattle.midi_stream.proofs.Ended.{ended_is}
 use Rattle.command_set.proofs.KeptBytes.{told_same}
 use Rattle.script_outcome.proofs.EndedMessages.{take_next}

@@ -9,7 +9,7 @@ use Rattle.script_outcome.specs.declared.fault.ScriptFault.{ScriptFault}
 use Rattle.script_outcome.specs.declared.fault.ScriptFault.TheVariants as faults
 use Rattle.midi_file.specs.Track.{TimedData, TrackOutcome, Breaks, track_outcomes}
 use Rattle.midi_file.specs.Chunks.{Chunk, Track, CutAt, after_chunk, breaks, chunk_bytes, chunk_cut, chunk_outcomes, file_outcomes, header_fault, is_track, track_count, tracks_outcomes, tracks_in, unless_cut}
-use Rattle.midi_file.specs.Reading.{Faults, all_come}
+use Rattle.midi_file.specs.FileSoFar.{Faults, all_come}
 use Rattle.midi_file.proofs.EndedMessages.{fault_here, faults_more}
 
 -- the reader of a file stands before these bytes of it and wants so many tracks; what happens in all of the file is this

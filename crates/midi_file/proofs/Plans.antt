@@ -8,13 +8,13 @@ use Rattle.script_outcome.specs.declared.fault.ScriptFault.{ScriptFault}
 use Rattle.script_outcome.specs.declared.fault.ScriptFault.TheVariants as faults
 use Rattle.script_outcome.specs.Outcomes.{Outcome, Fails}
 use Rattle.script_outcome.specs.Plan.{plan_of}
-use Rattle.script_outcome.specs.Reading.{Stops, all_given}
+use Rattle.script_outcome.specs.ReaderAnswer.{Stops, all_given}
 use Rattle.command_set.specs.Command.{CommandData}
 use Rattle.midi_file.specs.Track.{ActData, Sets, Plays, TimedData, timed_at}
 use Rattle.midi_file.specs.Chunks.{division_of, file_outcomes}
 use Rattle.midi_file.specs.Time.{Change, block_of, changes_in, change_at, first_tempo, time_between, time_of}
 use Rattle.midi_file.specs.File.{IsInTime, act_outcomes, acts_in, first_fault, in_order, midi_outcomes, ordered_outcomes, timed_outcomes, timed_plan, unless_refused}
-use Rattle.midi_file.specs.Reading.{Faults, all_come}
+use Rattle.midi_file.specs.FileSoFar.{Faults, all_come}
 use Rattle.midi_file.specs.declared.time.Clock.{Clock}
 use Rattle.script_outcome.proofs.Plans.{fails, stops_more}
 use Rattle.midi_file.proofs.Times.{IsAfterTick, changes_after, time_on, no_time, time_changed}

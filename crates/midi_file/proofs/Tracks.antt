@@ -2,7 +2,7 @@
 use Rattle.std.proofs.Common.{◌≡◌, ℕ, zero, suc, ◌+◌, ◌-◌, ◌<◌, ◌≤◌, List, [], ◌∷◌, ◌++◌, length, Bool, true, false, cond, refl, ap, sym, ◌∙◌, subst, arith, append_assoc, append-nil}
 use Rattle.std.specs.Prelude.{◌==◌}
 use Rattle.std.proofs.lemmas.Bool.{eqb-true}
-use Rattle.midi_stream.specs.Reading.{Reads}
+use Rattle.midi_stream.specs.FedStream.{Reads}
 use Rattle.midi_stream.specs.declared.reader.MidiReader.{MidiReader}
 use Rattle.script_outcome.specs.declared.fault.Place.TheVariants as place
 use Rattle.script_outcome.specs.declared.fault.ScriptKind.{ScriptKind}
@@ -10,7 +10,7 @@ use Rattle.script_outcome.specs.declared.fault.ScriptFault.{ScriptFault}
 use Rattle.script_outcome.specs.declared.fault.ScriptFault.TheVariants as faults
 use Rattle.midi_file.specs.Event.{EventData, EventRead, Event, Broken, event_at}
 use Rattle.midi_file.specs.Track.{Found, TimedData, TrackOutcome, Breaks, event_outcomes, ends_track, events_outcomes, events_in, fed_by, found_at, track_outcomes}
-use Rattle.midi_file.specs.Reading.{Faults, all_come}
+use Rattle.midi_file.specs.FileSoFar.{Faults, all_come}
 use Rattle.midi_file.proofs.EndedMessages.{fault_here, faults_more}
 
 -- the reader of a track stands before these bytes of it, which end at a place; what acts before it and in it is this

@@ -5,4 +5,4 @@ pub mod Chunks
 pub mod Time
 pub mod File
 pub mod Values
-pub mod Reading
+pub mod FileSoFar

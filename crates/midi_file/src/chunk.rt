@@ -5,7 +5,7 @@ ghost use Rattle.velocity_map.specs.declared.curve.Curve.TheVariants.{Linear};
 ghost use Rattle.velocity_map.specs.Map.{curve_of};
 ghost use Rattle.midi_file.specs.Chunks.{after_chunk, chunk_bytes, chunk_cut, chunk_length, division_of, header_fault, is_track};
 ghost use Rattle.midi_file.specs.Chunks.{track_count, tracks_outcomes};
-ghost use Rattle.midi_file.specs.Reading.{Faults, all_come};
+ghost use Rattle.midi_file.specs.FileSoFar.{Faults, all_come};
 
 use crate::bytes::refused_at;
 use crate::timed::Timed;

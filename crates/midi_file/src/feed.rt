@@ -2,13 +2,13 @@
 
 ghost use Rattle.std.specs.Prelude.{ℕ, List, ◌≡◌, ◌≤◌, [], ◌∷◌, ◌++◌, length, IfErr, OnOk};
 ghost use Rattle.midi_stream.specs.Ranges.{InRange};
-ghost use Rattle.midi_stream.specs.Reading.{Reads};
+ghost use Rattle.midi_stream.specs.FedStream.{Reads};
 ghost use Rattle.velocity_map.specs.declared.curve.Curve.TheVariants.{Linear};
 ghost use Rattle.velocity_map.specs.Map.{curve_of};
 ghost use Rattle.command_set.specs.Message.{command_of};
 ghost use Rattle.midi_stream.specs.Ended.{ended_message};
 ghost use Rattle.midi_file.specs.Track.{Comes, event_outcomes, fed_by, bytes_outcomes, ended_outcomes, timed_at, message_outcomes};
-ghost use Rattle.midi_file.specs.Reading.{Faults, all_come};
+ghost use Rattle.midi_file.specs.FileSoFar.{Faults, all_come};
 ghost use Rattle.midi_file.specs.Values.{IsSoundAct, IsSoundKind, act_data, kind_data};
 
 use crate::bytes::refused_at;

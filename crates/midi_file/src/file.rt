@@ -1,4 +1,4 @@
-//! A whole MIDI file.
+//! A whole MIDI file: all of it is read, and then its commands get their blocks.
 
 ghost use Rattle.std.specs.Prelude.{ℕ, ◌≡◌, ◌<◌, ◌≤◌, [], ◌++◌, length, IfErr, IfOk, OnOk};
 ghost use Rattle.velocity_map.specs.declared.curve.Curve.TheVariants.{Linear};
@@ -6,8 +6,8 @@ ghost use Rattle.velocity_map.specs.Map.{curve_of};
 ghost use Rattle.midi_file.specs.Track.{TimedData};
 ghost use Rattle.midi_file.specs.Chunks.{division_of, file_outcomes};
 ghost use Rattle.midi_file.specs.File.{IsInTime, in_order, midi_outcomes, timed_plan};
-ghost use Rattle.midi_file.specs.Reading.{Faults, all_come};
-ghost use Rattle.script_outcome.specs.Reading.{Settles};
+ghost use Rattle.midi_file.specs.FileSoFar.{Faults, all_come};
+ghost use Rattle.script_outcome.specs.ReaderAnswer.{Settles};
 
 use crate::bytes::refused_at;
 use crate::chunk::{read_header, read_tracks};

@@ -6,7 +6,7 @@ ghost use Rattle.script_plan.specs.Plan.{last_due};
 ghost use Rattle.midi_file.specs.Track.{Plays, TimedData};
 ghost use Rattle.midi_file.specs.Time.{block_of};
 ghost use Rattle.midi_file.specs.File.{IsInTime, act_outcomes, is_too_late, timed_plan};
-ghost use Rattle.script_outcome.specs.Reading.{Settles, Stops, all_given};
+ghost use Rattle.script_outcome.specs.ReaderAnswer.{Settles, Stops, all_given};
 
 use crate::bytes::refused_at;
 use crate::time::Clock;

@@ -1,10 +1,10 @@
-//! A track of a MIDI file.
+//! A track of a MIDI file: its events one after the other, each at its tick.
 
 ghost use Rattle.std.specs.Prelude.{ℕ, List, ◌≡◌, ◌≤◌, ◌<◌, ◌+◌, ◌++◌, length, IfErr, OnOk};
 ghost use Rattle.velocity_map.specs.declared.curve.Curve.TheVariants.{Linear};
 ghost use Rattle.velocity_map.specs.Map.{curve_of};
 ghost use Rattle.midi_file.specs.Track.{ends_track, track_outcomes};
-ghost use Rattle.midi_file.specs.Reading.{Faults, all_come};
+ghost use Rattle.midi_file.specs.FileSoFar.{Faults, all_come};
 ghost use Rattle.midi_file.specs.Values.{kind_data};
 
 use crate::bytes::refused_at;

@@ -21,7 +21,9 @@ pub none_exactly : (answer : Option MidiMessage) (before now : List MidiMessage)
 none_exactly None before now h = ((λ e. h), (λ e. refl))
 none_exactly (Some m) before now h = ((λ e. absurd (none_is_none m (Some m) None refl refl e)), (λ e. absurd (longer before m (sym e ∙ h))))
 
-pub some_exactly : (answer : Option MidiMessage) (m : MidiMessage) (before now : List MidiMessage) → Answers answer before now → (answer ≡ Some m) ↔ (now ≡ before ++ m ∷ [])
+pub some_exactly : (answer : Option MidiMessage) (m : MidiMessage) (before now : List MidiMessage) → Answers answer before now
+    → (answer ≡ Some m) ↔ (now ≡ before ++ m ∷ [])
 some_exactly None m before now h = ((λ e. absurd (none_is_none m (Some m) None refl refl (sym e))), (λ e. absurd (longer before m (sym h ∙ e))))
 some_exactly (Some x) m before now h =
-    ((λ e. h ∙ ap (λ (y : MidiMessage). before ++ y ∷ []) (same_in x m (Some x) (Some m) refl refl e)), (λ e. ap (λ (y : MidiMessage). Some y) (same_last before x m (sym h ∙ e))))
+    ((λ e. h ∙ ap (λ (y : MidiMessage). before ++ y ∷ []) (same_in x m (Some x) (Some m) refl refl e)), (λ e.
+        ap (λ (y : MidiMessage). Some y) (same_last before x m (sym h ∙ e))))

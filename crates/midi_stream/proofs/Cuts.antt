@@ -14,7 +14,8 @@ cut_push false s rest more = refl
 -- a status byte begins a segment
 pub segments_status : (xs : List ℕ) (b : ℕ) → is_data b ≡ false → segments (xs ++ b ∷ []) ≡ with_status (segments xs) b
 segments_status [] b f = rw f
-segments_status (x ∷ xs) b f = rw (segments_status xs b f, leading_status xs b f) (cut_push (is_data x) (record { status = x; data_bytes = leading_data xs }) (segments xs) (begun b ∷ []))
+segments_status (x ∷ xs) b f = rw (segments_status xs b f, leading_status xs b f)
+    (cut_push (is_data x) (record { status = x; data_bytes = leading_data xs }) (segments xs) (begun b ∷ []))
 
 is_nil : List Segment → Bool
 is_nil [] = true
@@ -24,7 +25,8 @@ after : Bool → List ℕ → ℕ → List ℕ
 after true l b = l ++ b ∷ []
 after false l b = l
 
-after_cut : (t : Bool) (x : ℕ) (l : List ℕ) (s : Segment) (rest : List Segment) (b : ℕ) → (if t then x ∷ after (is_nil rest) l b else []) ≡ after (is_nil (if t then rest else s ∷ rest)) (if t then x ∷ l else []) b
+after_cut : (t : Bool) (x : ℕ) (l : List ℕ) (s : Segment) (rest : List Segment) (b : ℕ)
+    → (if t then x ∷ after (is_nil rest) l b else []) ≡ after (is_nil (if t then rest else s ∷ rest)) (if t then x ∷ l else []) b
 unfolding after is_nil
 after_cut true x l s [] b = refl
 after_cut true x l s (r ∷ rest) b = refl
@@ -33,10 +35,12 @@ after_cut false x l s rest b = refl
 leading_more : (xs : List ℕ) (b : ℕ) → is_data b ≡ true → leading_data (xs ++ b ∷ []) ≡ after (is_nil (segments xs)) (leading_data xs) b
 unfolding after is_nil
 leading_more [] b f = rw f
-leading_more (x ∷ xs) b f = rw (leading_more xs b f) (after_cut (is_data x) x (leading_data xs) (record { status = x; data_bytes = leading_data xs }) (segments xs) b)
+leading_more (x ∷ xs) b f = rw (leading_more xs b f) (after_cut (is_data x) x (leading_data xs) (record { status = x; data_bytes = leading_data xs })
+    (segments xs) b)
 
 cut_extended : (t : Bool) (x : ℕ) (l : List ℕ) (rest : List Segment) (b : ℕ) →
-    (if t then extended rest b else record { status = x; data_bytes = after (is_nil rest) l b } ∷ extended rest b) ≡ extended (if t then rest else record { status = x; data_bytes = l } ∷ rest) b
+    (if t then extended rest b else record { status = x; data_bytes = after (is_nil rest) l b }
+        ∷ extended rest b) ≡ extended (if t then rest else record { status = x; data_bytes = l } ∷ rest) b
 unfolding after is_nil
 cut_extended true x l rest b = refl
 cut_extended false x l [] b = refl

@@ -11,7 +11,8 @@ use Rattle.midi_stream.specs.Ended.{with_bytes, ended_message}
 gained : (r : Option MidiMessage) (before now : List MidiMessage) → Answers r before now → slice_get now (length before) ≡ r
 gained None before now e = slice_get_past now (length before) (let same : length now ≡ length before = ap length e in omega arith)
 gained (Some m) before now e =
-    rw e (slice_get-get_or (before ++ m ∷ []) (length before) m (let more : length (before ++ m ∷ []) ≡ length before + 1 = length-append before (m ∷ []) in omega arith)
+    rw e (slice_get-get_or (before ++ m ∷ []) (length before) m (let more : length (before ++ m ∷ []) ≡ length before + 1 = length-append before (m ∷ []) in
+        omega arith)
     ∙ ap (λ (x : MidiMessage). Some x) (get_or-append_seam before m [] m))
 
 pub ended_is : (r : Option MidiMessage) (before : List ℕ) (byte : ℕ) → Answers r (messages before) (messages (before ++ byte ∷ []))

@@ -1,5 +1,6 @@
 -- Messages, last segment and last SysEx message where one more byte comes.
-use Rattle.std.proofs.Common.{◌≡◌, ℕ, ◌≤◌, Bool, true, false, ◌&&◌, List, [], ◌∷◌, ◌++◌, refl, ap, sym, ◌∙◌, arith, append_assoc, nat_lt, nat_eq, if◌then◌else◌}
+use Rattle.std.proofs.Common.{◌≡◌, ℕ, ◌≤◌, Bool, true, false, ◌&&◌, List, [], ◌∷◌, ◌++◌, refl, ap, sym, ◌∙◌, arith, append_assoc, nat_lt, nat_eq}
+use Rattle.std.proofs.Common.{if◌then◌else◌}
 use Rattle.std.proofs.Common.{append-nil}
 use Rattle.std.specs.Prelude.{Option, Some, None}
 use Rattle.midi_stream.specs.declared.message.MidiMessage.{MidiMessage}
@@ -18,7 +19,8 @@ pub by_end : (parts : List Segment) → messages_of parts ≡ closed_messages pa
 unfolding closed_messages
 by_end [] = refl
 by_end (s ∷ []) = append-nil (segment_messages s 0)
-by_end (s ∷ t ∷ later) = ap (λ (l : List MidiMessage). segment_messages s t.status ++ l) (by_end (t ∷ later)) ∙ sym (append_assoc (segment_messages s t.status) (closed_messages (t ∷ later)) (segment_messages (last_segment (t ∷ later)) 0))
+by_end (s ∷ t ∷ later) = ap (λ (l : List MidiMessage). segment_messages s t.status ++ l) (by_end (t ∷ later))
+    ∙ sym (append_assoc (segment_messages s t.status) (closed_messages (t ∷ later)) (segment_messages (last_segment (t ∷ later)) 0))
 
 closed_extended : (parts : List Segment) (b : ℕ) → closed_messages (extended parts b) ≡ closed_messages parts
 unfolding closed_messages
@@ -31,7 +33,8 @@ closed_status : (parts : List Segment) (b : ℕ) → closed_messages (with_statu
 unfolding closed_messages
 closed_status [] b = refl
 closed_status (s ∷ []) b = append-nil (segment_messages s b)
-closed_status (s ∷ t ∷ later) b = ap (λ (l : List MidiMessage). segment_messages s t.status ++ l) (closed_status (t ∷ later) b) ∙ sym (append_assoc (segment_messages s t.status) (closed_messages (t ∷ later)) (segment_messages (last_segment (t ∷ later)) b))
+closed_status (s ∷ t ∷ later) b = ap (λ (l : List MidiMessage). segment_messages s t.status ++ l) (closed_status (t ∷ later) b)
+    ∙ sym (append_assoc (segment_messages s t.status) (closed_messages (t ∷ later)) (segment_messages (last_segment (t ∷ later)) b))
 
 pub last_status : (parts : List Segment) (b : ℕ) → last_segment (with_status parts b) ≡ begun b
 last_status [] b = refl
@@ -84,12 +87,17 @@ answers_at : (answer : Option MidiMessage) (a b c d : List MidiMessage) → a �
 answers_at answer a b c d p q h = rw (p, q) h
 
 -- an answer is judged by the last segment alone
-pub answer_data : (parts : List Segment) (b : ℕ) (answer : Option MidiMessage) → Answers answer (segment_messages (last_segment parts) 0) (segment_messages (last_segment (extended parts b)) 0) → Answers answer (messages_of parts) (messages_of (extended parts b))
+pub answer_data : (parts : List Segment) (b : ℕ) (answer : Option MidiMessage)
+    → Answers answer (segment_messages (last_segment parts) 0) (segment_messages (last_segment (extended parts b)) 0)
+    → Answers answer (messages_of parts) (messages_of (extended parts b))
 answer_data parts b answer h =
-    answers_at answer _ _ _ _ (by_end parts) (by_end (extended parts b) ∙ ap (λ (l : List MidiMessage). l ++ segment_messages (last_segment (extended parts b)) 0) (closed_extended parts b))
+    answers_at answer _ _ _ _ (by_end parts) (by_end (extended parts b) ∙ ap (λ (l : List MidiMessage). l
+        ++ segment_messages (last_segment (extended parts b)) 0) (closed_extended parts b))
     (joined (closed_messages parts) _ _ answer h)
 
-pub answer_status : (parts : List Segment) (b : ℕ) (answer : Option MidiMessage) → Answers answer (segment_messages (last_segment parts) 0) (segment_messages (last_segment parts) b) → Answers answer (messages_of parts) (messages_of (with_status parts b))
+pub answer_status : (parts : List Segment) (b : ℕ) (answer : Option MidiMessage)
+    → Answers answer (segment_messages (last_segment parts) 0) (segment_messages (last_segment parts) b)
+    → Answers answer (messages_of parts) (messages_of (with_status parts b))
 answer_status parts b answer h =
     answers_at answer _ _ _ _ (by_end parts)
     (by_end (with_status parts b)

@@ -32,7 +32,8 @@ second_of_two status (x ∷ y ∷ later) first b e =
     let h = second_of_two status later first b e in
     record { more = ap (λ (l : List MidiMessage). message_of_two status x y ∷ l) h.more; left = h.left }
 
-pub one_more : (status : ℕ) (bytes : List ℕ) (b : ℕ) → map (message_of_one status) (bytes ++ b ∷ []) ≡ map (message_of_one status) bytes ++ message_of_one status b ∷ []
+pub one_more : (status : ℕ) (bytes : List ℕ) (b : ℕ) → map (message_of_one status) (bytes ++ b ∷ []) ≡ map (message_of_one status) bytes
+    ++ message_of_one status b ∷ []
 one_more status [] b = refl
 one_more status (x ∷ later) b = ap (λ (l : List MidiMessage). message_of_one status x ∷ l) (one_more status later b)
 
@@ -41,7 +42,8 @@ not_empty [] b = λ e. cc
 not_empty (x ∷ bytes) b = λ e. cc
 
 -- what a channel segment gives, whatever comes next
-pub channel_segment : (status next : ℕ) (segment : Segment) → IsChannel status segment → segment_messages segment next ≡ channel_messages status segment.data_bytes
+pub channel_segment : (status next : ℕ) (segment : Segment) → IsChannel status segment
+    → segment_messages segment next ≡ channel_messages status segment.data_bytes
 channel_segment status next segment h =
     let e = h.same in
     let lt : status < 240 = h.high in

@@ -1,7 +1,7 @@
 pub mod Cuts
 pub mod Ends
 pub mod Groups
-pub mod Steps
+pub mod ByteEffects
 pub mod Rests
 pub mod Answered
 pub mod Ended

@@ -1,5 +1,6 @@
 -- What a state in a message says of the end of the stream.
-use Rattle.std.proofs.Common.{◌≡◌, ◌≢◌, ℕ, ◌<◌, ◌≤◌, ◌⊎◌, inl, inr, Bool, true, false, ◌&&◌, ◌||◌, not, List, [], ◌∷◌, ◌++◌, length, take, refl, sym, subst, ◌∙◌, arith, nat_eq, length-append}
+use Rattle.std.proofs.Common.{◌≡◌, ◌≢◌, ℕ, ◌<◌, ◌≤◌, ◌⊎◌, inl, inr, Bool, true, false, ◌&&◌, ◌||◌, not, List, [], ◌∷◌, ◌++◌, length, take, refl, sym}
+use Rattle.std.proofs.Common.{subst, ◌∙◌, arith, nat_eq, length-append}
 use Rattle.std.specs.Prelude.{Option, None, IfSome}
 use Rattle.std.proofs.lemmas.List.{take_all, take-append-le}
 use Rattle.std.proofs.lemmas.Bool.{lt-ltb, le-ltb, le-leb, ne_eqb}
@@ -11,7 +12,8 @@ use Rattle.midi_stream.specs.ParserState.{rests}
 use Rattle.midi_stream.specs.Standing.{IsChannel, StandsAt}
 
 -- whether a channel segment is open
-channel_open : (status : ℕ) (segment : Segment) → IsChannel status segment → is_open segment ≡ (is_empty segment.data_bytes || not (is_empty (unused_data status segment.data_bytes)))
+channel_open : (status : ℕ) (segment : Segment) → IsChannel status segment
+    → is_open segment ≡ (is_empty segment.data_bytes || not (is_empty (unused_data status segment.data_bytes)))
 channel_open status segment h =
     let e = h.same in
     let low : 128 ≤ status = h.low in
@@ -42,7 +44,8 @@ pub rests_is : (state : ParserState) (kept : List ℕ) (parts : List Segment) �
 rests_is Between kept parts h = rw (closed_not_open parts h.closed)
 rests_is (Begun status) kept parts h = rw (channel_open status (last_segment parts) h.channel, h.none)
 rests_is (Running status) kept parts h = rw (channel_open status (last_segment parts) h.channel, empty_not (last_segment parts).data_bytes h.some, h.unused)
-rests_is (Half status first) kept parts h = rw (channel_open status (last_segment parts) h.channel, h.unused, or_true (is_empty (last_segment parts).data_bytes))
+rests_is (Half status first) kept parts h = rw (channel_open status (last_segment parts) h.channel, h.unused, or_true
+    (is_empty (last_segment parts).data_bytes))
 rests_is (InSysEx count) kept parts h = rw (sysex_open (last_segment parts) h.status)
 
 both_not : (a b : Bool) → b ≡ false → (a && b) ≡ false

@@ -3,7 +3,7 @@ pub mod Messages
 pub mod ParserState
 pub mod Ranges
 pub mod Standing
-pub mod Reading
+pub mod FedStream
 pub mod Growth
-pub mod Steps
+pub mod ByteEffects
 pub mod Ended

@@ -1,4 +1,4 @@
-//! The messages of a stream.
+//! The messages of a stream of MIDI bytes: those of a channel, and system exclusive ones by their length.
 
 /// A message of a MIDI stream. Channels are 0 to 15, keys, numbers, velocities and values 0 to 127.
 #[derive(Clone, Copy, PartialEq, Eq, Debug, Drop)]

@@ -3,10 +3,10 @@
 ghost use Rattle.std.specs.Prelude.{◌≡◌, true};
 ghost use Rattle.midi_stream.specs.ParserState.{holds_data};
 
-use crate::kept::{KeptBytes, keep};
+use crate::byte_effect::effect_of;
+use crate::kept_bytes::{KeptBytes, keep};
 use crate::message::MidiMessage;
 use crate::state::ParserState;
-use crate::step::next_step;
 use std::alloc::{AllocError, Global};
 
 /// A reader of a stream of MIDI bytes: it is fed byte by byte, and answers each message as it ends.
@@ -22,7 +22,7 @@ impl MidiReader {
     ghost use Rattle.midi_stream.specs.Messages.{messages, is_unfinished, last_sysex};
     ghost use Rattle.midi_stream.specs.declared.message.MidiMessage.{MidiMessage};
     ghost use Rattle.midi_stream.specs.Ranges.{InRange};
-    ghost use Rattle.midi_stream.specs.Reading.{Reads};
+    ghost use Rattle.midi_stream.specs.FedStream.{Reads};
     ghost use Rattle.midi_stream.specs.Standing.{Answers, HasBytes};
 
     /// A reader of a new stream. It asks for all the memory that it needs, 5000 bytes in storage that can't grow.
@@ -50,10 +50,10 @@ impl MidiReader {
         if byte >= 0xF8 {
             return None;
         }
-        let step = next_step(self.state, byte);
+        let effect = effect_of(self.state, byte);
         keep(&mut self.kept, self.state, byte);
-        self.state = step.state;
-        step.message
+        self.state = effect.state;
+        effect.message
     }
 
     /// The bytes of the SysEx message that the last status byte ended, from `F0` to `F7`, if

@@ -4,7 +4,7 @@ ghost use Rattle.std.specs.Prelude.{◌≡◌};
 
 /// Where in a message a stream stands.
 #[derive(Clone, Copy, Debug, Drop)]
-pub enum ParserState {
+pub(crate) enum ParserState {
     /// In none that counts.
     Between,
     /// After a channel status.
@@ -21,7 +21,7 @@ impl ParserState {
     ghost use Rattle.midi_stream.specs.ParserState.{rests};
 
     /// Whether no message has begun that isn't ended.
-    pub fn is_at_rest(self) -> bool
+    pub(crate) fn is_at_rest(self) -> bool
         ensures { result ≡ rests self }
     {
         match self {

@@ -3,6 +3,8 @@ use Rattle.std.specs.Prelude.{ℕ, zero, suc, ◌+◌, ◌-◌, ◌*◌, ◌/◌
 use Rattle.std.specs.Prelude.{slice_index_or, Option, None, ℤ, pos, ◌+ℤ◌, ◌-ℤ◌, ◌*ℤ◌, unsigned_abs}
 use Rattle.dx_tables.specs.Numbers.{wrap}
 use Rattle.dx_tables.specs.Powers.{frequency}
+use Rattle.voice_record.specs.declared.parameter.TheConstants.{ALGORITHM, FEEDBACK, OPERATOR_FIELDS, PITCH_LEVELS, PITCH_RATES, TRANSPOSE}
+use Rattle.voice_record.specs.declared.operator_parameter.TheConstants.{LEVELS, RATES}
 use Rattle.block_rates.specs.Stages.{released_after}
 use Rattle.block_rates.specs.Levels.{EnvelopeSettings, envelope_level}
 use Rattle.block_rates.specs.Pitches.{PitchEnvelopeSettings, pitch_envelope_level}
@@ -11,7 +13,7 @@ use Rattle.key_scale.specs.Pitch.{pitch_of_operator}
 use Rattle.operator_kernel.specs.declared.OpBlock.{OpBlock}
 use Rattle.operator_kernel.specs.Operator.{FeedbackState}
 use Rattle.algorithm_bus.specs.Audible.{muted}
-use Rattle.algorithm_bus.specs.Signals.{Patch, feedback_state_left, note_output}
+use Rattle.algorithm_bus.specs.Signals.{BlockInput, feedback_state_left, note_output}
 use Rattle.algorithm_bus.specs.Buses.{op_of}
 use Rattle.note_voice.specs.Modulation.{Modulation, pitch_modulation, attenuation_of, gain_of}
 
@@ -46,17 +48,17 @@ modulation_in past i = slice_index_or past i (record { lfo = pos 0; lfo_depth = 
 
 -- the note that is played, by key and transpose
 abbrev pub played_note : List ℕ → ℕ → ℤ
-played_note voice key = pos key +ℤ pos (slice_index voice 144) -ℤ pos 24
+played_note voice key = pos key +ℤ pos (slice_index voice TRANSPOSE) -ℤ pos 24
 
--- four parameters of a voice, from this place on
+-- four parameters of a voice, from this one on
 abbrev pub four_from : List ℕ → ℕ → List ℕ
-four_from voice place = slice_index voice place ∷ slice_index voice (place + 1) ∷ slice_index voice (place + 2) ∷ slice_index voice (place + 3) ∷ []
+four_from voice first = slice_index voice first ∷ slice_index voice (first + 1) ∷ slice_index voice (first + 2) ∷ slice_index voice (first + 3) ∷ []
 
 -- the envelope of an operator
 abbrev pub settings_at : List ℕ → ℕ → ℤ → ℕ → EnvelopeSettings
 settings_at voice operator note velocity = record {
-  rates = four_from voice (21 * (6 - operator));
-  levels = four_from voice (21 * (6 - operator) + 4);
+  rates = four_from voice (OPERATOR_FIELDS * (6 - operator) + RATES);
+  levels = four_from voice (OPERATOR_FIELDS * (6 - operator) + LEVELS);
   out = unsigned_abs (output_level voice operator note velocity);
   rate_scale = rate_scale_of voice operator note;
 }
@@ -66,7 +68,7 @@ envelope_settings n operator = settings_at n.voice operator (played_note n.voice
 
 -- the pitch envelope of a voice
 unfoldable pub pitch_settings : List ℕ → PitchEnvelopeSettings
-pitch_settings voice = record { rates = four_from voice 126; levels = four_from voice 130 }
+pitch_settings voice = record { rates = four_from voice PITCH_RATES; levels = four_from voice PITCH_LEVELS }
 
 -- what is added to the pitch of all operators in block i
 unfoldable pub pitch_shift_in : NoteData → ℕ → ℤ
@@ -116,10 +118,10 @@ abbrev pub operators_in : NoteData → ℕ → List OpBlock
 operators_in n i = audible_in n 1 i ∷ audible_in n 2 i ∷ audible_in n 3 i ∷ audible_in n 4 i ∷ audible_in n 5 i ∷ audible_in n 6 i ∷ []
 
 -- what block i is made from, where the operator with feedback left these two samples
-abbrev pub patch_in : NoteData → ℕ → FeedbackState → Patch
-patch_in n i feedback_state = record {
-  algorithm = slice_index n.voice 134;
-  feedback = slice_index n.voice 135;
+abbrev pub block_input_in : NoteData → ℕ → FeedbackState → BlockInput
+block_input_in n i feedback_state = record {
+  algorithm = slice_index n.voice ALGORITHM;
+  feedback = slice_index n.voice FEEDBACK;
   op = op_of (operators_in n i);
   feedback_state = feedback_state;
 }
@@ -127,12 +129,12 @@ patch_in n i feedback_state = record {
 -- the last two samples of the operator with feedback before block i
 unfoldable pub feedback_state_before : NoteData → ℕ → FeedbackState
 feedback_state_before n zero = record { before_last = pos 0; last = pos 0 }
-feedback_state_before n (suc i) = feedback_state_left (patch_in n i (feedback_state_before n i))
+feedback_state_before n (suc i) = feedback_state_left (block_input_in n i (feedback_state_before n i))
 
 -- what block i of a note is made from
-abbrev pub note_patch : NoteData → ℕ → Patch
-note_patch n i = patch_in n i (feedback_state_before n i)
+abbrev pub note_input : NoteData → ℕ → BlockInput
+note_input n i = block_input_in n i (feedback_state_before n i)
 
 -- sample j of block i
 unfoldable pub note_sample : NoteData → ℕ → ℕ → ℤ
-note_sample n i j = note_output (note_patch n i) j
+note_sample n i j = note_output (note_input n i) j

@@ -2,11 +2,11 @@
 use Rattle.std.specs.Prelude.{ℕ, ◌≡◌, ◌≤◌, pos}
 use Rattle.voice_record.specs.Voice.{opening_voice}
 use Rattle.algorithm_bus.specs.Signals.{signal}
-use Rattle.note_voice.specs.Note.{NoteData, note_patch, pitch_shift_in, attenuation_in, modulation_in}
+use Rattle.note_voice.specs.Note.{NoteData, note_input, pitch_shift_in, attenuation_in, modulation_in}
 
 -- operators 2 to 6 have only samples 0, whatever the key, the release and what moves the note
 abbrev pub OthersAreSilent : NoteData → Type 0
-OthersAreSilent n = (i j operator : ℕ) → 2 ≤ operator → operator ≤ 6 → signal (note_patch n i) operator j ≡ pos 0
+OthersAreSilent n = (i j operator : ℕ) → 2 ≤ operator → operator ≤ 6 → signal (note_input n i) operator j ≡ pos 0
 
 -- nothing moves the pitch of a block with no bend and no wheel, and nothing attenuates a level
 abbrev pub IsUnmodulated : NoteData → Type 0

@@ -1,7 +1,7 @@
 //! A note: six operators with their envelopes under an algorithm, block by block.
 #![tactic(auto)]
 
-mod known_gain;
+mod cached_gain;
 mod mix;
 mod modulation;
 mod note;
@@ -17,6 +17,6 @@ pub use opening::opening_is_plain;
 pub use sound::{sound_alone, sound_eight, sound_four};
 
 #[cfg(test)]
-mod plain;
+mod reference;
 #[cfg(test)]
 mod tests;

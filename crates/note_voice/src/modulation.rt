@@ -3,7 +3,7 @@
 ghost use Rattle.std.specs.Prelude.{◌≡◌, ◌≤◌, ◌+◌, ◌*◌, ◌/◌, ◌^◌, pos, neg_ℤ, ◌≤ℤ◌, ◌*ℤ◌, ◌-ℤ◌, ◌+ℤ◌, slice_index};
 ghost use Rattle.std.specs.Int.{int_shr};
 ghost use Rattle.dx_tables.specs.Constants.{pitch_sensitivity, amplitude_sensitivity};
-ghost use Rattle.note_voice.specs.Modulation.{depth_part, vibrato_depth, vibrato, bend_pitch, tremolo, tremolo_weight};
+ghost use Rattle.note_voice.specs.Modulation.{depth_part, vibrato_depth, vibrato, bend_pitch, tremolo, amp_mod_depth_of};
 
 use crate::settings;
 use dx_tables::constants;
@@ -40,8 +40,8 @@ fn vibrato_depth(setting: u8, lfo_depth: u32, wheel: u8) -> u64
     part_of_depth(depth_part(setting), lfo_depth).max(u64::from(wheel) << 25)
 }
 
-/// A depth with a sensitivity.
-fn weighted(depth: u64, sensitivity: u8) -> i64
+/// A depth times what a sensitivity counts.
+fn by_sensitivity(depth: u64, sensitivity: u8) -> i64
     requires depth { depth ≤ 255 * 2 ^ 24 }
     requires sensitivity { sensitivity ≤ 255 }
     ensures value { result ≡ pos depth *ℤ pos sensitivity }
@@ -62,8 +62,8 @@ fn from_middle(lfo: i32) -> i64
     i64::from(lfo) - 0x80_0000
 }
 
-/// A depth times a distance, in units of pitch.
-fn swing(depth: i64, distance: i64) -> i32
+/// The vibrato of a depth, where the LFO is this far from its middle.
+fn vibrato_at(depth: i64, distance: i64) -> i32
     requires depth_low { pos 0 ≤ℤ depth }
     requires depth_high { depth ≤ℤ pos (65025 * 2 ^ 24) }
     requires low { neg_ℤ (pos (2 ^ 23 + 64)) ≤ℤ distance }
@@ -86,8 +86,8 @@ fn vibrato(depth: u64, sensitivity: u8, lfo: i32) -> i32
     ensures low { neg_ℤ (pos (2 ^ 24)) ≤ℤ result }
     ensures high { result ≤ℤ pos (2 ^ 24) }
 {
-    swing(
-        weighted(depth, constants::pitch_sensitivity(sensitivity)),
+    vibrato_at(
+        by_sensitivity(depth, constants::pitch_sensitivity(sensitivity)),
         from_middle(lfo),
     )
 }
@@ -116,8 +116,8 @@ pub(crate) fn pitch_modulation(
 ) -> i32
     requires depth { depth ≤ 99 }
     requires sensitivity { sensitivity ≤ 7 }
-    requires level_low { neg_ℤ (pos 67108864) ≤ℤ level }
-    requires level_high { level ≤ℤ pos 67108864 }
+    requires level_low { neg_ℤ (pos (2 ^ 26)) ≤ℤ level }
+    requires level_high { level ≤ℤ pos (2 ^ 26) }
     requires lfo_low { neg_ℤ (pos 64) ≤ℤ lfo }
     requires lfo_high { lfo ≤ℤ pos (2 ^ 24 + 64) }
     requires lfo_depth { lfo_depth ≤ 2 ^ 24 }
@@ -128,25 +128,25 @@ pub(crate) fn pitch_modulation(
     ensures high { result ≤ℤ pos (2 ^ 27) }
 {
     let depth = vibrato_depth(depth, lfo_depth, wheel);
-    let swing = vibrato(depth, sensitivity, lfo);
-    level + swing + bend_pitch(bend)
+    let vibrato = vibrato(depth, sensitivity, lfo);
+    level + vibrato + bend_pitch(bend)
 }
 
 /// How deep the LFO moves the gain of an operator, 1 to 6, once its delay is over.
-pub(crate) fn tremolo_weight(voice: &Voice, operator: u8) -> u32
+pub(crate) fn amp_mod_depth(voice: &Voice, operator: u8) -> u32
     requires { (1 ≤ operator) × (operator ≤ 6) }
-    ensures value { result ≡ tremolo_weight voice.now operator }
+    ensures value { result ≡ amp_mod_depth_of voice.now operator }
     ensures high { result ≤ 65025 }
 {
     let sensitivity = settings::amplitude_sensitivity(voice, operator);
-    weighted_part(
+    part_by_sensitivity(
         depth_part(settings::amplitude_depth(voice)),
         constants::amplitude_sensitivity(sensitivity),
     )
 }
 
-/// A part of 256 with a sensitivity.
-fn weighted_part(part: u32, sensitivity: u8) -> u32
+/// A part of 256 times what a sensitivity counts.
+fn part_by_sensitivity(part: u32, sensitivity: u8) -> u32
     requires { part ≤ 255 }
     ensures value { result ≡ part * sensitivity }
     ensures high { result ≤ 65025 }
@@ -154,14 +154,14 @@ fn weighted_part(part: u32, sensitivity: u8) -> u32
     part * u32::from(sensitivity)
 }
 
-/// A weight by how deep the LFO is.
-fn weight_at_depth(weight: u32, lfo_depth: u32) -> u32
-    requires weight { weight ≤ 65025 }
+/// How deep the LFO moves the gain at this moment.
+fn tremolo_depth(amp_mod_depth: u32, lfo_depth: u32) -> u32
+    requires amp_mod_depth { amp_mod_depth ≤ 65025 }
     requires lfo_depth { lfo_depth ≤ 2 ^ 24 }
-    ensures value { result ≡ weight * lfo_depth / 2 ^ 24 }
+    ensures value { result ≡ amp_mod_depth * lfo_depth / 2 ^ 24 }
     ensures high { result ≤ 65025 }
 {
-    ((u64::from(weight) * u64::from(lfo_depth)) >> 24) as u32
+    ((u64::from(amp_mod_depth) * u64::from(lfo_depth)) >> 24) as u32
 }
 
 /// How far the LFO is from its top.
@@ -175,8 +175,8 @@ fn from_top(lfo: i32) -> i64
     0x100_0000 - i64::from(lfo)
 }
 
-/// A depth times a distance, in units of level.
-fn fall(depth: u32, distance: i64) -> i32
+/// The attenuation of a depth, where the LFO is this far from its top.
+fn attenuation_at(depth: u32, distance: i64) -> i32
     requires depth { depth ≤ 65025 }
     requires low { neg_ℤ (pos 64) ≤ℤ distance }
     requires high { distance ≤ℤ pos (2 ^ 24 + 64) }
@@ -197,18 +197,18 @@ fn tremolo(depth: u32, lfo: i32) -> i32
     ensures low { neg_ℤ (pos 509) ≤ℤ result }
     ensures high { result ≤ℤ pos (2 ^ 27) }
 {
-    fall(depth, from_top(lfo))
+    attenuation_at(depth, from_top(lfo))
 }
 
-/// How far the level of an operator of this weight is attenuated. 2^24 is one octave of gain.
-pub(crate) fn attenuation_of(weight: u32, lfo: i32, lfo_depth: u32) -> i32
-    requires weight { weight ≤ 65025 }
+/// How far the level of an operator of this amplitude modulation depth is attenuated. 2^24 is one octave of gain.
+pub(crate) fn attenuation_of(amp_mod_depth: u32, lfo: i32, lfo_depth: u32) -> i32
+    requires amp_mod_depth { amp_mod_depth ≤ 65025 }
     requires lfo_low { neg_ℤ (pos 64) ≤ℤ lfo }
     requires lfo_high { lfo ≤ℤ pos (2 ^ 24 + 64) }
     requires lfo_depth { lfo_depth ≤ 2 ^ 24 }
-    ensures value { result ≡ tremolo (weight * lfo_depth / 2 ^ 24) lfo }
+    ensures value { result ≡ tremolo (amp_mod_depth * lfo_depth / 2 ^ 24) lfo }
     ensures low { neg_ℤ (pos 509) ≤ℤ result }
     ensures high { result ≤ℤ pos (2 ^ 27) }
 {
-    tremolo(weight_at_depth(weight, lfo_depth), lfo)
+    tremolo(tremolo_depth(amp_mod_depth, lfo_depth), lfo)
 }

@@ -3,8 +3,8 @@ ghost use Rattle.std.specs.Prelude.{◌≡◌, ◌≤◌, ◌^◌, ◌+◌, ℕ,
 ghost use Rattle.note_voice.specs.Mix.{IsAdded, IsSmall};
 ghost use Rattle.operator_kernel.specs.Operator.{feedback_state_of};
 ghost use Rattle.algorithm_bus.specs.Signals.{note_output};
-ghost use Rattle.algorithm_bus.specs.NoteBlocks.{block_patch};
-ghost use Rattle.note_voice.specs.Note.{NoteData, begun, note_released, after_block, feedback_state_before, note_patch, note_sample};
+ghost use Rattle.algorithm_bus.specs.NoteBlocks.{block_input};
+ghost use Rattle.note_voice.specs.Note.{NoteData, begun, note_released, after_block, feedback_state_before, note_input, note_sample};
 
 use crate::sound::sound_alone;
 use crate::sounding::Sounding;
@@ -101,11 +101,11 @@ impl Note {
         requires bend { bend ≤ 16383 }
         requires wheel { wheel ≤ 127 }
         ensures block { (n : NoteData) → IsNote self.old (Some n) →
-            block_patch result ≡ note_patch (after_block n (record { lfo = lfo; lfo_depth = unsigned_abs lfo_depth; bend = bend; wheel = wheel }))
+            block_input result ≡ note_input (after_block n (record { lfo = lfo; lfo_depth = unsigned_abs lfo_depth; bend = bend; wheel = wheel }))
             (length n.past) }
         ensures begun { (n : NoteData) → IsNote self.old (Some n) →
             IsNoteBegun self.new (after_block n (record { lfo = lfo; lfo_depth = unsigned_abs lfo_depth; bend = bend; wheel = wheel })) }
-        ensures silent { IsNote self.old None → (j : ℕ) → note_output (block_patch result) j ≡ pos 0 }
+        ensures silent { IsNote self.old None → (j : ℕ) → note_output (block_input result) j ≡ pos 0 }
         ensures stays_idle { IsNote self.old None → IsNote self.new None }
     {
         match &mut self.sounding {

@@ -1,12 +1,13 @@
 //! One operator of a note: its envelope, its pitch and its gain, block by block.
 ghost use Rattle.std.specs.Prelude.{◌≡◌, ◌≤◌, ◌*◌, ◌^◌, ◌+◌, ℕ, ℤ, length, pos, neg_ℤ, ◌≤ℤ◌, ◌+ℤ◌};
 ghost use Rattle.dx_tables.specs.Powers.{frequency};
+ghost use Rattle.block_rates.specs.Levels.{greatest_level};
 ghost use Rattle.operator_kernel.specs.Operator.{HasGains};
 ghost use Rattle.note_voice.specs.Modulation.{Modulation, gain_of};
 ghost use Rattle.note_voice.specs.Note.{NoteData, begun, note_released, after_block, played_note, operator_in, pitch_shift_in};
 
-use crate::known_gain::KnownGain;
-use crate::modulation::{attenuation_of, tremolo_weight};
+use crate::cached_gain::CachedGain;
+use crate::modulation::{amp_mod_depth, attenuation_of};
 use crate::settings;
 use block_rates::Envelope;
 use dx_tables::Tables;
@@ -23,14 +24,14 @@ pub(crate) struct Operator {
     gain: i32,
     envelope: Envelope,
     pitch: i32,
-    weight: u32,
+    amp_mod_depth: u32,
     increment: i32,
-    known: KnownGain,
+    cached: CachedGain,
     ghost gain_from_zero: { pos 0 ≤ℤ gain },
     ghost gain_small: { gain ≤ℤ pos (2 ^ 26) },
     ghost pitch_from_zero: { pos 0 ≤ℤ pitch },
     ghost pitch_small: { pitch ≤ℤ pos (2 ^ 29) },
-    ghost weight_small: { weight ≤ 65025 },
+    ghost amp_mod_depth_small: { amp_mod_depth ≤ 65025 },
 }
 
 /// The phase increment at a pitch that is moved by a shift.
@@ -48,7 +49,7 @@ fn increment_at(tables: &Tables, pitch: i32, shift: i32) -> i32
 #[tactic(auto, unfolding(crate::specs::Modulation::gain_of))]
 pub(crate) fn gain(tables: &Tables, level: i32, attenuation: i32) -> i32
     requires level_low { pos 0 ≤ℤ level }
-    requires level_high { level ≤ℤ pos 266338304 }
+    requires level_high { level ≤ℤ pos greatest_level }
     requires attenuation_low { neg_ℤ (pos 509) ≤ℤ attenuation }
     requires attenuation_high { attenuation ≤ℤ pos (2 ^ 27) }
     ensures value { result ≡ gain_of level attenuation }
@@ -88,9 +89,9 @@ impl Operator {
                 scale,
             ),
             pitch,
-            weight: tremolo_weight(voice, operator),
+            amp_mod_depth: amp_mod_depth(voice, operator),
             increment: increment_at(tables, pitch, 0),
-            known: KnownGain::of(tables, 0, 0),
+            cached: CachedGain::of(tables, 0, 0),
         }
     }
 
@@ -124,14 +125,14 @@ impl Operator {
             shift ≡ pitch_shift_in (after_block n m) (length n.past) → m.lfo ≡ lfo → m.lfo_depth ≡ lfo_depth →
             IsOperator self.new shift operator (after_block n m) }
     {
-        let attenuation = attenuation_of(self.weight, lfo, lfo_depth);
+        let attenuation = attenuation_of(self.amp_mod_depth, lfo, lfo_depth);
         let level = self.envelope.step();
-        self.known = self.known.moved(tables, level, attenuation);
+        self.cached = self.cached.moved(tables, level, attenuation);
         let op = OpBlock {
             phase: self.phase,
             freq: self.increment,
             g1: self.gain,
-            g2: self.known.gain,
+            g2: self.cached.gain,
         };
         self.phase = op.phase.wrapping_add(op.freq.wrapping_mul(64));
         self.gain = op.g2;

@@ -3,7 +3,7 @@
 ghost use Rattle.std.specs.Prelude.{◌≡◌, ◌+◌, ◌*◌, ◌^◌, ◌+ℤ◌, ℕ};
 ghost use Rattle.operator_kernel.specs.Operator.{feedback_state_of};
 ghost use Rattle.algorithm_bus.specs.Signals.{feedback_state_left, note_output};
-ghost use Rattle.algorithm_bus.specs.NoteBlocks.{block_patch};
+ghost use Rattle.algorithm_bus.specs.NoteBlocks.{block_input};
 ghost use Rattle.note_voice.specs.Mix.{IsAdded, IsSmall};
 
 use crate::mix::add;
@@ -14,9 +14,9 @@ use dx_tables::Tables;
 /// there is nothing to add.
 pub fn sound_alone(tables: &Tables, block: &mut NoteBlock, mix: &mut [i64; 64])
     requires { IsSmall (2 ^ 40) mix.old }
-    ensures samples { IsAdded (note_output (block_patch block.old)) mix.old mix.new }
+    ensures samples { IsAdded (note_output (block_input block.old)) mix.old mix.new }
     ensures small { (bound : ℕ) → IsSmall bound mix.old → IsSmall (bound + 2 ^ 31) mix.new }
-    ensures feedback_state { feedback_state_of block.new.feedback_state ≡ feedback_state_left (block_patch block.old) }
+    ensures feedback_state { feedback_state_of block.new.feedback_state ≡ feedback_state_left (block_input block.old) }
 {
     if block.is_audible() {
         let mut bus = [0i32; 64];
@@ -42,13 +42,13 @@ pub fn sound_four(
     requires feedback { (second.old.feedback ≡ first.old.feedback) × (third.old.feedback ≡ first.old.feedback)
         × (fourth.old.feedback ≡ first.old.feedback) }
     requires mix { IsSmall (2 ^ 39) mix.old }
-    ensures samples { IsAdded (λ j. note_output (block_patch first.old) j +ℤ note_output (block_patch second.old) j
-        +ℤ note_output (block_patch third.old) j +ℤ note_output (block_patch fourth.old) j) mix.old mix.new }
+    ensures samples { IsAdded (λ j. note_output (block_input first.old) j +ℤ note_output (block_input second.old) j
+        +ℤ note_output (block_input third.old) j +ℤ note_output (block_input fourth.old) j) mix.old mix.new }
     ensures small { (bound : ℕ) → IsSmall bound mix.old → IsSmall (bound + 4 * 2 ^ 31) mix.new }
-    ensures feedback_state0 { feedback_state_of first.new.feedback_state ≡ feedback_state_left (block_patch first.old) }
-    ensures feedback_state1 { feedback_state_of second.new.feedback_state ≡ feedback_state_left (block_patch second.old) }
-    ensures feedback_state2 { feedback_state_of third.new.feedback_state ≡ feedback_state_left (block_patch third.old) }
-    ensures feedback_state3 { feedback_state_of fourth.new.feedback_state ≡ feedback_state_left (block_patch fourth.old) }
+    ensures feedback_state0 { feedback_state_of first.new.feedback_state ≡ feedback_state_left (block_input first.old) }
+    ensures feedback_state1 { feedback_state_of second.new.feedback_state ≡ feedback_state_left (block_input second.old) }
+    ensures feedback_state2 { feedback_state_of third.new.feedback_state ≡ feedback_state_left (block_input third.old) }
+    ensures feedback_state3 { feedback_state_of fourth.new.feedback_state ≡ feedback_state_left (block_input fourth.old) }
 {
     let mut out0 = silence();
     let mut out1 = silence();
@@ -85,19 +85,19 @@ pub fn sound_eight(
     requires high_feedback { (fifth.old.feedback ≡ first.old.feedback) × (sixth.old.feedback ≡ first.old.feedback)
         × (seventh.old.feedback ≡ first.old.feedback) × (eighth.old.feedback ≡ first.old.feedback) }
     requires mix { IsSmall (2 ^ 39) mix.old }
-    ensures samples { IsAdded (λ j. (note_output (block_patch first.old) j +ℤ note_output (block_patch second.old) j
-        +ℤ note_output (block_patch third.old) j +ℤ note_output (block_patch fourth.old) j)
-        +ℤ (note_output (block_patch fifth.old) j +ℤ note_output (block_patch sixth.old) j +ℤ note_output (block_patch seventh.old) j
-        +ℤ note_output (block_patch eighth.old) j)) mix.old mix.new }
+    ensures samples { IsAdded (λ j. (note_output (block_input first.old) j +ℤ note_output (block_input second.old) j
+        +ℤ note_output (block_input third.old) j +ℤ note_output (block_input fourth.old) j)
+        +ℤ (note_output (block_input fifth.old) j +ℤ note_output (block_input sixth.old) j +ℤ note_output (block_input seventh.old) j
+        +ℤ note_output (block_input eighth.old) j)) mix.old mix.new }
     ensures small { (bound : ℕ) → IsSmall bound mix.old → IsSmall (bound + 8 * 2 ^ 31) mix.new }
-    ensures feedback_state0 { feedback_state_of first.new.feedback_state ≡ feedback_state_left (block_patch first.old) }
-    ensures feedback_state1 { feedback_state_of second.new.feedback_state ≡ feedback_state_left (block_patch second.old) }
-    ensures feedback_state2 { feedback_state_of third.new.feedback_state ≡ feedback_state_left (block_patch third.old) }
-    ensures feedback_state3 { feedback_state_of fourth.new.feedback_state ≡ feedback_state_left (block_patch fourth.old) }
-    ensures feedback_state4 { feedback_state_of fifth.new.feedback_state ≡ feedback_state_left (block_patch fifth.old) }
-    ensures feedback_state5 { feedback_state_of sixth.new.feedback_state ≡ feedback_state_left (block_patch sixth.old) }
-    ensures feedback_state6 { feedback_state_of seventh.new.feedback_state ≡ feedback_state_left (block_patch seventh.old) }
-    ensures feedback_state7 { feedback_state_of eighth.new.feedback_state ≡ feedback_state_left (block_patch eighth.old) }
+    ensures feedback_state0 { feedback_state_of first.new.feedback_state ≡ feedback_state_left (block_input first.old) }
+    ensures feedback_state1 { feedback_state_of second.new.feedback_state ≡ feedback_state_left (block_input second.old) }
+    ensures feedback_state2 { feedback_state_of third.new.feedback_state ≡ feedback_state_left (block_input third.old) }
+    ensures feedback_state3 { feedback_state_of fourth.new.feedback_state ≡ feedback_state_left (block_input fourth.old) }
+    ensures feedback_state4 { feedback_state_of fifth.new.feedback_state ≡ feedback_state_left (block_input fifth.old) }
+    ensures feedback_state5 { feedback_state_of sixth.new.feedback_state ≡ feedback_state_left (block_input sixth.old) }
+    ensures feedback_state6 { feedback_state_of seventh.new.feedback_state ≡ feedback_state_left (block_input seventh.old) }
+    ensures feedback_state7 { feedback_state_of eighth.new.feedback_state ≡ feedback_state_left (block_input eighth.old) }
 {
     let mut out0 = silence();
     let mut out1 = silence();

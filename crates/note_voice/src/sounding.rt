@@ -1,8 +1,8 @@
-//! A note that sounds.
+//! A note that sounds: what it keeps from block to block, and how it enters the next one.
 ghost use Rattle.std.specs.Prelude.{◌≡◌, ◌≤◌, ◌^◌, ◌+◌, ℕ, length, pos, neg_ℤ, ◌≤ℤ◌};
 ghost use Rattle.operator_kernel.specs.Operator.{feedback_state_of};
-ghost use Rattle.algorithm_bus.specs.NoteBlocks.{block_patch};
-ghost use Rattle.note_voice.specs.Note.{NoteData, begun, note_released, after_block, feedback_state_before, note_patch};
+ghost use Rattle.algorithm_bus.specs.NoteBlocks.{block_input};
+ghost use Rattle.note_voice.specs.Note.{NoteData, begun, note_released, after_block, feedback_state_before, note_input};
 
 use crate::modulation::pitch_modulation;
 use crate::operator::Operator;
@@ -18,17 +18,17 @@ use voice_record::Voice;
 pub(crate) struct Sounding {
     algorithm: u8,
     feedback: u8,
-    depth: u8,
-    sensitivity: u8,
+    pitch_mod_depth: u8,
+    pitch_mod_sensitivity: u8,
     switch: u8,
     operators: [Operator; 6],
-    shift: i32,
-    pitch: PitchEnvelope,
+    pitch_shift: i32,
+    pitch_envelope: PitchEnvelope,
     feedback_state: [i32; 2],
     ghost algorithm_bound: { algorithm ≤ 31 },
     ghost feedback_bound: { feedback ≤ 7 },
-    ghost depth_bound: { depth ≤ 99 },
-    ghost sensitivity_bound: { sensitivity ≤ 7 },
+    ghost pitch_mod_depth_bound: { pitch_mod_depth ≤ 99 },
+    ghost pitch_mod_sensitivity_bound: { pitch_mod_sensitivity ≤ 7 },
 }
 
 impl Sounding {
@@ -50,12 +50,15 @@ impl Sounding {
         Sounding {
             algorithm: settings::algorithm(voice),
             feedback: settings::feedback(voice),
-            depth: settings::pitch_depth(voice),
-            sensitivity: settings::pitch_sensitivity(voice),
+            pitch_mod_depth: settings::pitch_depth(voice),
+            pitch_mod_sensitivity: settings::pitch_sensitivity(voice),
             switch,
             operators: start_all(tables, voice, note, velocity),
-            shift: 0,
-            pitch: PitchEnvelope::new(settings::pitch_rates(voice), settings::pitch_levels(voice)),
+            pitch_shift: 0,
+            pitch_envelope: PitchEnvelope::new(
+                settings::pitch_rates(voice),
+                settings::pitch_levels(voice),
+            ),
             feedback_state: [0, 0],
         }
     }
@@ -65,10 +68,11 @@ impl Sounding {
         ensures { (n : NoteData) → IsSounding self.old n → IsSounding self.new (note_released n) }
     {
         release_all(&mut self.operators);
-        self.pitch.release();
+        self.pitch_envelope.release();
     }
 
-    /// What is to be run in the next block. All but the two samples that come back then stands for the note one block later.
+    /// What is to be run in the next block. The note then stands one block later but for its feedback state, which `end_block` puts in
+    /// once the block has run.
     pub(crate) fn begin_block(
         &mut self,
         tables: &Tables,
@@ -83,23 +87,23 @@ impl Sounding {
         requires bend { bend ≤ 16383 }
         requires wheel { wheel ≤ 127 }
         ensures block { (n : NoteData) → IsSounding self.old n →
-            block_patch result
-            ≡ note_patch (after_block n (record { lfo = lfo; lfo_depth = lfo_depth; bend = bend; wheel = wheel })) (length n.past) }
+            block_input result
+            ≡ note_input (after_block n (record { lfo = lfo; lfo_depth = lfo_depth; bend = bend; wheel = wheel })) (length n.past) }
         ensures begun { (n : NoteData) → IsSounding self.old n →
             IsUnended self.new (after_block n (record { lfo = lfo; lfo_depth = lfo_depth; bend = bend; wheel = wheel })) }
     {
-        let level = self.pitch.step();
-        let shift = pitch_modulation(
-            self.depth,
-            self.sensitivity,
+        let level = self.pitch_envelope.step();
+        let pitch_shift = pitch_modulation(
+            self.pitch_mod_depth,
+            self.pitch_mod_sensitivity,
             level,
             lfo,
             lfo_depth,
             bend,
             wheel,
         );
-        tune_all(&mut self.operators, tables, self.shift, shift);
-        self.shift = shift;
+        tune_all(&mut self.operators, tables, self.pitch_shift, pitch_shift);
+        self.pitch_shift = pitch_shift;
         let ops = pass_all(&mut self.operators, tables, self.switch, lfo, lfo_depth);
         NoteBlock {
             algorithm: self.algorithm,
@@ -109,7 +113,7 @@ impl Sounding {
         }
     }
 
-    /// Keeps the two samples that come back, once the block was run.
+    /// Ends a block that has run, with the feedback state that it left.
     pub(crate) fn end_block(&mut self, feedback_state: [i32; 2])
         ensures { (n : NoteData) → IsUnended self.old n → feedback_state_of feedback_state ≡ feedback_state_before n (length n.past) →
             IsSounding self.new n }

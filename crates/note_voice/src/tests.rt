@@ -1,12 +1,14 @@
-//! Tests: notes beside a plain program.
+//! Notes beside the reference program.
 ghost use Rattle.std.specs.Prelude.{◌≤◌, ◌<◌, ◌^◌};
 ghost use Rattle.note_voice.specs.Mix.{IsSmall};
 
 use super::*;
-use crate::plain::{PlainNote, block, modulation};
+use crate::reference::{ReferenceNote, block, modulation};
 use dx_tables::Tables;
 use std::process::Abort;
 use std::test::Fail;
+use voice_record::operator_parameter::OUTPUT_LEVEL;
+use voice_record::parameter::{OPERATOR_FIELDS, PITCH_RATES};
 use voice_record::{Voice, greatest};
 
 /// The sum of no notes.
@@ -16,33 +18,33 @@ fn nothing() -> [i64; 64]
     [0; 64]
 }
 
-/// Thirty blocks of a note that is released after `off` of them, beside the plain program. How many samples are not 0?
-fn compare(rt: &impl Abort, tables: &Tables, plain: &PlainNote) -> u32
-    requires switch { plain.now.switch ≤ 63 }
-    requires key { plain.now.key ≤ 127 }
-    requires velocity { (1 ≤ plain.now.velocity) × (plain.now.velocity ≤ 127) }
+/// Thirty blocks of a note that is released after `off` of them, beside the reference program. How many samples are not 0?
+fn compare(rt: &impl Abort, tables: &Tables, reference: &ReferenceNote) -> u32
+    requires switch { reference.now.switch ≤ 63 }
+    requires key { reference.now.key ≤ 127 }
+    requires velocity { (1 ≤ reference.now.velocity) × (reference.now.velocity ≤ 127) }
 {
     let mut note = Note::idle();
     // An earlier note, of which nothing is to stay.
-    note.start(tables, &plain.voice, 63, 127, 127);
+    note.start(tables, &reference.voice, 63, 127, 127);
     note.block(tables, 0, 0, 0, 0, &mut nothing());
     note.start(
         tables,
-        &plain.voice,
-        plain.switch,
-        plain.key,
-        plain.velocity,
+        &reference.voice,
+        reference.switch,
+        reference.key,
+        reference.velocity,
     );
     let mut feedback_state = [0i32; 2];
     let mut sounding = 0u32;
     for i in 0..30u32 {
-        if i == plain.off {
+        if i == reference.off {
             note.release();
         }
         let m = modulation(i);
         let mut mix = nothing();
         note.block(tables, m.lfo, m.lfo_depth as i32, m.bend, m.wheel, &mut mix);
-        let samples = block(tables, plain, i, &mut feedback_state);
+        let samples = block(tables, reference, i, &mut feedback_state);
         for j in 0..64usize {
             assert_eq!(rt; mix[j], i64::from(samples[j]), "block {i} sample {j}");
             if mix[j] != 0 {
@@ -60,7 +62,7 @@ fn voice_of(seed: u32) -> Voice {
     for i in 0..155usize {
         random = random.wrapping_mul(1_664_525).wrapping_add(1_013_904_223);
         numbers[i] = ((random >> 16) % (u32::from(greatest(i as u8)) + 1)) as u8;
-        if i < 126 && i % 21 == 16 {
+        if i < PITCH_RATES as usize && i % OPERATOR_FIELDS as usize == OUTPUT_LEVEL as usize {
             numbers[i] = 90 + numbers[i] % 10;
         }
     }
@@ -100,17 +102,17 @@ fn the_opening_voice_sounds_as_ever(rt: HostRuntime) -> Result<(), Fail> {
 }
 
 #[test]
-fn notes_follow_the_plain_program(rt: HostRuntime) -> Result<(), Fail> {
+fn notes_follow_the_reference(rt: HostRuntime) -> Result<(), Fail> {
     let tables = Tables::new(rt.alloc())?;
     for seed in 0..24u32 {
-        let plain = PlainNote {
+        let reference = ReferenceNote {
             voice: voice_of(seed),
             switch: switch_of(seed),
             key: (seed * 37 % 128) as u8,
             velocity: 127 - (seed * 5) as u8,
             off: seed,
         };
-        let sounding = compare(&rt, &tables, &plain);
+        let sounding = compare(&rt, &tables, &reference);
         assert!(rt; seed % 2 != 0 || 100 < sounding, "voice {seed} sounds");
     }
     Ok(())

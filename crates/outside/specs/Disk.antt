@@ -1,4 +1,4 @@
--- The counts of faults of the shelf on disk and of the standard output.
+-- The counts of the shelf on disk and of the standard output.
 use Rattle.std.specs.Prelude.{ℕ, List, Option, None}
 use Rattle.outside.specs.declared.disk.DiskShelf.{DiskShelf}
 use Rattle.outside.specs.declared.disk.StdOut.{StdOut}
@@ -15,9 +15,16 @@ disk_reading shelf = shelf.reading
 abbrev pub disk_writing : {R File Dir : Type 0} → DiskShelf R File Dir → ℕ
 disk_writing shelf = shelf.writing
 
--- its reads are not counted
+-- its reads, and the bytes that they gave
 abbrev pub disk_reads : {R File Dir : Type 0} → DiskShelf R File Dir → ℕ
-disk_reads shelf = 0
+disk_reads shelf = shelf.reads
+
+abbrev pub disk_given : {R File Dir : Type 0} → DiskShelf R File Dir → ℕ
+disk_given shelf = shelf.given
+
+-- the names whose writes failed are not told
+abbrev pub disk_failed : {R File Dir : Type 0} → DiskShelf R File Dir → Option (List (List ℕ))
+disk_failed shelf = None
 
 -- how many bytes of a file are held back
 abbrev pub disk_held : {R File Dir : Type 0} → DiskShelf R File Dir → List ℕ → ℕ

@@ -1,9 +1,13 @@
--- Counts of faults, and when a call may answer that it failed.
-use Rattle.std.specs.Prelude.{◌≡◌, ◌⊎◌, ℕ, ◌+◌, ◌-◌, ◌^◌, ◌≤◌, min, Result, OnOk, OnErr}
+-- Counts of faults and of reads, and when a call may answer that it failed.
+use Rattle.std.specs.Prelude.{◌≡◌, ◌⊎◌, ℕ, ◌+◌, ◌-◌, ◌^◌, ◌≤◌, min, List, [], ◌∷◌, ◌++◌, Option, Some, option_map, IfSome, Result, OnOk, OnErr}
 
 -- a count of 64 bits with one more; at its end it stays
 abbrev pub one_more : ℕ → ℕ
 one_more count = min (count + 1) (2 ^ 64 - 1)
+
+-- the same with so many more
+abbrev pub more_by : ℕ → ℕ → ℕ
+more_by count more = min (count + more) (2 ^ 64 - 1)
 
 -- a count rose by one at least; at its end it stays
 abbrev pub Rose : ℕ → ℕ → Type 0
@@ -15,3 +19,11 @@ pub record HasCause {T E : Type 0} (before now other_before other_now : ℕ) (ca
   pub other : other_now ≡ other_before
   pub kept : OnOk result (now ≡ before)
   pub failed : OnErr result (Rose before now ⊎ cause)
+
+-- Of the names whose writes failed, in order, this one is the first that came. A shelf that tells them now told them before, too.
+abbrev pub FailedFirst : List ℕ → Option (List (List ℕ)) → Option (List (List ℕ)) → Type 0
+FailedFirst name before now = IfSome now (λ names. (later : List (List ℕ)) × (option_map (λ old. old ++ name ∷ later) before ≡ Some names))
+
+-- this one is all that came
+abbrev pub HasFailed : List ℕ → Option (List (List ℕ)) → Option (List (List ℕ)) → Type 0
+HasFailed name before now = IfSome now (λ names. option_map (λ old. old ++ name ∷ []) before ≡ Some names)

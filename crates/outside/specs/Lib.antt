@@ -5,4 +5,5 @@ pub mod Memory
 pub mod Sure
 pub mod Disk
 pub mod Held
+pub mod Input
 pub mod Snapshot

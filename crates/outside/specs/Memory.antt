@@ -1,8 +1,9 @@
 -- The files of a map in memory, and what a shelf in memory shows.
-use Rattle.std.specs.Prelude.{ℕ, List, map, String, Vec, string_bytes, Option, Some}
+use Rattle.std.specs.Prelude.{ℕ, List, map, String, Vec, string_bytes, Option, Some, option_map}
 use Rattle.std.specs.declared.alloc.Global.{Global}
 use Rattle.std.specs.FinMap.{from_entries}
 use Rattle.outside.specs.declared.memory.MemShelf.{MemShelf}
+use Rattle.outside.specs.declared.failed_names.FailedNames.{FailedNames}
 use Rattle.outside.specs.declared.output.MemOut.{MemOut}
 use Rattle.outside.specs.Files.{Files}
 use Rattle.outside.specs.Calls.{Calls, calls_of}
@@ -28,8 +29,19 @@ writing_faults shelf = shelf.writing
 abbrev pub shelf_held : MemShelf → List ℕ → ℕ
 shelf_held shelf name = 0
 
+-- how often it was read, and how many bytes that gave
 abbrev pub read_calls : MemShelf → ℕ
 read_calls shelf = shelf.reads
+
+abbrev pub read_bytes : MemShelf → ℕ
+read_bytes shelf = shelf.given
+
+-- the names of the writes that failed, where there was memory for them
+abbrev pub names_in : FailedNames → Option (List (List ℕ))
+names_in failed = option_map (λ (v : Vec (String Global) Global). map string_bytes v.items) failed.names
+
+abbrev pub failed_names : MemShelf → Option (List (List ℕ))
+failed_names shelf = names_in shelf.failed
 
 abbrev pub shelf_calls : MemShelf → Calls
 shelf_calls shelf = calls_of shelf.failures

@@ -1,5 +1,5 @@
 -- What a shelf serves that never fails.
-use Rattle.std.specs.Prelude.{ℕ, List, Option, None}
+use Rattle.std.specs.Prelude.{ℕ, List, [], Option, None, Some}
 use Rattle.outside.specs.declared.sure.SureShelf.{SureShelf}
 use Rattle.outside.specs.Files.{Files}
 use Rattle.outside.specs.Memory.{files_in}
@@ -14,6 +14,17 @@ sure_files shelf = None
 
 abbrev pub sure_faults : SureShelf → ℕ
 sure_faults shelf = 0
+
+-- its reads, and the bytes that they gave
+abbrev pub sure_reads : SureShelf → ℕ
+sure_reads shelf = shelf.reads
+
+abbrev pub sure_given : SureShelf → ℕ
+sure_given shelf = shelf.given
+
+-- none of its writes fails
+abbrev pub sure_failed : SureShelf → Option (List (List ℕ))
+sure_failed shelf = Some []
 
 -- it holds nothing back
 abbrev pub sure_held : SureShelf → List ℕ → ℕ

@@ -2,8 +2,9 @@
 ghost use Rattle.std.specs.Prelude.{◌≡◌, ◌≢◌, ◌≤◌, ◌<◌, ◌+◌, ℕ, List, [], length, take, drop, IfOk, OnOk, OnErr, IfSome, IsSomeAnd, IsErr, option_map};
 ghost use Rattle.std.specs.FinMap.{get};
 ghost use Rattle.outside.specs.Files.{Lacks, ReadsFrom, appended, created, said};
-ghost use Rattle.outside.specs.Faults.{HasCause, one_more};
-ghost use Rattle.outside.specs.Disk.{disk_files, disk_held, disk_reading, disk_reads, disk_writing, output_bytes, output_faults};
+ghost use Rattle.outside.specs.Faults.{HasCause, HasFailed, more_by, one_more};
+ghost use Rattle.outside.specs.Held.{held_by};
+ghost use Rattle.outside.specs.Disk.{disk_failed, disk_files, disk_given, disk_held, disk_reading, disk_reads, disk_writing, output_bytes, output_faults};
 
 use crate::held::HeldFiles;
 use crate::{Failed, Out, Shelf};
@@ -24,6 +25,8 @@ pub struct DiskShelf<'a, R: Files> {
     rt: &'a R,
     reading: u64,
     writing: u64,
+    reads: u64,
+    given: u64,
     held: HeldFiles<R::File>,
 }
 
@@ -32,11 +35,15 @@ impl<'a, R: Files> DiskShelf<'a, R> {
     pub fn new(rt: &'a R) -> DiskShelf<'a, R>
         ensures reading { disk_reading result ≡ 0 }
         ensures writing { disk_writing result ≡ 0 }
+        ensures reads { disk_reads result ≡ 0 }
+        ensures given { disk_given result ≡ 0 }
     {
         DiskShelf {
             rt,
             reading: 0,
             writing: 0,
+            reads: 0,
+            given: 0,
             held: HeldFiles::new(false),
         }
     }
@@ -45,11 +52,15 @@ impl<'a, R: Files> DiskShelf<'a, R> {
     pub fn holding_back(rt: &'a R) -> DiskShelf<'a, R>
         ensures reading { disk_reading result ≡ 0 }
         ensures writing { disk_writing result ≡ 0 }
+        ensures reads { disk_reads result ≡ 0 }
+        ensures given { disk_given result ≡ 0 }
     {
         DiskShelf {
             rt,
             reading: 0,
             writing: 0,
+            reads: 0,
+            given: 0,
             held: HeldFiles::new(true),
         }
     }
@@ -64,6 +75,10 @@ impl<R: Files> Shelf for DiskShelf<'_, R> {
 
     ghost reads = { disk_reads };
 
+    ghost given = { disk_given };
+
+    ghost failed = { disk_failed };
+
     ghost held = { disk_held };
 
     fn read_at(&mut self, name: &str, at: u64, into: &mut [u8]) -> Result<usize, Failed>
@@ -75,13 +90,21 @@ impl<R: Files> Shelf for DiskShelf<'_, R> {
         ensures lacks { Lacks (disk_files self.old) name.now → IsErr result }
         ensures cause { HasCause (disk_reading self.old) (disk_reading self.new) (disk_writing self.old) (disk_writing self.new)
             (Lacks (disk_files self.old) name.now) result }
-        ensures reads { disk_reads self.new ≤ disk_reads self.old + 1 }
+        ensures reads { disk_reads self.new ≡ one_more (disk_reads self.old) }
+        ensures given { IfOk result (λ count. disk_given self.new ≡ more_by (disk_given self.old) count) }
+        ensures gave_none { OnErr result (disk_given self.new ≡ disk_given self.old) }
+        ensures failed_kept { disk_failed self.new ≡ disk_failed self.old }
+        ensures held { (any : List ℕ) → disk_held self.new any ≤ disk_held self.old any }
 
         // The count of reading faults rises by one exactly where the call fails.
         ensures by_one { OnErr result (disk_reading self.new ≡ one_more (disk_reading self.old)) }
     {
+        self.reads = self.reads.saturating_add(1);
         match read_file(self.rt, &mut self.held, name, at, into) {
-            Ok(count) => Ok(count),
+            Ok(count) => {
+                self.given = self.given.saturating_add(count as u64);
+                Ok(count)
+            }
             Err(_) => {
                 self.reading = self.reading.saturating_add(1);
                 Err(Failed)
@@ -94,6 +117,11 @@ impl<R: Files> Shelf for DiskShelf<'_, R> {
         ensures failed { OnErr result (disk_files self.new ≡ disk_files self.old) }
         ensures cause { HasCause (disk_writing self.old) (disk_writing self.new) (disk_reading self.old) (disk_reading self.new) ⊥ result }
         ensures reads { disk_reads self.new ≡ disk_reads self.old }
+        ensures given { disk_given self.new ≡ disk_given self.old }
+        ensures failed_kept { OnOk result (disk_failed self.new ≡ disk_failed self.old) }
+        ensures failed_name { OnErr result (HasFailed name.now (disk_failed self.old) (disk_failed self.new)) }
+        ensures forgotten { OnOk result (disk_held self.new name.now ≡ 0) }
+        ensures held { (other : List ℕ) → other ≢ name.now → disk_held self.new other ≤ disk_held self.old other }
 
         // The count of writing faults rises by one exactly where the call fails.
         ensures by_one { OnErr result (disk_writing self.new ≡ one_more (disk_writing self.old)) }
@@ -118,6 +146,9 @@ impl<R: Files> Shelf for DiskShelf<'_, R> {
         ensures cause { HasCause (disk_writing self.old) (disk_writing self.new) (disk_reading self.old) (disk_reading self.new)
             (Lacks (disk_files self.old) name.now) result }
         ensures reads { disk_reads self.new ≡ disk_reads self.old }
+        ensures given { disk_given self.new ≡ disk_given self.old }
+        ensures failed_kept { OnOk result (disk_failed self.new ≡ disk_failed self.old) }
+        ensures failed_name { OnErr result (HasFailed name.now (disk_failed self.old) (disk_failed self.new)) }
         ensures written_out { OnOk result (bytes.now ≡ [] → disk_held self.new name.now ≡ 0) }
         ensures held { (other : List ℕ) → other ≢ name.now → disk_held self.new other ≤ disk_held self.old other }
 
@@ -143,6 +174,7 @@ fn read_file<R: Files>(
 ) -> io::Result<usize>
     ensures count { IfOk result (λ count. count ≤ length into.old) }
     ensures rest { IfOk result (λ count. drop count into.new ≡ drop count into.old) }
+    ensures held { (any : List ℕ) → held_by held.new any ≤ held_by held.old any }
 {
     held.write_out(name)?;
     let mut file = File::open(rt, name)?;

@@ -1,7 +1,7 @@
 //! Files on disk with bytes that are held back, so that not each small piece is a call of the system.
 
-ghost use Rattle.std.specs.Prelude.{◌≡◌, ◌≢◌, ◌≤◌, ◌-◌, ℕ, List, [], length, false, IfOk, OnOk};
-ghost use Rattle.outside.specs.Held.{held_by, held_in, is_file_of};
+ghost use Rattle.std.specs.Prelude.{◌≡◌, ◌≢◌, ◌≤◌, ℕ, List, [], length, drop, false, IfOk, OnOk};
+ghost use Rattle.outside.specs.Held.{HasPassedOn, held_by, held_in, is_file_of};
 
 use arrayvec::{ArrayString, ArrayVec};
 use std::fs::OpenOptions;
@@ -46,7 +46,10 @@ impl<F: Write + Drop> HeldFiles<F> {
     }
 
     /// Closes the file by this name, without what is held back.
-    pub(crate) fn forget(&mut self, name: &str) {
+    pub(crate) fn forget(&mut self, name: &str)
+        ensures forgotten { held_by self.new name.now ≡ 0 }
+        ensures held { (any : List ℕ) → held_by self.new any ≤ held_by self.old any }
+    {
         if self.one.is_file(name) {
             self.one.close();
         }
@@ -121,7 +124,9 @@ impl<F: Write + Drop> HeldFile<F> {
     }
 
     /// Closes the file, without what is held back.
-    fn close(&mut self) {
+    fn close(&mut self)
+        ensures { (any : List ℕ) → held_in self.new any ≡ 0 }
+    {
         self.bytes.clear();
         self.file = None;
     }
@@ -186,10 +191,11 @@ impl<F: Write + Drop> HeldFile<F> {
 fn write_held<F: Write>(file: &mut F, bytes: &mut ArrayVec<u8, HELD>) -> io::Result<()>
     ensures all { OnOk result (length bytes.new.items ≡ 0) }
     ensures fewer { length bytes.new.items ≤ length bytes.old.items }
+    ensures passed { HasPassedOn (F.contents file.old) (F.contents file.new) bytes.old.items bytes.new.items }
 {
     let mut done = 0;
     while done < bytes.len() {
-        match file.write(&bytes[done..]) {
+        match file.write(&bytes.as_slice()[done..]) {
             Ok(count) if count > 0 => done += count,
             Ok(_) => {
                 keep_from(bytes, done);
@@ -205,12 +211,10 @@ fn write_held<F: Write>(file: &mut F, bytes: &mut ArrayVec<u8, HELD>) -> io::Res
     Ok(())
 }
 
-/// Keeps the bytes from a place on.
+/// Keeps the bytes from a number on.
 fn keep_from(bytes: &mut ArrayVec<u8, HELD>, start: usize)
     requires { start ≤ length bytes.old.items }
-    ensures { length bytes.new.items ≡ length bytes.old.items - start }
+    ensures { bytes.new.items ≡ drop start bytes.old.items }
 {
-    let rest = bytes.len() - start;
-    bytes.as_mut_slice().copy_within(start.., 0);
-    bytes.truncate(rest);
+    drop(bytes.drain(..start));
 }

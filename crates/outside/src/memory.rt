@@ -2,11 +2,12 @@
 ghost use Rattle.std.specs.Prelude.{◌≡◌, ◌≢◌, ◌≤◌, ◌<◌, ◌+◌, ℕ, List, [], Some, length, take, drop, IfOk, OnOk, OnErr, IfSome, IsSomeAnd, IsErr, option_map};
 ghost use Rattle.std.specs.FinMap.{empty, get, insert};
 ghost use Rattle.outside.specs.Files.{Lacks, ReadsFrom, appended, created, file_of};
-ghost use Rattle.outside.specs.Faults.{HasCause, one_more};
-ghost use Rattle.outside.specs.Memory.{reading_faults, read_calls, shelf_calls, shelf_files, shelf_held, writing_faults};
+ghost use Rattle.outside.specs.Faults.{HasCause, HasFailed, more_by, one_more};
+ghost use Rattle.outside.specs.Memory.{failed_names, reading_faults, read_bytes, read_calls, shelf_calls, shelf_files, shelf_held, writing_faults};
 ghost use Rattle.outside.specs.Calls.{FailsNext, next_of};
 
 use crate::copy::copy_from;
+use crate::failed_names::FailedNames;
 use crate::failures::Failures;
 use crate::store::{Store, append_to, find, put};
 use crate::{Failed, Shelf};
@@ -22,6 +23,8 @@ pub struct MemShelf {
     reading: u64,
     writing: u64,
     reads: u64,
+    given: u64,
+    failed: FailedNames,
 }
 
 impl MemShelf {
@@ -32,6 +35,8 @@ impl MemShelf {
         ensures reading { IfOk result (λ shelf. reading_faults shelf ≡ 0) }
         ensures writing { IfOk result (λ shelf. writing_faults shelf ≡ 0) }
         ensures reads { IfOk result (λ shelf. read_calls shelf ≡ 0) }
+        ensures given { IfOk result (λ shelf. read_bytes shelf ≡ 0) }
+        ensures failed { IfOk result (λ shelf. failed_names shelf ≡ Some []) }
     {
         Ok(MemShelf {
             alloc,
@@ -40,6 +45,8 @@ impl MemShelf {
             reading: 0,
             writing: 0,
             reads: 0,
+            given: 0,
+            failed: FailedNames::new(alloc),
         })
     }
 
@@ -52,6 +59,8 @@ impl MemShelf {
         ensures reading { reading_faults self.new ≡ reading_faults self.old }
         ensures writing { writing_faults self.new ≡ writing_faults self.old }
         ensures reads { read_calls self.new ≡ read_calls self.old }
+        ensures given { read_bytes self.new ≡ read_bytes self.old }
+        ensures failed { failed_names self.new ≡ failed_names self.old }
     {
         put(&mut self.files, alloc, name, bytes.to_vec(alloc)?)
     }
@@ -73,6 +82,10 @@ impl Shelf for MemShelf {
 
     ghost reads = { read_calls };
 
+    ghost given = { read_bytes };
+
+    ghost failed = { failed_names };
+
     ghost held = { shelf_held };
 
     fn read_at(&mut self, name: &str, at: u64, into: &mut [u8]) -> Result<usize, Failed>
@@ -84,7 +97,11 @@ impl Shelf for MemShelf {
         ensures lacks { Lacks (shelf_files self.old) name.now → IsErr result }
         ensures cause { HasCause (reading_faults self.old) (reading_faults self.new) (writing_faults self.old) (writing_faults self.new)
             (Lacks (shelf_files self.old) name.now) result }
-        ensures reads { read_calls self.new ≤ read_calls self.old + 1 }
+        ensures reads { read_calls self.new ≡ one_more (read_calls self.old) }
+        ensures given { IfOk result (λ count. read_bytes self.new ≡ more_by (read_bytes self.old) count) }
+        ensures gave_none { OnErr result (read_bytes self.new ≡ read_bytes self.old) }
+        ensures failed_kept { failed_names self.new ≡ failed_names self.old }
+        ensures held { (any : List ℕ) → shelf_held self.new any ≤ shelf_held self.old any }
 
         // The call is counted. Where it is listed it fails and its count rises by one; else it fails only for a lacking name.
         ensures called { shelf_calls self.new ≡ next_of (shelf_calls self.old) }
@@ -98,7 +115,11 @@ impl Shelf for MemShelf {
             return Err(Failed);
         }
         match find(&self.files, name) {
-            Some(bytes) => Ok(copy_from(bytes, at, into)),
+            Some(bytes) => {
+                let count = copy_from(bytes, at, into);
+                self.given = self.given.saturating_add(count as u64);
+                Ok(count)
+            }
             None => Err(Failed),
         }
     }
@@ -108,6 +129,11 @@ impl Shelf for MemShelf {
         ensures failed { OnErr result (shelf_files self.new ≡ shelf_files self.old) }
         ensures cause { HasCause (writing_faults self.old) (writing_faults self.new) (reading_faults self.old) (reading_faults self.new) ⊥ result }
         ensures reads { read_calls self.new ≡ read_calls self.old }
+        ensures given { read_bytes self.new ≡ read_bytes self.old }
+        ensures failed_kept { OnOk result (failed_names self.new ≡ failed_names self.old) }
+        ensures failed_name { OnErr result (HasFailed name.now (failed_names self.old) (failed_names self.new)) }
+        ensures forgotten { OnOk result (shelf_held self.new name.now ≡ 0) }
+        ensures held { (other : List ℕ) → other ≢ name.now → shelf_held self.new other ≤ shelf_held self.old other }
 
         // The call is counted. Where it is listed it fails; its count rises by one exactly where it fails.
         ensures called { shelf_calls self.new ≡ next_of (shelf_calls self.old) }
@@ -116,12 +142,14 @@ impl Shelf for MemShelf {
     {
         if self.failures.fails_now() {
             self.writing = self.writing.saturating_add(1);
+            self.failed.add(name);
             return Err(Failed);
         }
         match put(&mut self.files, self.alloc, name, Vec::new(self.alloc)) {
             Ok(()) => Ok(()),
             Err(_) => {
                 self.writing = self.writing.saturating_add(1);
+                self.failed.add(name);
                 Err(Failed)
             }
         }
@@ -137,6 +165,9 @@ impl Shelf for MemShelf {
         ensures cause { HasCause (writing_faults self.old) (writing_faults self.new) (reading_faults self.old) (reading_faults self.new)
             (Lacks (shelf_files self.old) name.now) result }
         ensures reads { read_calls self.new ≡ read_calls self.old }
+        ensures given { read_bytes self.new ≡ read_bytes self.old }
+        ensures failed_kept { OnOk result (failed_names self.new ≡ failed_names self.old) }
+        ensures failed_name { OnErr result (HasFailed name.now (failed_names self.old) (failed_names self.new)) }
         ensures written_out { OnOk result (bytes.now ≡ [] → shelf_held self.new name.now ≡ 0) }
         ensures held { (other : List ℕ) → other ≢ name.now → shelf_held self.new other ≤ shelf_held self.old other }
 
@@ -151,13 +182,18 @@ impl Shelf for MemShelf {
     {
         if self.failures.fails_now() {
             self.writing = self.writing.saturating_add(1);
+            self.failed.add(name);
             return Err(Failed);
         }
         match append_to(&mut self.files, self.alloc, name, bytes) {
             Ok(true) => Ok(bytes.len()),
-            Ok(false) => Err(Failed),
+            Ok(false) => {
+                self.failed.add(name);
+                Err(Failed)
+            }
             Err(_) => {
                 self.writing = self.writing.saturating_add(1);
+                self.failed.add(name);
                 Err(Failed)
             }
         }

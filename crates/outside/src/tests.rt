@@ -77,6 +77,14 @@ fn files_are_kept_on_disk(rt: HostRuntime) -> Result<(), Fail> {
     assert_eq!(rt; fault, Some(ReadFault::Failed));
     assert_eq!(rt; shelf.create("no_folder/disk.bin"), Err(Failed));
     let mut shelf = DiskShelf::holding_back(&rt);
+    // what is held back of a file is gone once the file is made again
+    assert_eq!(rt; shelf.create("disk.bin"), Ok(()));
+    assert_eq!(rt; append_all(&mut shelf, "disk.bin", b"gone"), Ok(()));
+    assert_eq!(rt; shelf.create("disk.bin"), Ok(()));
+    assert_eq!(rt; append_all(&mut shelf, "disk.bin", b"kept"), Ok(()));
+    assert_eq!(rt; write_out(&mut shelf, "disk.bin"), Ok(()));
+    let bytes = read_all(alloc, &mut shelf, "disk.bin", 4).expect(&rt, "what was kept");
+    assert_eq!(rt; bytes.as_slice(), b"kept".as_slice());
     let names = ["one.bin", "two.bin", "three.bin"];
     for name in names {
         assert_eq!(rt; shelf.create(name), Ok(()));

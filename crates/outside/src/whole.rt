@@ -2,7 +2,7 @@
 ghost use Rattle.std.specs.Prelude.{◌≡◌, ◌≢◌, ◌⊎◌, ℕ, List, ◌≤◌, ◌<◌, ◌+◌, length, option_map, IfOk, OnOk, OnErr, IfSome, IsSomeAnd, IsErr, IsErrOf};
 ghost use Rattle.std.specs.FinMap.{get};
 ghost use Rattle.outside.specs.Files.{Lacks, AppendedSome, SaidSome, appended, said};
-ghost use Rattle.outside.specs.Faults.{Rose, HasCause};
+ghost use Rattle.outside.specs.Faults.{Rose, HasCause, HasFailed, more_by};
 ghost use Rattle.outside.specs.declared.whole.ReadFault.TheVariants.{Memory};
 
 use crate::{Failed, Out, Shelf};
@@ -45,6 +45,10 @@ pub fn read_all<S: Shelf>(
     ensures kept_memory { IsErrOf result ReadFault.Memory → S.reading shelf.new ≡ S.reading shelf.old }
     ensures writing { S.writing shelf.new ≡ S.writing shelf.old }
     ensures reads { S.reads shelf.new ≤ S.reads shelf.old + limit + 2 }
+    ensures given { IfOk result (λ bytes. S.given shelf.new ≡ more_by (S.given shelf.old) (length bytes.items)) }
+    ensures given_long { IsErrOf result ReadFault.TooLong → (more : ℕ) × (limit < more) × (S.given shelf.new ≡ more_by (S.given shelf.old) more) }
+    ensures failed_kept { S.failed shelf.new ≡ S.failed shelf.old }
+    ensures held { (any : List ℕ) → S.held shelf.new any ≤ S.held shelf.old any }
 {
     let mut bytes = Vec::new(alloc);
     let mut chunk = [0u8; 4096];
@@ -73,6 +77,10 @@ pub fn append_all<S: Shelf>(shelf: &mut S, name: &str, bytes: &[u8]) -> Result<(
     ensures cause { HasCause (S.writing shelf.old) (S.writing shelf.new) (S.reading shelf.old) (S.reading shelf.new)
         (Lacks (S.files shelf.old) name.now) result }
     ensures reads { S.reads shelf.new ≡ S.reads shelf.old }
+    ensures given { S.given shelf.new ≡ S.given shelf.old }
+    ensures failed_kept { OnOk result (S.failed shelf.new ≡ S.failed shelf.old) }
+    ensures failed_name { OnErr result (HasFailed name.now (S.failed shelf.old) (S.failed shelf.new)) }
+    ensures held { (other : List ℕ) → other ≢ name.now → S.held shelf.new other ≤ S.held shelf.old other }
 {
     let mut done = shelf.append(name, bytes)?;
     'appending: while done < bytes.len() {
@@ -88,6 +96,9 @@ pub fn write_out<S: Shelf>(shelf: &mut S, name: &str) -> Result<(), Failed>
     ensures cause { HasCause (S.writing shelf.old) (S.writing shelf.new) (S.reading shelf.old) (S.reading shelf.new)
         (Lacks (S.files shelf.old) name.now) result }
     ensures reads { S.reads shelf.new ≡ S.reads shelf.old }
+    ensures given { S.given shelf.new ≡ S.given shelf.old }
+    ensures failed_kept { OnOk result (S.failed shelf.new ≡ S.failed shelf.old) }
+    ensures failed_name { OnErr result (HasFailed name.now (S.failed shelf.old) (S.failed shelf.new)) }
     ensures written_out { OnOk result (S.held shelf.new name.now ≡ 0) }
     ensures held { (other : List ℕ) → other ≢ name.now → S.held shelf.new other ≤ S.held shelf.old other }
 {

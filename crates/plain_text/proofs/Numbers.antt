@@ -1,5 +1,6 @@
 -- Numbers in decimal digits, as the words write them.
-use Rattle.std.proofs.Common.{◌≡◌, ℕ, ◌+◌, ◌*◌, ◌-◌, ◌^◌, take, ◌<◌, ◌≤◌, List, zero, suc, length, get_or, refl, sym, ◌∙◌, ap, arith, lt-ltb, ltb-true, ltb-false, leb-true}
+use Rattle.std.proofs.Common.{◌≡◌, ℕ, ◌+◌, ◌*◌, ◌-◌, ◌^◌, take, ◌<◌, ◌≤◌, List, zero, suc, length, get_or, refl, sym, ◌∙◌, ap, arith, lt-ltb}
+use Rattle.std.proofs.Common.{ltb-true, ltb-false, leb-true}
 use Rattle.std.proofs.lemmas.Bool.{eq-eqb, eqb-true, le-leb}
 use Rattle.std.proofs.lemmas.Fmt.{decimal-digits_value, digits_value-decimal, digits_decimal, decimal_nonempty, decimal_digit, first_decimal}
 use Rattle.std.specs.Prelude.{◌==◌, decimal, Option, Some, None, Bool, true, false, not, ◌&&◌, nat_lt, nat_le, if◌then◌else◌}
@@ -38,17 +39,20 @@ pub number_read : (least most value : ℕ) (text : List ℕ) → 0 < length text
     → ((i : ℕ) → i < length text → IsInRange 48 57 (get_or text i 0)) → value ≡ digits_value 10 text
     → number least most text ≡ (if nat_le least value && nat_le value most then Some value else None)
 number_read least most value text some short digits is =
-    rw is (passed (all_ascii_digits text) (nat_lt 0 (length text)) (is_padded text) (nat_le least (digits_value 10 text)) (nat_le (digits_value 10 text) most) _ (own.from text (own_by_index.to text digits)) (lt-ltb 0 (length text) some) short)
+    rw is (passed (all_ascii_digits text) (nat_lt 0 (length text)) (is_padded text) (nat_le least (digits_value 10 text)) (nat_le (digits_value 10 text) most) _
+        (own.from text (own_by_index.to text digits)) (lt-ltb 0 (length text) some) short)
 
 -- a text with another byte than a digit
 pub not_digits : (least most i : ℕ) (text : List ℕ) → i < length text → ¬ IsInRange 48 57 (get_or text i 0) → number least most text ≡ None
 not_digits least most i text below other =
-    failed (all_ascii_digits text) (nat_lt 0 (length text)) (is_padded text) (nat_le least (digits_value 10 text)) (nat_le (digits_value 10 text) most) _ (λ digits some small. other (digit_at text i (own.to text digits) below))
+    failed (all_ascii_digits text) (nat_lt 0 (length text)) (is_padded text) (nat_le least (digits_value 10 text)) (nat_le (digits_value 10 text) most) _
+        (λ digits some small. other (digit_at text i (own.to text digits) below))
 
 -- a text without a byte
 pub not_empty : (least most : ℕ) (text : List ℕ) → length text ≡ 0 → number least most text ≡ None
 not_empty least most text none =
-    failed (all_ascii_digits text) (nat_lt 0 (length text)) (is_padded text) (nat_le least (digits_value 10 text)) (nat_le (digits_value 10 text) most) _ (λ digits some small. let one : 0 < length text = ltb-true 0 (length text) some in absurd (omega arith))
+    failed (all_ascii_digits text) (nat_lt 0 (length text)) (is_padded text) (nat_le least (digits_value 10 text)) (nat_le (digits_value 10 text) most) _
+        (λ digits some small. let one : 0 < length text = ltb-true 0 (length text) some in absurd (omega arith))
 
 unshort : (a b p l m : Bool) (x : Option ℕ) → p ≡ true → (if a && b && not p && l && m then x else None) ≡ None
 unshort a b false l m x e = absurd (cc)
@@ -63,7 +67,8 @@ not_padded least most text padded = unshort (all_ascii_digits text) (nat_lt 0 (l
 pub not_small : (least most i value : ℕ) (text : List ℕ) → value ≡ digits_value 10 (take i text) → most < value → number least most text ≡ None
 not_small least most i value text is above =
     let more = digits_value-take-le 10 text i (omega arith) in
-    failed (all_ascii_digits text) (nat_lt 0 (length text)) (is_padded text) (nat_le least (digits_value 10 text)) (nat_le (digits_value 10 text) most) _ (λ digits some small. let below : digits_value 10 text ≤ most = leb-true _ _ small in absurd (omega arith))
+    failed (all_ascii_digits text) (nat_lt 0 (length text)) (is_padded text) (nat_le least (digits_value 10 text)) (nat_le (digits_value 10 text) most) _
+        (λ digits some small. let below : digits_value 10 text ≤ most = leb-true _ _ small in absurd (omega arith))
 
 -- one more digit
 pub one_more_digit : (i value : ℕ) (text : List ℕ) → i < length text → IsInRange 48 57 (get_or text i 0) → value ≡ digits_value 10 (take i text)
@@ -127,7 +132,8 @@ decimal_unpadded : (n : ℕ) → n < 2 ^ 32 → is_padded (decimal n) ≡ false
 decimal_unpadded zero range = rw (decimal_digit 0 (omega arith)) refl
 decimal_unpadded (suc n) range =
     let first : 48 < get_or (decimal (suc n)) 0 0 = first_decimal (suc n) (omega arith) (omega arith) in
-    and_false (nat_lt 1 (length (decimal (suc n)))) _ (never_true _ (λ is. let same : get_or (decimal (suc n)) 0 0 ≡ 48 = eqb-true _ _ is in absurd (omega arith)))
+    and_false (nat_lt 1 (length (decimal (suc n)))) _ (never_true _ (λ is. let same : get_or (decimal (suc n)) 0 0 ≡ 48 = eqb-true _ _ is in
+        absurd (omega arith)))
 
 pub reads_decimal : (least most n : ℕ) (text : List ℕ) → most < 2 ^ 32
     → (text ≡ decimal n) × (least ≤ n) × (n ≤ most) → number least most text ≡ Some n

@@ -4,7 +4,7 @@ use Rattle.std.specs.Prelude.{◌==◌, Bool, true, false, cond, filter, All, sl
 use Rattle.std.proofs.lemmas.List.{append-nil, length-map}
 use Rattle.std.proofs.lemmas.List.Elements.{All-head, All-tail}
 use Rattle.command_set.specs.Entries.{EntryData, LoggedData, entries_of, sent_by}
-use Rattle.lateness.specs.Late.{AreDue, IsOff}
+use Rattle.lateness.specs.Late.{AreDue, IsLateOrLeft}
 use Rattle.script_plan.specs.Plan.{PlannedData, due_blocks}
 use Rattle.players.specs.Players.{entries}
 use Rattle.turns.specs.Turns.{blocks_of, others_than, plan_of, many_commands}
@@ -19,7 +19,7 @@ not_below a b le not = ⊎_elim (λ (lt : a < b). absurd (not lt)) (λ (ge : b �
     decided a b = grind arith
 
 -- where no command is late or left, the blocks are those that the commands are due at
-on_due : (ds blocks : List ℕ) → AreDue ds blocks → ((i : ℕ) → i < length ds → IsOff ds blocks i → ⊥) → blocks ≡ ds
+on_due : (ds blocks : List ℕ) → AreDue ds blocks → ((i : ℕ) → i < length ds → IsLateOrLeft ds blocks i → ⊥) → blocks ≡ ds
 on_due [] [] due none = refl
 on_due [] (b ∷ blocks) due none = absurd due
 on_due (d ∷ ds) [] due none = absurd (none 0 (omega arith) (inl (omega arith)))
@@ -28,7 +28,7 @@ on_due (d ∷ ds) (b ∷ blocks) due none =
     let rest : blocks ≡ ds = on_due ds blocks due.1 (λ i lt off. none (suc i) (omega arith) (later i off)) in
     ap (λ (x : ℕ). x ∷ blocks) first ∙ ap (λ (l : List ℕ). d ∷ l) rest
   where
-    later : (i : ℕ) → IsOff ds blocks i → IsOff (d ∷ ds) (b ∷ blocks) (suc i)
+    later : (i : ℕ) → IsLateOrLeft ds blocks i → IsLateOrLeft (d ∷ ds) (b ∷ blocks) (suc i)
     later i (inl le) = inl (omega arith)
     later i (inr lt) = inr lt
 

@@ -1,5 +1,6 @@
 -- A turn of many players, by parts.
-use Rattle.std.proofs.Common.{◌≡◌, ℕ, zero, suc, ◌+◌, ◌-◌, ◌≤◌, ◌<◌, List, [], ◌∷◌, ◌++◌, length, get_or, set, refl, sym, ap, ◌∙◌, subst, inl, inr, arith, length-append}
+use Rattle.std.proofs.Common.{◌≡◌, ℕ, zero, suc, ◌+◌, ◌-◌, ◌≤◌, ◌<◌, List, [], ◌∷◌, ◌++◌, length, get_or, set, refl, sym, ap, ◌∙◌, subst, inl, inr, arith}
+use Rattle.std.proofs.Common.{length-append}
 use Rattle.std.specs.Prelude.{◌⊎◌, All}
 use Rattle.std.proofs.lemmas.Bool.{cases_lt}
 use Rattle.std.proofs.lemmas.List.{get_or_append_left, get_or-append_right}
@@ -19,15 +20,18 @@ pub second_all : (P : PlayerView → Type 0) (xs ys : List PlayerView) → All P
 second_all P xs ys all k d lt =
     let l = length-append xs ys in
     let e : (length xs + k) - length xs ≡ k = omega arith in
-    subst P (get_or-append_right xs ys (length xs) (length xs + k) d refl (omega arith) ∙ ap (λ (i : ℕ). get_or ys i d) e) (all (length xs + k) d (omega (arith, l, lt)))
+    subst P (get_or-append_right xs ys (length xs) (length xs + k) d refl (omega arith)
+        ∙ ap (λ (i : ℕ). get_or ys i d) e) (all (length xs + k) d (omega (arith, l, lt)))
 
-pub both_turned : (t : ℕ) (xs ys xs' ys' : List PlayerView) → length xs' ≡ length xs → AllTurned t xs xs' → AllTurned t ys ys' → AllTurned t (xs ++ ys) (xs' ++ ys')
+pub both_turned : (t : ℕ) (xs ys xs' ys' : List PlayerView) → length xs' ≡ length xs → AllTurned t xs xs' → AllTurned t ys ys'
+    → AllTurned t (xs ++ ys) (xs' ++ ys')
 both_turned t xs ys xs' ys' same first second k d lt = at (cases_lt k (length xs)) where
   at : (k < length xs) ⊎ (length xs ≤ k) → Turned t (get_or (xs ++ ys) k d) (get_or (xs' ++ ys') k d)
   at (inl inside) = rw (get_or_append_left xs ys d k inside, get_or_append_left xs' ys' d k (omega (arith, inside, same))) (first k d inside)
   at (inr after) =
       let l = length-append xs ys in
-      rw (get_or-append_right xs ys (length xs) k d refl after, get_or-append_right xs' ys' (length xs) k d same after) (second (k - length xs) d (omega (arith, l, lt, after)))
+      rw (get_or-append_right xs ys (length xs) k d refl after, get_or-append_right xs' ys' (length xs) k d same after)
+          (second (k - length xs) d (omega (arith, l, lt, after)))
 
 -- a list of one player
 pub one_turned : (t : ℕ) (ps : List PlayerView) (p q : PlayerView) → length ps ≡ 1 → p ≡ get_or ps 0 p → Turned t p q → AllTurned t ps (set ps 0 q)

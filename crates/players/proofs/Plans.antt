@@ -38,7 +38,8 @@ none_first (c ∷ cs) t is = absurd (none_some is) where
   none_some e = cc
 
 -- the player after a command was sent
-pub ready_sent : (line : LineView) (p q : PlayerView) (c : PlannedData) (x : EntryData) → IsReady line p → p.left ≡ c ∷ q.left → q.end ≡ accepted p.end x → IsReady line q
+pub ready_sent : (line : LineView) (p q : PlayerView) (c : PlannedData) (x : EntryData) → IsReady line p → p.left ≡ c ∷ q.left → q.end ≡ accepted p.end x
+    → IsReady line q
 ready_sent line p q c x h left end =
     let list : length q.end.list ≡ length p.end.list + 1 = ap (λ (e : SendView). length e.list) end ∙ length-append p.end.list (x ∷ []) in
     let fewer : length p.left ≡ length q.left + 1 = ap length left ∙ one_more (length q.left) in

@@ -5,8 +5,8 @@ use Rattle.command_queue.specs.Ends.{LineView, SendView, quota_of, others_of, ac
 use Rattle.lateness.specs.Late.{AllBelow, AllFrom, FirstBelow}
 use Rattle.script_plan.specs.declared.script.Planned.{Planned}
 use Rattle.script_plan.specs.Plan.{PlannedData, planned_data, IsPlan, due_blocks}
-use Rattle.players.specs.declared.player.Step.{Step}
-use Rattle.players.specs.declared.player.Step.TheVariants as step
+use Rattle.players.specs.declared.player.SendOutcome.{SendOutcome}
+use Rattle.players.specs.declared.player.SendOutcome.TheVariants as outcome
 
 pub record PlayerView : Type 0 where
   pub end : SendView
@@ -32,12 +32,12 @@ abbrev pub AreReady : LineView → List PlayerView → Type 0
 AreReady line players = All (λ p. IsReady line p) players
 
 -- what one send did: it sent the first command, which is due; or the line was full; or nothing that is left is due
-abbrev pub Stepped : Step → ℕ → PlayerView → PlayerView → Type 0
-Stepped step.Sent t p q =
+abbrev pub SentNext : SendOutcome → ℕ → PlayerView → PlayerView → Type 0
+SentNext outcome.Sent t p q =
     (c : PlannedData) × (p.left ≡ c ∷ q.left) × (c.due ≤ t) × (q.end ≡ accepted p.end (entry_of p.end c.due c.command)) × (q.logged ≡ p.logged)
-Stepped step.Refused t p q =
+SentNext outcome.Refused t p q =
     (q ≡ record p { end = refused p.end }) × FirstBelow (t + 1) (due_blocks p.left) × (p.end.line.places ≤ length p.end.list + others_of p.end)
-Stepped step.NotDue t p q = (q ≡ p) × AllFrom (t + 1) (due_blocks p.left)
+SentNext outcome.NotDue t p q = (q ≡ p) × AllFrom (t + 1) (due_blocks p.left)
 
 -- the entries of commands of a script, from the number seq on
 abbrev pub entries : ℕ → ℕ → List PlannedData → List EntryData

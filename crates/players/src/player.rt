@@ -2,7 +2,7 @@
 ghost use Rattle.std.specs.Prelude.{◌≡◌, ◌+◌, ◌<◌, ◌≤◌, MatchBool, IsTrue, length, ◌↔◌};
 ghost use Rattle.lateness.specs.Late.{AllFrom, FirstBelow};
 ghost use Rattle.script_plan.specs.Plan.{due_blocks};
-ghost use Rattle.players.specs.Players.{PlayerView, IsReady, Stepped, Turned};
+ghost use Rattle.players.specs.Players.{PlayerView, IsReady, SentNext, Turned};
 
 use crate::due::{next_due, pop_first};
 use command_queue::{Line, SendEnd};
@@ -32,7 +32,7 @@ impl Model for Player {
 
 /// What the try to send the first command that is left came to.
 #[derive(Clone, Copy, PartialEq, Eq, Drop)]
-pub enum Step {
+pub enum SendOutcome {
     /// The line accepted it.
     Sent,
     /// The line was full, and the command is kept.
@@ -72,7 +72,7 @@ impl Player {
     }
 
     /// One more of its entries was found in the journal.
-    pub fn note(&mut self)
+    pub fn count_logged(&mut self)
         requires { self.old.logged < 18446744073709551615 }
         ensures { self.new ≡ record self.old { logged = self.old.logged + 1 } }
     {
@@ -97,26 +97,26 @@ impl Player {
     }
 
     // Sends the first command that is left, if it is due and the line has room.
-    fn step<R: Wait>(&mut self, rt: &R, line: &Line, turn: u32) -> Step
+    fn send_next<R: Wait>(&mut self, rt: &R, line: &Line, turn: u32) -> SendOutcome
         requires { IsReady line.now self.old }
         ensures ready { IsReady line.now self.new }
-        ensures step { Stepped result turn self.old self.new }
+        ensures sent { SentNext result turn self.old self.new }
     {
         if !self.is_due(turn) {
-            return Step::NotDue;
+            return SendOutcome::NotDue;
         }
         let Some(planned) = pop_first(&mut self.refused, &mut self.script) else {
-            return Step::NotDue;
+            return SendOutcome::NotDue;
         };
         let due = planned.due;
         match line.send(rt, &mut self.end, due, planned.command) {
-            Ok(_) => Step::Sent,
+            Ok(_) => SendOutcome::Sent,
             Err(full) => {
                 self.refused = Some(Planned {
                     due,
                     command: full.command,
                 });
-                Step::Refused
+                SendOutcome::Refused
             }
         }
     }
@@ -128,10 +128,10 @@ impl Player {
         ensures turned { Turned turn self.old self.new }
     {
         for _ in rt.forever() {
-            match self.step(rt, line, turn) {
-                Step::Sent => {}
-                Step::Refused => return,
-                Step::NotDue => return,
+            match self.send_next(rt, line, turn) {
+                SendOutcome::Sent => {}
+                SendOutcome::Refused => return,
+                SendOutcome::NotDue => return,
             }
         }
         unreachable!()

@@ -1,5 +1,6 @@
 -- One feed after another.
-use Rattle.std.proofs.Common.{◌≡◌, ℕ, ◌+◌, ◌≤◌, List, [], ◌∷◌, ◌++◌, length, take, Bool, Option, Some, None, refl, ap, subst, sym, ◌∙◌, arith, append_assoc, append-nil, length-append}
+use Rattle.std.proofs.Common.{◌≡◌, ℕ, ◌+◌, ◌≤◌, List, [], ◌∷◌, ◌++◌, length, take, Bool, Option, Some, None, refl, ap, subst, sym, ◌∙◌, arith, append_assoc}
+use Rattle.std.proofs.Common.{append-nil, length-append}
 use Rattle.std.specs.List.{count_by}
 use Rattle.std.proofs.lemmas.List.Sums.{sum_by-append}
 use Rattle.std.specs.Prelude.{cond}
@@ -33,7 +34,8 @@ count_by-append : (p : MessageOutcome → Bool) (xs ys : List MessageOutcome) �
 count_by-append p xs ys = sum_by-append (λ t. cond (p t) 1 0) xs ys
 
 -- one feed that did not stop, and then another
-pub handles_more : (now later : List MessageOutcome) (old between new : SendView) (one two both : Fed) → one.stop ≡ All → Handles now old between one → Handles later between new two
+pub handles_more : (now later : List MessageOutcome) (old between new : SendView) (one two both : Fed) → one.stop ≡ All → Handles now old between one
+    → Handles later between new two
     → both.stop ≡ two.stop → both.sent ≡ one.sent + two.sent → both.passed_over ≡ one.passed_over + two.passed_over → both.refused ≡ one.refused + two.refused
     → Handles (now ++ later) old new both
 handles_more now later old between new one two both all h k stop sent passed refused =
@@ -50,7 +52,8 @@ handles_more now later old between new one two both all h k stop sent passed ref
     }
 
 -- what a feed has done once so many of its bytes were used
-pub record Reached (was reader : MidiReader) (was_curve curve : Curve) (was_kept keeps : Option Kept) (bytes : List ℕ) (index : ℕ) (old new : SendView) (fed : Fed) : Type 0 where
+pub record Reached (was reader : MidiReader) (was_curve curve : Curve) (was_kept keeps : Option Kept) (bytes : List ℕ) (index : ℕ) (old new : SendView)
+    (fed : Fed) : Type 0 where
   pub used : fed.used ≡ index
   pub line : new.line ≡ old.line
   pub number : new.number ≡ old.number
@@ -85,7 +88,8 @@ full_by keeps fed end g = rw g.stop tt
 pub reached_first :
     (was reader : MidiReader) (was_curve curve : Curve) (was_kept keeps : Option Kept) (bytes : List ℕ) (old new : SendView) (fed : Fed)
     → OneMore old new 0 fed
-    → ((done : List MessageOutcome) (stream : List ℕ) → HasUsed was was_curve was_kept done stream → (now : List MessageOutcome) × (HasUsed reader curve keeps (done ++ now) stream × Handles now old new fed))
+    → ((done : List MessageOutcome) (stream : List ℕ) → HasUsed was was_curve was_kept done stream → (now : List MessageOutcome)
+        × (HasUsed reader curve keeps (done ++ now) stream × Handles now old new fed))
     → Reached was reader was_curve curve was_kept keeps bytes 0 old new fed
 reached_first was reader was_curve curve was_kept keeps bytes old new fed one received = record {
   used = one.used_is;
@@ -99,14 +103,18 @@ reached_first was reader was_curve curve was_kept keeps bytes old new fed one re
 
 -- one byte later
 pub reached_more :
-    (was reader later : MidiReader) (was_curve curve later_curve : Curve) (was_kept keeps later_kept : Option Kept) (bytes : List ℕ) (index byte : ℕ) (old new last : SendView) (fed two both : Fed)
+    (was reader later : MidiReader) (was_curve curve later_curve : Curve) (was_kept keeps later_kept : Option Kept) (bytes : List ℕ) (index byte : ℕ)
+        (old new last : SendView) (fed two both : Fed)
     → fed.stop ≡ All → Reached was reader was_curve curve was_kept keeps bytes index old new fed
     → take (index + 1) bytes ≡ take index bytes ++ byte ∷ []
     → OneMore new last 1 two
-    → ((done : List MessageOutcome) (stream : List ℕ) → HasUsed reader curve keeps done stream → (now : List MessageOutcome) × (HasUsed later later_curve later_kept (done ++ now) (stream ++ byte ∷ []) × Handles now new last two))
-    → both ≡ record { used = fed.used + two.used; sent = fed.sent + two.sent; passed_over = fed.passed_over + two.passed_over; refused = fed.refused + two.refused; stop = two.stop }
+    → ((done : List MessageOutcome) (stream : List ℕ) → HasUsed reader curve keeps done stream → (now : List MessageOutcome)
+        × (HasUsed later later_curve later_kept (done ++ now) (stream ++ byte ∷ []) × Handles now new last two))
+    → both ≡ record { used = fed.used + two.used; sent = fed.sent + two.sent; passed_over = fed.passed_over + two.passed_over; refused =
+        fed.refused + two.refused; stop = two.stop }
     → Reached was later was_curve later_curve was_kept later_kept bytes (index + 1) old last both
-reached_more was reader later was_curve curve later_curve was_kept keeps later_kept bytes index byte old new last fed two both stop r taken one received b = record {
+reached_more was reader later was_curve curve later_curve was_kept keeps later_kept bytes index byte old new last fed two both stop r taken one received b =
+    record {
   used = (let u : both.used ≡ fed.used + two.used = ap (λ (f : Fed). f.used) b in omega (arith, u, r.used, one.used_is));
   line = one.line ∙ r.line;
   number = one.number ∙ r.number;
@@ -121,11 +129,13 @@ reached_more was reader later was_curve curve later_curve was_kept keeps later_k
   received = λ done stream u.
       (let h = r.received done stream u in
       let k = received (done ++ h.0) (stream ++ take index bytes) h.1.0 in
-      let bytes_so_far : (stream ++ take index bytes) ++ byte ∷ [] ≡ stream ++ take (index + 1) bytes = append_assoc stream (take index bytes) (byte ∷ []) ∙ ap (λ (bs : List ℕ). stream ++ bs) (sym taken) in (
+      let bytes_so_far : (stream ++ take index bytes) ++ byte ∷ [] ≡ stream ++ take (index + 1) bytes = append_assoc stream (take index bytes) (byte ∷ [])
+          ∙ ap (λ (bs : List ℕ). stream ++ bs) (sym taken) in (
         h.0 ++ k.0,
         (
           rw (← append_assoc done h.0 k.0, ← bytes_so_far) k.1.0,
-          handles_more h.0 k.0 old new last fed two both stop h.1.1 k.1.1 (ap (λ (f : Fed). f.stop) b) (ap (λ (f : Fed). f.sent) b) (ap (λ (f : Fed). f.passed_over) b) (ap (λ (f : Fed). f.refused) b),
+          handles_more h.0 k.0 old new last fed two both stop h.1.1 k.1.1 (ap (λ (f : Fed). f.stop) b) (ap (λ (f : Fed). f.sent) b)
+              (ap (λ (f : Fed). f.passed_over) b) (ap (λ (f : Fed). f.refused) b),
         ),
       ));
 }

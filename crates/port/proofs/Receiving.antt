@@ -1,12 +1,13 @@
 -- One more byte of a stream, and what comes of it.
-use Rattle.std.proofs.Common.{◌≡◌, ℕ, ◌+◌, ◌≤◌, List, [], ◌∷◌, ◌++◌, length, map, Option, Some, None, refl, ap, sym, ◌∙◌, arith, append_assoc, append-nil, length-append}
+use Rattle.std.proofs.Common.{◌≡◌, ℕ, ◌+◌, ◌≤◌, List, [], ◌∷◌, ◌++◌, length, map, Option, Some, None, refl, ap, sym, ◌∙◌, arith, append_assoc, append-nil}
+use Rattle.std.proofs.Common.{length-append}
 use Rattle.std.proofs.lemmas.List.{map-append}
 use Rattle.std.specs.Prelude.{option_map, unwrap_or, IfSome}
 use Rattle.midi_stream.specs.declared.message.MidiMessage.{MidiMessage}
 use Rattle.midi_stream.specs.declared.reader.MidiReader.{MidiReader}
 use Rattle.midi_stream.specs.Messages.{messages, last_sysex}
 use Rattle.midi_stream.specs.Ranges.{InRange}
-use Rattle.midi_stream.specs.Reading.{Reads}
+use Rattle.midi_stream.specs.FedStream.{Reads}
 use Rattle.midi_stream.specs.Standing.{Answers, HasBytes}
 use Rattle.velocity_map.specs.declared.curve.Curve.{Curve}
 use Rattle.command_set.specs.Command.{CommandData}
@@ -64,7 +65,8 @@ same_messages None bytes before now a = append-nil before ∙ sym a
 same_messages (Some m) bytes before now a = sym a
 
 -- the messages with their bytes are still the messages of the stream
-received_still : (r : Option MidiMessage) (xs : List ℕ) (byte : ℕ) → Answers r (messages xs) (messages (xs ++ byte ∷ [])) → map (λ h. h.message) (ended_messages xs) ≡ messages xs
+received_still : (r : Option MidiMessage) (xs : List ℕ) (byte : ℕ) → Answers r (messages xs) (messages (xs ++ byte ∷ []))
+    → map (λ h. h.message) (ended_messages xs) ≡ messages xs
     → map (λ h. h.message) (ended_messages (xs ++ byte ∷ [])) ≡ messages (xs ++ byte ∷ [])
 received_still r xs byte a e =
     ap (map (λ (h : EndedMessage). h.message)) (received_more r xs byte a) ∙ map-append (λ (h : EndedMessage). h.message) (ended_messages xs) _
@@ -83,7 +85,8 @@ no_messages = refl
 pub new_used : (reader : MidiReader) (curve : Curve) → Reads reader [] → HasUsed reader curve None [] []
 new_used reader curve r = record { reads = r; received = no_messages; tells = no_outcomes curve; last = tt }
 
-kept_same : (curve : Curve) (keeps : Option Kept) (m : MidiMessage) (sysex bytes : List ℕ) → KeepsThis keeps m → command_of m sysex curve ≡ command_of m bytes curve
+kept_same : (curve : Curve) (keeps : Option Kept) (m : MidiMessage) (sysex bytes : List ℕ) → KeepsThis keeps m
+    → command_of m sysex curve ≡ command_of m bytes curve
     → kept_outcomes curve sysex keeps ≡ kept_outcomes curve bytes keeps
 kept_same curve None m sysex bytes k e = refl
 kept_same curve (Some (kept.Command command)) m sysex bytes k e = refl
@@ -101,7 +104,8 @@ none_last (Some (kept.Message held)) stream k = absurd k
 
 -- what comes of what is told last
 received_by :
-    (reader : MidiReader) (curve : Curve) (keeps : Option Kept) (done : List MessageOutcome) (stream sysex : List ℕ) (t : MessageOutcome) (old new : SendView) (fed : Fed)
+    (reader : MidiReader) (curve : Curve) (keeps : Option Kept) (done : List MessageOutcome) (stream sysex : List ℕ) (t : MessageOutcome) (old new : SendView)
+        (fed : Fed)
     → Reads reader stream → map (λ h. h.message) (ended_messages stream) ≡ messages stream
     → outcomes curve stream ≡ done ++ t ∷ [] → IsDoneOrKept curve sysex t keeps old new fed
     → kept_outcomes curve sysex keeps ≡ kept_outcomes curve (exclusive_of stream) keeps → KeepsLast keeps stream
@@ -121,7 +125,8 @@ received_by reader curve keeps done stream sysex t old new fed r ms e s same l =
 
 -- a byte that ends a message
 pub byte_told :
-    (was reader : MidiReader) (curve : Curve) (keeps : Option Kept) (done : List MessageOutcome) (stream sysex : List ℕ) (byte : ℕ) (m : MidiMessage) (old new : SendView) (fed : Fed)
+    (was reader : MidiReader) (curve : Curve) (keeps : Option Kept) (done : List MessageOutcome) (stream sysex : List ℕ) (byte : ℕ) (m : MidiMessage)
+        (old new : SendView) (fed : Fed)
     → HasUsed was curve None done stream → Reads reader (stream ++ byte ∷ [])
     → Answers (Some m) (messages stream) (messages (stream ++ byte ∷ [])) → InRange m → HasBytes m (last_sysex (stream ++ byte ∷ []))
     → IfSome (last_sysex (stream ++ byte ∷ [])) (λ bytes. length bytes ≤ 5000 → sysex ≡ bytes)
@@ -130,21 +135,25 @@ pub byte_told :
 byte_told was reader curve keeps done stream sysex byte m old new fed u r a range has text s k =
     let same = told_same m (last_sysex (stream ++ byte ∷ [])) sysex curve range has text in
     let tells : outcomes curve (stream ++ byte ∷ []) ≡ done ++ command_of m sysex curve ∷ [] =
-    outcomes_more curve (Some m) stream byte a ∙ ap (λ (ts : List MessageOutcome). ts ++ command_of m (exclusive_of (stream ++ byte ∷ [])) curve ∷ []) (u.tells ∙ append-nil done)
+    outcomes_more curve (Some m) stream byte a ∙ ap (λ (ts : List MessageOutcome). ts ++ command_of m (exclusive_of (stream ++ byte ∷ [])) curve ∷ []) (u.tells
+        ∙ append-nil done)
     ∙ ap (λ (t : MessageOutcome). done ++ t ∷ []) (sym same) in
-    received_by reader curve keeps done (stream ++ byte ∷ []) sysex (command_of m sysex curve) old new fed r (received_still (Some m) stream byte a u.received) tells s (kept_same curve keeps m sysex _ k same)
+    received_by reader curve keeps done (stream ++ byte ∷ []) sysex (command_of m sysex curve) old new fed r (received_still (Some m) stream byte a u.received)
+        tells s (kept_same curve keeps m sysex _ k same)
     (keeps_last keeps m (stream ++ byte ∷ []) k (record { earlier = messages stream; last = a; bytes = has }))
 
 -- a byte that ends no message
 pub byte_silent :
     (was reader : MidiReader) (curve : Curve) (keeps : Option Kept) (done : List MessageOutcome) (stream : List ℕ) (byte used : ℕ) (end : SendView)
     → keeps ≡ None → HasUsed was curve keeps done stream → Reads reader (stream ++ byte ∷ []) → Answers None (messages stream) (messages (stream ++ byte ∷ []))
-    → (now : List MessageOutcome) × (HasUsed reader curve keeps (done ++ now) (stream ++ byte ∷ []) × Handles now end end (record { used = used; sent = 0; passed_over = 0; refused = 0; stop = All }))
+    → (now : List MessageOutcome) × (HasUsed reader curve keeps (done ++ now) (stream ++ byte ∷ [])
+        × Handles now end end (record { used = used; sent = 0; passed_over = 0; refused = 0; stop = All }))
 byte_silent was reader curve keeps done stream byte used end e u r a =
     let clear : HasUsed was curve None done stream = rw (← e) u in
     let more : outcomes curve (stream ++ byte ∷ []) ≡ (done ++ []) ++ [] =
     outcomes_more curve None stream byte a ∙ ap (λ (ts : List MessageOutcome). ts ++ []) clear.tells in
-    ([], (rw e (record { reads = r; received = received_still None stream byte a clear.received; tells = more; last = tt }), record { end_is = refl; sent_is = refl; passed_over_is = refl; refused_is = refl }))
+    ([], (rw e (record { reads = r; received = received_still None stream byte a clear.received; tells = more; last = tt }), record { end_is = refl; sent_is =
+        refl; passed_over_is = refl; refused_is = refl }))
 
 -- the same, with another count of bytes
 pub with_used : (now : List MessageOutcome) (old new : SendView) (fed : Fed) (used : ℕ) → Handles now old new fed
@@ -153,18 +162,21 @@ with_used now old new fed used h = record { end_is = h.end_is; sent_is = h.sent_
 
 -- a command that was kept
 pub kept_command_told :
-    (reader : MidiReader) (curve : Curve) (was keeps : Option Kept) (done : List MessageOutcome) (stream : List ℕ) (held : Kept) (waiting command : CommandData) (old new : SendView) (fed : Fed)
+    (reader : MidiReader) (curve : Curve) (was keeps : Option Kept) (done : List MessageOutcome) (stream : List ℕ) (held : Kept) (waiting command : CommandData)
+        (old new : SendView) (fed : Fed)
     → HasUsed reader curve was done stream → Some held ≡ was → held ≡ kept.Command waiting → command ≡ waiting
     → ((c : Curve) (bytes : List ℕ) → IsDoneOrKept c bytes (Yields command) keeps old new fed) → KeepsNoMessage keeps
     → (now : List MessageOutcome) × (HasUsed reader curve keeps (done ++ now) stream × Handles now old new fed)
 kept_command_told reader curve was keeps done stream held waiting command old new fed u w h e s k =
     let is : was ≡ Some (kept.Command command) = sym w ∙ ap (λ (x : Kept). Some x) (h ∙ ap (λ (d : CommandData). kept.Command d) (sym e)) in
     let v : HasUsed reader curve (Some (kept.Command command)) done stream = rw (← is) u in
-    received_by reader curve keeps done stream (exclusive_of stream) (Yields command) old new fed v.reads v.received v.tells (s curve (exclusive_of stream)) refl (none_last keeps stream k)
+    received_by reader curve keeps done stream (exclusive_of stream) (Yields command) old new fed v.reads v.received v.tells (s curve (exclusive_of stream))
+        refl (none_last keeps stream k)
 
 -- a message that was kept
 pub kept_message_told :
-    (reader : MidiReader) (curve : Curve) (was keeps : Option Kept) (done : List MessageOutcome) (stream sysex : List ℕ) (held : Kept) (ended m : MidiMessage) (old new : SendView) (fed : Fed)
+    (reader : MidiReader) (curve : Curve) (was keeps : Option Kept) (done : List MessageOutcome) (stream sysex : List ℕ) (held : Kept) (ended m : MidiMessage)
+        (old new : SendView) (fed : Fed)
     → HasUsed reader curve was done stream → Some held ≡ was → held ≡ kept.Message ended → m ≡ ended → InRange m
     → IfSome (last_sysex stream) (λ bytes. length bytes ≤ 5000 → sysex ≡ bytes)
     → IsDoneOrKept curve sysex (command_of m sysex curve) keeps old new fed → KeepsThis keeps m
@@ -173,5 +185,6 @@ kept_message_told reader curve was keeps done stream sysex held ended m old new 
     let is : was ≡ Some (kept.Message m) = sym w ∙ ap (λ (x : Kept). Some x) (h ∙ ap (λ (x : MidiMessage). kept.Message x) (sym e)) in
     let v : HasUsed reader curve (Some (kept.Message m)) done stream = rw (← is) u in
     let same = told_same m (last_sysex stream) sysex curve range v.last.bytes text in
-    received_by reader curve keeps done stream sysex (command_of m sysex curve) old new fed v.reads v.received (v.tells ∙ ap (λ (t : MessageOutcome). done ++ t ∷ []) (sym same)) s
+    received_by reader curve keeps done stream sysex (command_of m sysex curve) old new fed v.reads v.received (v.tells
+        ∙ ap (λ (t : MessageOutcome). done ++ t ∷ []) (sym same)) s
     (kept_same curve keeps m sysex _ k same) (keeps_last keeps m stream k v.last)

@@ -4,7 +4,7 @@ use Rattle.midi_stream.specs.declared.message.MidiMessage.{MidiMessage}
 use Rattle.midi_stream.specs.declared.reader.MidiReader.{MidiReader}
 use Rattle.midi_stream.specs.Messages.{messages, last_sysex}
 use Rattle.midi_stream.specs.Standing.{HasBytes}
-use Rattle.midi_stream.specs.Reading.{Reads}
+use Rattle.midi_stream.specs.FedStream.{Reads}
 use Rattle.velocity_map.specs.declared.curve.Curve.{Curve}
 use Rattle.command_set.specs.Message.{MessageOutcome, Yields, command_of}
 use Rattle.port.specs.declared.kept.Kept.{Kept}

@@ -2,8 +2,8 @@
 #![tactic(auto)]
 
 mod fed;
+mod handling;
 mod kept;
-mod message;
 mod port;
 
 pub use fed::{Fed, PortStop};

@@ -1,4 +1,4 @@
-//! The port.
+//! The port: the commands of a stream's messages go to the line, and what can't go is kept for the next feed.
 
 ghost use Rattle.std.specs.Prelude.{ℕ, List, ◌≡◌, ◌≢◌, ◌+◌, ◌-◌, ◌<◌, ◌≤◌, ◌⊎◌, [], ◌∷◌, ◌++◌, None, take, length};
 ghost use Rattle.std.specs.Prelude.{slice_index, IfOk, IfErr};
@@ -12,8 +12,8 @@ ghost use Rattle.port.specs.Handling.{OneMore};
 ghost use Rattle.port.specs.Stopping.{FullOnly, refusals_after};
 
 use crate::fed::{Fed, PortStop};
+use crate::handling::{handle, send};
 use crate::kept::Kept;
-use crate::message::{handle, send};
 use command_queue::{Line, SendEnd};
 use midi_stream::MidiReader;
 use std::alloc::Global;

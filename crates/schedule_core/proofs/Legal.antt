@@ -1,19 +1,23 @@
 -- Each step keeps a core legal.
-use Rattle.std.proofs.Common.{◌≡◌, ℕ, ◌+◌, ◌-◌, ◌^◌, ◌≤◌, ◌<◌, min, List, [], ◌∷◌, ◌++◌, length, get_or, set, map, refl, sym, ◌∙◌, ap, subst, arith, append_assoc, length-append, inl, inr}
+use Rattle.std.proofs.Common.{◌≡◌, ℕ, ◌+◌, ◌-◌, ◌^◌, ◌≤◌, ◌<◌, min, List, [], ◌∷◌, ◌++◌, length, get_or, set, map, refl, sym, ◌∙◌, ap, subst, arith}
+use Rattle.std.proofs.Common.{append_assoc, length-append, inl, inr}
 use Rattle.std.specs.Prelude.{◌==◌, ◌&&◌, nat_lt, Bool, true, false, cond, All, ◌⊎◌}
 use Rattle.std.proofs.lemmas.Bool.{ltb-true, ltb-false, eqb-true, eqb-false, cases_lt}
-use Rattle.std.proofs.lemmas.List.{append-nil, length-map, length_push, length-set, length-replicate, get_or-replicate, get_or-set_same, get_or-set_other, get_or_append_left, get_or_push}
+use Rattle.std.proofs.lemmas.List.{append-nil, length-map, length_push, length-set, length-replicate, get_or-replicate, get_or-set_same, get_or-set_other}
+use Rattle.std.proofs.lemmas.List.{get_or_append_left, get_or_push}
 use Rattle.std.proofs.lemmas.List.Elements.{All-nil, All-head, All-tail, All-push, All-weaker, filter-append}
 use Rattle.command_set.specs.Command.{CommandData}
 use Rattle.command_set.specs.Entries.{EntryData, AreNumbered, entries_of, sent_by}
-use Rattle.schedule_core.specs.Core.{Core, Sends, no_sends, sends_of, accepted_of, refusals_of, first_of, with_entry, with_refusal, opening, Step, Send, Take, Render, Settle, step, run, queued, refused, taken, next_entry, CanStep}
+use Rattle.schedule_core.specs.Core.{Core, Sends, no_sends, sends_of, accepted_of, refusals_of, first_of, with_entry, with_refusal, opening, Step, Send, Take}
+use Rattle.schedule_core.specs.Core.{Render, Settle, step, run, queued, refused, taken, next_entry, CanStep}
 use Rattle.instrument.specs.Logging.{logged_at}
 use Rattle.instrument.proofs.Journals.{IsPast, entries_logged, taken_up_to}
 use Rattle.schedule_core.specs.Schedule.{IsLegal}
 
 -- the first entries that wait are logged
 
-logs : (c : Core) (es later : List EntryData) → c.waiting ≡ es ++ later → IsLegal c → IsLegal (record c { waiting = later; journal = c.journal ++ map (logged_at c.blocks) es })
+logs : (c : Core) (es later : List EntryData) → c.waiting ≡ es ++ later → IsLegal c
+    → IsLegal (record c { waiting = later; journal = c.journal ++ map (logged_at c.blocks) es })
 logs c es later split h =
     let same : entries_of (c.journal ++ map (logged_at c.blocks) es) ++ later ≡ entries_of c.journal ++ c.waiting =
     ap (λ (front : List EntryData). front ++ later) (entries_logged c.journal c.blocks es) ∙ append_assoc (entries_of c.journal) es later
@@ -38,7 +42,8 @@ taken_legal c (e ∷ later) split h = logs c (e ∷ []) later split h
 
 -- an entry is accepted
 
-push_numbered : (es : List EntryData) (e d : EntryData) (i : ℕ) → AreNumbered es → e.seq ≡ length es → i < length (es ++ e ∷ []) → (i < length es) ⊎ (length es ≤ i)
+push_numbered : (es : List EntryData) (e d : EntryData) (i : ℕ) → AreNumbered es → e.seq ≡ length es → i < length (es ++ e ∷ []) → (i < length es)
+    ⊎ (length es ≤ i)
     → (get_or (es ++ e ∷ []) i d).seq ≡ i
 push_numbered es e d i h last below (inl inside) = rw (get_or_append_left es (e ∷ []) d i inside) (h i d inside)
 push_numbered es e d i h last below (inr behind) =
@@ -75,7 +80,8 @@ entry_accepted true c e k is = ap (λ (n : ℕ). accepted_of c n ++ e ∷ []) (e
 entry_accepted false c e k is = refl
 
 entry_refusals : (t : Bool) (c : Core) (e : EntryData) (k : ℕ) → (e.script == k) ≡ t
-    → ((cond t (with_entry (sends_of c e.script) e) (sends_of c k)).refusals ≡ refusals_of c k) × ((cond t (with_entry (sends_of c e.script) e) (sends_of c k)).first ≡ first_of c k)
+    → ((cond t (with_entry (sends_of c e.script) e) (sends_of c k)).refusals ≡ refusals_of c k)
+    × ((cond t (with_entry (sends_of c e.script) e) (sends_of c k)).first ≡ first_of c k)
 entry_refusals true c e k is = (ap (λ (n : ℕ). refusals_of c n) (eqb-true e.script k is), ap (λ (n : ℕ). first_of c n) (eqb-true e.script k is))
 entry_refusals false c e k is = (refl, refl)
 
@@ -156,7 +162,8 @@ accepts c script due command made room h =
 
 -- a script is refused
 
-marked_refused : (t u : Bool) (refusals list first places logged waiting : ℕ) → (refusals == 0) ≡ u → 0 < cond t (min (refusals + 1) (2 ^ 64 - 1)) refusals → places ≤ waiting
+marked_refused : (t u : Bool) (refusals list first places logged waiting : ℕ) → (refusals == 0) ≡ u → 0 < cond t (min (refusals + 1) (2 ^ 64 - 1)) refusals
+    → places ≤ waiting
     → (0 < refusals → (first ≤ list) × (places + list ≤ logged + waiting + first))
     → (cond (t && u) list first ≤ list) × (places + list ≤ logged + waiting + cond (t && u) list first)
 marked_refused true true refusals list first places logged waiting is some full m = (omega arith, omega (arith, full))
@@ -176,7 +183,8 @@ refuses c script made full h =
       lists = λ s below. accepted_refused c script s made ∙ h.lists s (omega (arith, below, many));
       marked = λ s below some.
           let r = refusals_refused c script s made in
-          let m = marked_refused (script == s) (refusals_of c s == 0) (refusals_of c s) (length (accepted_of c s)) (first_of c s) c.places (length c.journal) (length c.waiting)
+          let m = marked_refused (script == s) (refusals_of c s == 0) (refusals_of c s) (length (accepted_of c s)) (first_of c s) c.places (length c.journal)
+          (length c.waiting)
           refl (subst (λ (n : ℕ). 0 < n) r.0 some) full (h.marked s (omega (arith, below, many))) in
           let long : length (accepted_of (refused c script) s) ≡ length (accepted_of c s) = ap length (accepted_refused c script s made) in
           (omega (arith, m.0, r.1, long), omega (arith, m.1, r.1, long));
@@ -238,7 +246,8 @@ opening_legal places scripts = record {
     room = omega arith;
   };
   lists = λ k below. ap (λ (s : Sends). s.accepted) (fresh_at places scripts k below);
-  marked = λ k below some. absurd (let none : refusals_of (opening places scripts) k ≡ 0 = ap (λ (s : Sends). s.refusals) (fresh_at places scripts k below) in omega (arith, some, none));
+  marked = λ k below some. absurd (let none : refusals_of (opening places scripts) k ≡ 0 = ap (λ (s : Sends). s.refusals) (fresh_at places scripts k below) in
+      omega (arith, some, none));
   blocks = record {
     order = λ i j d up below. absurd (omega (arith, below));
     past = All-nil (IsPast 0);

@@ -9,7 +9,8 @@ use Rattle.schedule_core.specs.Core.{Core, Take, settled, run}
 abbrev with_lists : Core → List EntryData → List LoggedData → Core
 with_lists c waiting journal = record c { waiting = waiting; journal = journal }
 
-settling : (c : Core) (es : List EntryData) (journal : List LoggedData) → settled (with_lists c es journal) ≡ run (with_lists c es journal) (replicate (length es) Take)
+settling : (c : Core) (es : List EntryData) (journal : List LoggedData) → settled (with_lists c es journal) ≡ run (with_lists c es journal)
+    (replicate (length es) Take)
 settling c [] journal = ap (λ (all : List LoggedData). with_lists c [] all) (append-nil journal)
 settling c (e ∷ es) journal =
     ap (λ (all : List LoggedData). with_lists c [] all) (sym (append_assoc journal (logged_at c.blocks e ∷ []) (map (logged_at c.blocks) es)))

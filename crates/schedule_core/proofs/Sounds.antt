@@ -11,7 +11,8 @@ use Rattle.instrument.proofs.Journals.{commands_kept, sound_agrees}
 abbrev GoesOn : Core → List LoggedData → Type 0
 GoesOn c journal = (b : ℕ) → b < c.blocks → commands_at journal b ≡ commands_at c.journal b
 
-sent_back : (t : Bool) (c : Core) (e : EntryData) (script : ℕ) (journal : List LoggedData) → GoesOn (cond t (queued c e) (refused c script)) journal → GoesOn c journal
+sent_back : (t : Bool) (c : Core) (e : EntryData) (script : ℕ) (journal : List LoggedData) → GoesOn (cond t (queued c e) (refused c script)) journal
+    → GoesOn c journal
 sent_back true c e script journal goes = goes
 sent_back false c e script journal goes = goes
 
@@ -48,7 +49,8 @@ rendered c journal to later goes are =
     let rest : later ≡ map (sound journal) (range_with_len (c.blocks + 1) (length later)) = are.0 in
     (ap (λ (block : List ℤ). block ∷ later) here ∙ ap (λ (blocks : List (List ℤ)). sound journal c.blocks ∷ blocks) rest, omega (arith, are.1))
 
-blocks_by : (c : Core) (s : Step) (journal : List LoggedData) (to : ℕ) (later : List (List ℤ)) → GoesOn (step c s) journal → AreBlocks journal (step c s).blocks to later
+blocks_by : (c : Core) (s : Step) (journal : List LoggedData) (to : ℕ) (later : List (List ℤ)) → GoesOn (step c s) journal
+    → AreBlocks journal (step c s).blocks to later
     → AreBlocks journal c.blocks to (answer c s ++ later)
 blocks_by c (Send script due command) journal to later goes are =
     subst (λ (from : ℕ). AreBlocks journal from to later) (sent_still (nat_lt (length c.waiting) c.places) c (next_entry c script due command) script) are
@@ -56,10 +58,12 @@ blocks_by c Take journal to later goes are = subst (λ (from : ℕ). AreBlocks j
 blocks_by c Render journal to later goes are = rendered c journal to later goes are
 blocks_by c Settle journal to later goes are = are
 
-blocks_are : (c : Core) (steps : List Step) (journal : List LoggedData) → GoesOn (run c steps) journal → AreBlocks journal c.blocks (run c steps).blocks (answers c steps)
+blocks_are : (c : Core) (steps : List Step) (journal : List LoggedData) → GoesOn (run c steps) journal
+    → AreBlocks journal c.blocks (run c steps).blocks (answers c steps)
 blocks_are c [] journal goes = (refl, omega arith)
 blocks_are c (s ∷ steps) journal goes =
-    blocks_by c s journal (run (step c s) steps).blocks (answers (step c s) steps) (goes_on (step c s) steps journal goes) (blocks_are (step c s) steps journal goes)
+    blocks_by c s journal (run (step c s) steps).blocks (answers (step c s) steps) (goes_on (step c s) steps journal goes)
+    (blocks_are (step c s) steps journal goes)
 
 pub run_appended : (c : Core) (steps more : List Step) → run c (steps ++ more) ≡ run (run c steps) more
 run_appended c [] more = refl
@@ -71,7 +75,8 @@ pub sounds_kept : (places scripts : ℕ) (steps more : List Step)
 sounds_kept places scripts steps more =
     let c : Core = opening places scripts in
     let whole : Core = run (run c steps) more in
-    let are : AreBlocks whole.journal 0 (run c steps).blocks (answers c steps) = blocks_are c steps whole.journal (goes_on (run c steps) more whole.journal (λ b below. refl)) in
+    let are : AreBlocks whole.journal 0 (run c steps).blocks (answers c steps) =
+    blocks_are c steps whole.journal (goes_on (run c steps) more whole.journal (λ b below. refl)) in
     let many : length (answers c steps) ≡ (run c steps).blocks = omega (arith, are.1) in
     are.0 ∙ ap (λ (n : ℕ). map (sound whole.journal) (range_with_len 0 n)) many
     ∙ ap (λ (d : Core). map (sound d.journal) (range_with_len 0 (run c steps).blocks)) (sym (run_appended c steps more))

@@ -1,5 +1,6 @@
 -- What each call makes of a world's fields stands for the core one step on.
-use Rattle.std.proofs.Common.{◌≡◌, ℕ, zero, suc, ◌+◌, ◌-◌, ◌^◌, ◌<◌, min, List, [], ◌∷◌, ◌++◌, length, get_or, set, replicate, map, refl, sym, ◌∙◌, ap, subst, arith}
+use Rattle.std.proofs.Common.{◌≡◌, ℕ, zero, suc, ◌+◌, ◌-◌, ◌^◌, ◌<◌, min, List, [], ◌∷◌, ◌++◌, length, get_or, set, replicate, map, refl, sym, ◌∙◌, ap, subst}
+use Rattle.std.proofs.Common.{arith}
 use Rattle.std.specs.Prelude.{◌==◌, ◌&&◌, ◌↔◌, IsTrue, nat_lt, Bool, true, false, cond}
 use Rattle.std.proofs.lemmas.Bool.{both_ways, lt-ltb, le-ltb, eqb-true, cond-true, cond-false}
 use Rattle.std.proofs.lemmas.List.{map-append, length-map, length_push, length-set, length-replicate, get_or-replicate, ext_get_or, replicate_more}
@@ -17,15 +18,18 @@ use Rattle.instrument.specs.State.{opening as opening_state}
 use Rattle.instrument.specs.Journal.{state_at}
 use Rattle.schedule_core.specs.declared.mark.Mark.{Mark}
 use Rattle.instrument.specs.Logging.{logged_at}
-use Rattle.schedule_core.specs.Core.{Core, Sends, no_sends, sends_of, accepted_of, refusals_of, first_of, with_entry, with_refusal, opening, Send, Take, Render, Settle, step, run, queued, refused, taken, next_entry}
+use Rattle.schedule_core.specs.Core.{Core, Sends, no_sends, sends_of, accepted_of, refusals_of, first_of, with_entry, with_refusal, opening, Send, Take, Render}
+use Rattle.schedule_core.specs.Core.{Settle, step, run, queued, refused, taken, next_entry}
 use Rattle.schedule_core.specs.Schedule.{IsLegal}
 use Rattle.schedule_core.specs.Fields.{fresh_mark, core_of, mark_in, mark_of, sends_in, Stands}
 use Rattle.instrument.proofs.Journals.{state_opening, state_logged, state_passed}
-use Rattle.schedule_core.proofs.Legal.{at_set, fresh_at, accepted_queued, refusals_queued, accepted_refused, refusals_refused, opening_legal, step_legal, accepts, refuses}
+use Rattle.schedule_core.proofs.Legal.{at_set, fresh_at, accepted_queued, refusals_queued, accepted_refused, refusals_refused, opening_legal, step_legal}
+use Rattle.schedule_core.proofs.Legal.{accepts, refuses}
 use Rattle.schedule_core.proofs.Sounds.{run_appended}
 use Rattle.schedule_core.proofs.Settling.{settles_by_taking}
 
-pub opens : (places scripts : ℕ) (marks : List Mark) (i : Instrument) → marks ≡ replicate scripts fresh_mark → IsIn i opening_state → Stands places [] [] 0 marks i (opening places scripts)
+pub opens : (places scripts : ℕ) (marks : List Mark) (i : Instrument) → marks ≡ replicate scripts fresh_mark → IsIn i opening_state
+    → Stands places [] [] 0 marks i (opening places scripts)
 opens places scripts marks i are h = record {
   legal = opening_legal places scripts;
   limit = refl;
@@ -33,14 +37,16 @@ opens places scripts marks i are h = record {
   log = refl;
   time = refl;
   ends = ap length are ∙ length-replicate scripts fresh_mark ∙ sym (length-replicate scripts no_sends);
-  counts = λ script d below. ap (λ (ms : List Mark). get_or ms script d) are ∙ get_or-replicate scripts script fresh_mark d (omega (arith, below, length-replicate scripts no_sends))
+  counts = λ script d below. ap (λ (ms : List Mark). get_or ms script d) are
+      ∙ get_or-replicate scripts script fresh_mark d (omega (arith, below, length-replicate scripts no_sends))
       ∙ sym (ap mark_in (fresh_at places scripts script below));
   playing = subst (λ (s : State). IsIn i s) (sym state_opening) h;
 }
 
 -- marks
 
-mark_accepted : (t : Bool) (old new : Mark) (list : List EntryData) (e : EntryData) (refusals first : ℕ) → old ≡ record { accepted = length list; refusals = refusals; first = first }
+mark_accepted : (t : Bool) (old new : Mark) (list : List EntryData) (e : EntryData) (refusals first : ℕ)
+    → old ≡ record { accepted = length list; refusals = refusals; first = first }
     → (t ≡ true → new ≡ record { accepted = length list + 1; refusals = refusals; first = first })
     → cond t new old ≡ record { accepted = length (cond t (list ++ e ∷ []) list); refusals = refusals; first = first }
 mark_accepted true old new list e refusals first was now =
@@ -54,12 +60,18 @@ mark_refused true old new list refusals first was now = now refl
 mark_refused false old new list refusals first was now = was
 
 -- the mark that a send reads
-read_mark : {places : ℕ} {waiting : List Entry} {journal : List Logged} {blocks : ℕ} {marks : List Mark} {i : Instrument} {c : Core} → Stands places waiting journal blocks marks i c
+read_mark : {places : ℕ} {waiting : List Entry} {journal : List Logged} {blocks : ℕ} {marks : List Mark} {i : Instrument} {c : Core}
+    → Stands places waiting journal blocks marks i c
     → (script : ℕ) (m : Mark) → script < length marks → m ≡ get_or marks script m → m ≡ mark_of c script
 read_mark {marks} h script m below is = is ∙ h.counts script m (omega (arith, below, h.ends))
 
 queued_mark : (c : Core) (e : EntryData) (k : ℕ) → e.script < length c.scripts
-    → mark_of (queued c e) k ≡ record { accepted = length (cond (e.script == k) (accepted_of c k ++ e ∷ []) (accepted_of c k)); refusals = refusals_of c k; first = first_of c k }
+    → mark_of (queued c e) k ≡ record {
+      accepted = length (cond (e.script == k) (accepted_of c k ++ e ∷ []) (accepted_of c k));
+      refusals =
+          refusals_of c k;
+      first = first_of c k;
+    }
 queued_mark c e k made = λ j. let m : Mark = record {
   accepted = length (accepted_queued c e k made j);
   refusals = (refusals_queued c e k made).0 j;
@@ -80,7 +92,8 @@ refused_mark c script k made = λ j. let m : Mark = record {
 
 -- sends
 
-pub accepted : (places : ℕ) (waiting : List Entry) (journal : List Logged) (blocks : ℕ) (marks : List Mark) (i : Instrument) (c : Core) (script due : ℕ) (command : Command) (m : Mark)
+pub accepted : (places : ℕ) (waiting : List Entry) (journal : List Logged) (blocks : ℕ) (marks : List Mark) (i : Instrument) (c : Core) (script due : ℕ)
+    (command : Command) (m : Mark)
     → Stands places waiting journal blocks marks i c → length waiting < places → script < length marks → m ≡ get_or marks script m
     → (length c.waiting < c.places) × (m.accepted ≡ length (accepted_of c script))
     × Stands places (waiting ++ record { script = script; seq = m.accepted; sent_at = due; command = command } ∷ []) journal blocks
@@ -95,27 +108,36 @@ accepted places waiting journal blocks marks i c script due command m h room bel
     let fewer : length c.waiting < c.places = omega (arith, room, long, h.limit) in
     let mark : m ≡ mark_of c script = read_mark h script m below is in
     let seq : m.accepted ≡ length (accepted_of c script) = ap (λ (x : Mark). x.accepted) mark in
-    let same : entry_data e ≡ next = ap (λ (n : ℕ). let d : EntryData = record { script = script; seq = n; sent_at = due; command = content command } in d) seq in
-    let one : new ≡ record { accepted = length (accepted_of c script) + 1; refusals = refusals_of c script; first = first_of c script } = ap (λ (x : Mark). let y : Mark = record x { accepted = x.accepted + 1 } in y) mark in
+    let same : entry_data e ≡ next = ap (λ (n : ℕ). let d : EntryData = record { script = script; seq = n; sent_at = due; command = content command } in
+    d) seq in
+    let one : new ≡ record { accepted = length (accepted_of c script) + 1; refusals = refusals_of c script; first = first_of c script } =
+    ap (λ (x : Mark). let y : Mark = record x { accepted = x.accepted + 1 } in y) mark in
     let stands : Stands places (waiting ++ e ∷ []) journal blocks (set marks script new) i (queued c next) = record {
       legal = accepts c script due (content command) made fewer h.legal;
       limit = h.limit;
-      line = map-append entry_data waiting (e ∷ []) ∙ ap (λ (front : List EntryData). front ++ entry_data e ∷ []) h.line ∙ ap (λ (x : EntryData). c.waiting ++ x ∷ []) same;
+      line = map-append entry_data waiting (e ∷ []) ∙ ap (λ (front : List EntryData). front ++ entry_data e ∷ []) h.line
+          ∙ ap (λ (x : EntryData). c.waiting ++ x ∷ []) same;
       log = h.log;
       time = h.time;
       ends = length-set marks script new ∙ h.ends ∙ sym many;
       counts = λ k d inside.
           at_set (script == k) marks script k new d refl below
-          ∙ mark_accepted (script == k) (get_or marks k d) new (accepted_of c k) next (refusals_of c k) (first_of c k) (h.counts k d (omega (arith, inside, many)))
+          ∙ mark_accepted (script == k) (get_or marks k d) new (accepted_of c k) next (refusals_of c k) (first_of c k)
+          (h.counts k d (omega (arith, inside, many)))
           (λ t. let at : script ≡ k = eqb-true script k t in
           subst (λ (n : ℕ). new ≡ record { accepted = length (accepted_of c n) + 1; refusals = refusals_of c n; first = first_of c n }) at one)
           ∙ sym (queued_mark c next k made);
       playing = h.playing;
     } in
-    let test : nat_lt (length c.waiting) c.places ≡ true = lt-ltb (length c.waiting) c.places fewer in
-    (fewer, seq, subst (λ (d : Core). Stands places (waiting ++ e ∷ []) journal blocks (set marks script new) i d) (sym (cond-true (nat_lt (length c.waiting) c.places) (queued c next) (refused c script) test)) stands)
+    let test : nat_lt (length c.waiting) c.places ≡ true = lt-ltb (length c.waiting) c.places fewer in (
+      fewer,
+      seq,
+      subst (λ (d : Core). Stands places (waiting ++ e ∷ []) journal blocks (set marks script new) i d)
+          (sym (cond-true (nat_lt (length c.waiting) c.places) (queued c next) (refused c script) test)) stands,
+    )
 
-pub turned_away : (places : ℕ) (waiting : List Entry) (journal : List Logged) (blocks : ℕ) (marks : List Mark) (i : Instrument) (c : Core) (script due : ℕ) (command : Command) (m : Mark)
+pub turned_away : (places : ℕ) (waiting : List Entry) (journal : List Logged) (blocks : ℕ) (marks : List Mark) (i : Instrument) (c : Core) (script due : ℕ)
+    (command : Command) (m : Mark)
     → Stands places waiting journal blocks marks i c → length waiting ≡ places → script < length marks → m ≡ get_or marks script m
     → (length c.waiting ≡ c.places)
     × Stands places waiting journal blocks
@@ -129,8 +151,18 @@ turned_away places waiting journal blocks marks i c script due command m h full 
     let made : script < length c.scripts = omega (arith, below, h.ends) in
     let many : length (refused c script).scripts ≡ length c.scripts = length-set c.scripts script (with_refusal (sends_of c script)) in
     let mark : m ≡ mark_of c script = read_mark h script m below is in
-    let one : new ≡ record { accepted = length (accepted_of c script); refusals = min (refusals_of c script + 1) (2 ^ 64 - 1); first = cond (refusals_of c script == 0) (length (accepted_of c script)) (first_of c script) } =
-    ap (λ (x : Mark). let y : Mark = record { accepted = x.accepted; refusals = min (x.refusals + 1) (2 ^ 64 - 1); first = cond (x.refusals == 0) x.accepted x.first } in y) mark in
+    let one : new ≡ record {
+      accepted = length (accepted_of c script);
+      refusals = min (refusals_of c script + 1) (2 ^ 64 - 1);
+      first =
+          cond (refusals_of c script == 0) (length (accepted_of c script)) (first_of c script);
+    } =
+    ap (λ (x : Mark). let y : Mark = record {
+      accepted = x.accepted;
+      refusals = min (x.refusals + 1) (2 ^ 64 - 1);
+      first =
+          cond (x.refusals == 0) x.accepted x.first;
+    } in y) mark in
     let stands : Stands places waiting journal blocks (set marks script new) i (refused c script) = record {
       legal = refuses c script made (omega (arith, all)) h.legal;
       limit = h.limit;
@@ -140,14 +172,23 @@ turned_away places waiting journal blocks marks i c script due command m h full 
       ends = length-set marks script new ∙ h.ends ∙ sym many;
       counts = λ k d inside.
           at_set (script == k) marks script k new d refl below
-          ∙ mark_refused (script == k) (get_or marks k d) new (length (accepted_of c k)) (refusals_of c k) (first_of c k) (h.counts k d (omega (arith, inside, many)))
+          ∙ mark_refused (script == k) (get_or marks k d) new (length (accepted_of c k)) (refusals_of c k) (first_of c k)
+          (h.counts k d (omega (arith, inside, many)))
           (λ t. let at : script ≡ k = eqb-true script k t in
-          subst (λ (n : ℕ). new ≡ record { accepted = length (accepted_of c n); refusals = min (refusals_of c n + 1) (2 ^ 64 - 1); first = cond (refusals_of c n == 0) (length (accepted_of c n)) (first_of c n) }) at one)
+          subst (λ (n : ℕ). new ≡ record {
+            accepted = length (accepted_of c n);
+            refusals = min (refusals_of c n + 1) (2 ^ 64 - 1);
+            first =
+                cond (refusals_of c n == 0) (length (accepted_of c n)) (first_of c n);
+          }) at one)
           ∙ sym (refused_mark c script k made);
       playing = h.playing;
     } in
-    let test : nat_lt (length c.waiting) c.places ≡ false = le-ltb (length c.waiting) c.places (omega (arith, all)) in
-    (all, subst (λ (d : Core). Stands places waiting journal blocks (set marks script new) i d) (sym (cond-false (nat_lt (length c.waiting) c.places) (queued c next) (refused c script) test)) stands)
+    let test : nat_lt (length c.waiting) c.places ≡ false = le-ltb (length c.waiting) c.places (omega (arith, all)) in (
+      all,
+      subst (λ (d : Core). Stands places waiting journal blocks (set marks script new) i d)
+          (sym (cond-false (nat_lt (length c.waiting) c.places) (queued c next) (refused c script) test)) stands,
+    )
 
 -- want of memory at a send
 pub unsent : {places : ℕ} {waiting : List Entry} {journal : List Logged} {blocks : ℕ} {marks : List Mark} {i : Instrument} {c : Core}
@@ -169,7 +210,8 @@ takes places waiting later journal blocks marks i new c e front h played =
       legal = subst (λ (es : List EntryData). IsLegal (taken c es)) (sym split) (step_legal c Take tt h.legal);
       limit = h.limit;
       line = refl;
-      log = map-append logged_data journal (l ∷ []) ∙ ap (λ (front : List LoggedData). front ++ logged_data l ∷ []) h.log ∙ ap (λ (x : LoggedData). c.journal ++ x ∷ []) logged;
+      log = map-append logged_data journal (l ∷ []) ∙ ap (λ (front : List LoggedData). front ++ logged_data l ∷ []) h.log
+          ∙ ap (λ (x : LoggedData). c.journal ++ x ∷ []) logged;
       time = h.time;
       ends = h.ends;
       counts = h.counts;
@@ -198,7 +240,8 @@ renders places waiting journal blocks marks i new c h played = record {
 }
 
 -- how many wait
-pub how_many : {places : ℕ} {waiting : List Entry} {journal : List Logged} {blocks : ℕ} {marks : List Mark} {i : Instrument} {c : Core} → Stands places waiting journal blocks marks i c
+pub how_many : {places : ℕ} {waiting : List Entry} {journal : List Logged} {blocks : ℕ} {marks : List Mark} {i : Instrument} {c : Core}
+    → Stands places waiting journal blocks marks i c
     → length waiting ≡ length c.waiting
 how_many {waiting} h = sym (length-map waiting entry_data) ∙ ap length h.line
 

@@ -2,8 +2,8 @@
 use Rattle.std.specs.Prelude.{ℕ, ◌≡◌, ◌<◌, length, Result, Ok, Err}
 use Rattle.command_set.specs.declared.command.Command.{Command}
 use Rattle.command_set.specs.Command.{content}
-use Rattle.schedule_core.specs.declared.refusal.WorldRefusal.{WorldRefusal}
-use Rattle.schedule_core.specs.declared.refusal.WorldRefusal.TheVariants.{Full, Memory}
+use Rattle.schedule_core.specs.declared.world_refusal.WorldRefusal.{WorldRefusal}
+use Rattle.schedule_core.specs.declared.world_refusal.WorldRefusal.TheVariants.{Full, Memory}
 use Rattle.schedule_core.specs.Core.{Core, Send, step, accepted_of}
 
 -- The entry was accepted and its number is answered, where fewer waited than there are places; or it was refused, exactly where

@@ -2,16 +2,16 @@
 #![tactic(auto)]
 
 mod mark;
-mod refusal;
 mod schedule;
 mod world;
+mod world_refusal;
 
 pub use dx_tables::Engine;
-pub use refusal::WorldRefusal;
 pub use schedule::every_schedule;
 pub use world::World;
+pub use world_refusal::WorldRefusal;
 
 #[cfg(test)]
-mod plain;
+mod reference;
 #[cfg(test)]
 mod tests;

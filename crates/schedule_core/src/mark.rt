@@ -6,14 +6,14 @@ ghost use Rattle.std.specs.Prelude.{◌≡◌, ◌+◌, ◌-◌, ◌^◌, ◌<�
 /// and how many had been accepted at the first refusal.
 #[derive(Clone, Copy)]
 pub(crate) struct Mark {
-    pub accepted: u32,
-    pub refusals: u64,
-    pub first: u32,
+    pub(crate) accepted: u32,
+    pub(crate) refusals: u64,
+    pub(crate) first: u32,
 }
 
 impl Mark {
     /// Nothing was sent.
-    pub fn new() -> Mark
+    pub(crate) fn new() -> Mark
         ensures { result ≡ record { accepted = 0; refusals = 0; first = 0 } }
     {
         Mark {
@@ -24,7 +24,7 @@ impl Mark {
     }
 
     /// One more was accepted.
-    pub fn accept(self) -> Mark
+    pub(crate) fn accept(self) -> Mark
         requires { self.accepted < 4294967295 }
         ensures { result ≡ record self { accepted = self.accepted + 1 } }
     {
@@ -35,7 +35,7 @@ impl Mark {
     }
 
     /// One more was refused.
-    pub fn refuse(self) -> Mark
+    pub(crate) fn refuse(self) -> Mark
         ensures { result ≡ record {
           accepted = self.accepted;
           refusals = min (self.refusals + 1) (2 ^ 64 - 1);

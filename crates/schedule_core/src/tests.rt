@@ -1,10 +1,10 @@
-//! A world beside a plain program, schedule by schedule.
+//! A world beside the reference program, schedule by schedule.
 
 ghost use Rattle.std.specs.Prelude.{ℕ, ◌≡◌, ◌<◌, OnOk, length};
 ghost use Rattle.schedule_core.specs.Core.{Step, accepted_of, opening, step};
 
 use super::*;
-use crate::plain::{PlainCore, command_of};
+use crate::reference::{ReferenceCore, command_of};
 use command_set::Command;
 use std::alloc::{AllocError, Global};
 use std::process::Abort;
@@ -33,12 +33,12 @@ fn one_place(rt: HostRuntime) -> Result<(), Fail> {
     Ok(())
 }
 
-/// A step of the world and the plain core, by a random number. Is anything audible?
+/// A step of the world and the reference core, by a random number. Is anything audible?
 fn one_step(
     rt: &impl Abort,
     alloc: Global,
     world: &mut World,
-    plain: &mut PlainCore,
+    reference: &mut ReferenceCore,
     random: u32,
 ) -> Result<bool, AllocError>
     requires scripts { length world.old.scripts ≡ 3 }
@@ -48,18 +48,18 @@ fn one_step(
 {
     let kind = random % 9;
     if kind == 0 {
-        assert_eq!(rt; world.take(alloc)?, plain.take()?);
+        assert_eq!(rt; world.take(alloc)?, reference.take()?);
     } else if kind == 1 {
-        assert_eq!(rt; world.settle(alloc)?, plain.settle()?);
+        assert_eq!(rt; world.settle(alloc)?, reference.settle()?);
     } else if kind == 2 {
         let mut samples = [0i16; 64];
         world.render(&mut samples);
-        assert_eq!(rt; samples, plain.render(alloc)?);
+        assert_eq!(rt; samples, reference.render(alloc)?);
         return Ok(samples[63] != 0);
     } else {
         let script = random / 9 % 3;
         let number = random / 27;
-        let wanted = plain.send(script, random, number)?;
+        let wanted = reference.send(script, random, number)?;
         match world.send(alloc, script, random, command_of(number)) {
             Ok(seq) => assert_eq!(rt; Some(seq), wanted),
             Err(WorldRefusal::Full(_)) => assert_eq!(rt; None, wanted),
@@ -74,7 +74,7 @@ fn one_schedule(
     rt: &impl Abort,
     alloc: Global,
     world: &mut World,
-    plain: &mut PlainCore,
+    reference: &mut ReferenceCore,
     seed: u32,
 ) -> Result<u32, AllocError>
     requires { world.old ≡ opening world.old.places 3 }
@@ -86,7 +86,7 @@ fn one_schedule(
         random = random
             .wrapping_mul(1_664_525)
             .wrapping_add(1_013_904_223 + turn);
-        if one_step(rt, alloc, world, plain, random >> 8)? {
+        if one_step(rt, alloc, world, reference, random >> 8)? {
             audible = audible.wrapping_add(1);
         }
     }
@@ -101,22 +101,22 @@ fn random_schedules(rt: HostRuntime) -> Result<(), Fail> {
     for seed in 0..20u32 {
         let places = 1 + seed as usize % 4 * 12;
         let mut world = World::new(alloc, places, 3, Engine::One)?;
-        let mut plain = PlainCore::new(alloc, places);
-        let blocks = one_schedule(&rt, alloc, &mut world, &mut plain, seed)?;
+        let mut reference = ReferenceCore::new(alloc, places);
+        let blocks = one_schedule(&rt, alloc, &mut world, &mut reference, seed)?;
         audible = audible.wrapping_add(blocks);
-        assert_eq!(rt; world.blocks(), plain.blocks);
+        assert_eq!(rt; world.blocks(), reference.blocks);
         for script in 0..3u32 {
             assert_eq!(rt;
                 world.was_refused(script),
-                plain.was_refused[script as usize],
+                reference.was_refused[script as usize],
                 "seed {seed}"
             );
             if world.was_refused(script) {
                 refused = refused.wrapping_add(1);
             }
         }
-        assert_eq!(rt; world.journal().len(), plain.journal.len());
-        for (logged, (block, entry)) in world.journal().iter().zip(&plain.journal) {
+        assert_eq!(rt; world.journal().len(), reference.journal.len());
+        for (logged, (block, entry)) in world.journal().iter().zip(&reference.journal) {
             assert_eq!(rt; logged.block, *block);
             assert_eq!(rt; logged.entry.script, entry.script);
             assert_eq!(rt; logged.entry.seq, entry.seq);

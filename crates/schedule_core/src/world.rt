@@ -9,7 +9,7 @@ ghost use Rattle.schedule_core.specs.Schedule.{IsLegal};
 ghost use Rattle.schedule_core.specs.World.{HasSent};
 
 use crate::mark::Mark;
-use crate::refusal::WorldRefusal;
+use crate::world_refusal::WorldRefusal;
 use command_set::{Command, Entry, Logged};
 use dx_tables::Engine;
 use instrument::Instrument;

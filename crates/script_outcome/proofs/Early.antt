@@ -7,7 +7,7 @@ use Rattle.script_plan.specs.Plan.{PlannedData}
 use Rattle.script_outcome.specs.declared.fault.Place.{Place}
 use Rattle.midi_stream.specs.Ended.{EndedMessage, ended_message}
 use Rattle.script_outcome.specs.Outcomes.{Outcome, Gives, Fails, message_outcomes, ended_outcomes, fed_outcomes}
-use Rattle.script_outcome.specs.Reading.{all_given}
+use Rattle.script_outcome.specs.ReaderAnswer.{all_given}
 
 abbrev pub AllEarly : ℕ → List Outcome → Type 0
 AllEarly blocks [] = Unit {0}

@@ -7,7 +7,7 @@ use Rattle.script_outcome.specs.declared.fault.Place.{Place}
 use Rattle.script_outcome.specs.declared.fault.ScriptFault.{ScriptFault}
 use Rattle.midi_stream.specs.Ended.{ended_message}
 use Rattle.script_outcome.specs.Outcomes.{Outcome, ended_outcomes, fed_outcomes}
-use Rattle.script_outcome.specs.Reading.{Stops, all_given}
+use Rattle.script_outcome.specs.ReaderAnswer.{Stops, all_given}
 use Rattle.script_outcome.proofs.Plans.{stops_more}
 use Rattle.script_outcome.proofs.EndedMessages.{fed_more, take_next}
 

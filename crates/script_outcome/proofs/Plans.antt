@@ -13,7 +13,7 @@ use Rattle.command_set.specs.Message.{MessageOutcome, Overlong, Faulty}
 use Rattle.std.specs.Prelude.{Result, Ok, Err, OnOk, IfOk, IfErr, OnErr}
 use Rattle.script_outcome.specs.Outcomes.{Outcome, Gives, Fails, message_outcomes}
 use Rattle.script_outcome.specs.Plan.{Plan, Commands, Refused, TooMany, given, verdict, plan_of}
-use Rattle.script_outcome.specs.Reading.{Stops, all_given}
+use Rattle.script_outcome.specs.ReaderAnswer.{Stops, all_given}
 
 given_all : (cs : List PlannedData) (more : List Outcome) → given (all_given cs ++ more) ≡ cs ++ given more
 given_all [] more = refl

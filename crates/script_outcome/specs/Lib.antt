@@ -1,5 +1,5 @@
 pub mod Stream
 pub mod Outcomes
 pub mod Plan
-pub mod Reading
+pub mod ReaderAnswer
 pub mod Text

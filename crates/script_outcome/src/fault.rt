@@ -19,13 +19,13 @@ pub enum ScriptKind {
     Line,
     /// A line's block is below the block of a line before.
     Falls,
-    /// A line's block is not one of the run's.
+    /// The block of a line, or of an event of a MIDI file, is not one of the run's; or an event's is above 4294967295.
     Late,
     /// A system exclusive message is refused.
     Message(FrameFault),
     /// A system exclusive message has more than 5000 bytes.
     Long,
-    /// The bytes end within a message.
+    /// The bytes end within a message; or a MIDI file ends within a chunk, or a track within an event.
     Cut,
     /// The value is above the greatest of its number.
     Value,

@@ -2,14 +2,14 @@
 
 ghost use Rattle.std.specs.Prelude.{ℕ, List, ◌≡◌, ◌≤◌, [], ◌∷◌, ◌++◌, length, IfErr, IfOk, OnOk};
 ghost use Rattle.midi_stream.specs.Ranges.{InRange};
-ghost use Rattle.midi_stream.specs.Reading.{Reads};
+ghost use Rattle.midi_stream.specs.FedStream.{Reads};
 ghost use Rattle.velocity_map.specs.Map.{curve_of};
 ghost use Rattle.command_set.specs.Command.{IsInRange, content};
 ghost use Rattle.command_set.specs.Message.{command_of};
 ghost use Rattle.script_plan.specs.Plan.{last_due, planned_at};
 ghost use Rattle.midi_stream.specs.Ended.{ended_message};
 ghost use Rattle.script_outcome.specs.Outcomes.{Gives, fed_outcomes, ended_outcomes, message_outcomes};
-ghost use Rattle.script_outcome.specs.Reading.{Stops, all_given};
+ghost use Rattle.script_outcome.specs.ReaderAnswer.{Stops, all_given};
 
 use crate::fault::{Place, ScriptFault, ScriptKind};
 use command_set::{Command, CommandFault, from_message};

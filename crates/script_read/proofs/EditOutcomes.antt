@@ -15,11 +15,11 @@ use Rattle.script_read.specs.declared.editing.Editing.{Editing}
 use Rattle.script_read.specs.Words.{lines_of, without_return}
 use Rattle.script_outcome.specs.Outcomes.{Outcome, Gives, Fails}
 use Rattle.script_read.specs.Outcomes.{time_fault, timed}
-use Rattle.script_read.specs.EditLines.{Request, ParsedEdit, Passed, Requests, Bad, parsed_edit, parsed_edits}
+use Rattle.script_read.specs.EditLines.{EditRequestData, ParsedEdit, Passed, Requests, Bad, parsed_edit, parsed_edits}
 use Rattle.script_read.specs.Edits.{Answered, Becomes, Refuses, answer_outcomes, answered, block_then, edit_block, edit_outcomes, edit_place, edit_text_outcomes, edits_after, history_with, history_after, history_then, opened}
 use Rattle.script_outcome.specs.Plan.{Refused, plan_of}
-use Rattle.script_outcome.specs.Reading.{Stops, all_given}
-use Rattle.script_read.specs.EditReading.{IsEditing, IsRefusal, IsWithinEdits}
+use Rattle.script_outcome.specs.ReaderAnswer.{Stops, all_given}
+use Rattle.script_read.specs.EditsSoFar.{IsEditing, IsRefusal, IsWithinEdits}
 use Rattle.script_outcome.proofs.Plans.{fails, stops_more}
 use Rattle.script_read.proofs.LineOutcomes.{lines_first, lines_last, timed_none, timed_some}
 
@@ -112,7 +112,7 @@ stops_bad p blocks room lines fault b few is =
     subst (λ (why : ScriptFault). Stops why room (edits_after blocks [] (lines ++ Bad ∷ []))) (sym is)
     (stops_line p blocks room lines Bad kind.Line b few (bad_outcomes blocks lines))
 
-request_outcomes : (p : Editing) (blocks : Option ℕ) (lines : List ParsedEdit) (block : ℕ) (what : Request) → IsEditing p blocks lines
+request_outcomes : (p : Editing) (blocks : Option ℕ) (lines : List ParsedEdit) (block : ℕ) (what : EditRequestData) → IsEditing p blocks lines
     → edit_outcomes blocks lines (Requests block what) ≡ timed (time_fault blocks p.least block) (edit_place lines) (answer_outcomes (edit_place lines) block (answered p.editor what))
 unfolding edit_outcomes
 request_outcomes p blocks lines block what b =
@@ -120,7 +120,7 @@ request_outcomes p blocks lines block what b =
     ∙ ap (λ (h : History). timed (time_fault blocks p.least block) (edit_place lines) (answer_outcomes (edit_place lines) block (answered h what))) (sym b.history)
 
 -- a line whose block is wrong
-pub stops_time : (p : Editing) (blocks : Option ℕ) (room : ℕ) (lines : List ParsedEdit) (block : ℕ) (what : Request) (why : ScriptKind) (fault : ScriptFault)
+pub stops_time : (p : Editing) (blocks : Option ℕ) (room : ℕ) (lines : List ParsedEdit) (block : ℕ) (what : EditRequestData) (why : ScriptKind) (fault : ScriptFault)
     → IsEditing p blocks lines → length p.script ≤ room → time_fault blocks p.least block ≡ Some why → fault ≡ faults.Refused (place.Line p.number) why
     → Stops fault room (edits_after blocks [] (lines ++ Requests block what ∷ []))
 stops_time p blocks room lines block what why fault b few time is =
@@ -129,7 +129,7 @@ stops_time p blocks room lines block what why fault b few time is =
     (request_outcomes p blocks lines block what b ∙ timed_some (time_fault blocks p.least block) (edit_place lines) _ why time))
 
 -- a line in time, and what the editor answers
-answer_comes : (p : Editing) (blocks : Option ℕ) (lines : List ParsedEdit) (block : ℕ) (what : Request) (answer : Answered) → IsEditing p blocks lines
+answer_comes : (p : Editing) (blocks : Option ℕ) (lines : List ParsedEdit) (block : ℕ) (what : EditRequestData) (answer : Answered) → IsEditing p blocks lines
     → time_fault blocks p.least block ≡ None → answered p.editor what ≡ answer
     → edit_outcomes blocks lines (Requests block what) ≡ answer_outcomes (edit_place lines) block answer
 answer_comes p blocks lines block what answer b time is =
@@ -137,7 +137,7 @@ answer_comes p blocks lines block what answer b time is =
     ∙ ap (λ (a : Answered). answer_outcomes (edit_place lines) block a) is
 
 -- the editor refuses
-pub stops_answer : (p : Editing) (blocks : Option ℕ) (room : ℕ) (lines : List ParsedEdit) (block : ℕ) (what : Request) (fault : ScriptFault)
+pub stops_answer : (p : Editing) (blocks : Option ℕ) (room : ℕ) (lines : List ParsedEdit) (block : ℕ) (what : EditRequestData) (fault : ScriptFault)
     → IsEditing p blocks lines → length p.script ≤ room → time_fault blocks p.least block ≡ None → IsRefusal fault (place.Line p.number) (answered p.editor what)
     → Stops fault room (edits_after blocks [] (lines ++ Requests block what ∷ []))
 stops_answer p blocks room lines block what (faults.Refused at why) b few time is =
@@ -147,7 +147,7 @@ stops_answer p blocks room lines block what faults.TooMany b few time is = absur
 stops_answer p blocks room lines block what faults.Memory b few time is = tt
 
 -- the editor answers a command
-pub after_answer : (old new : Editing) (blocks : Option ℕ) (lines : List ParsedEdit) (block : ℕ) (what : Request) (command : CommandData)
+pub after_answer : (old new : Editing) (blocks : Option ℕ) (lines : List ParsedEdit) (block : ℕ) (what : EditRequestData) (command : CommandData)
     → IsEditing old blocks lines → time_fault blocks old.least block ≡ None → answered old.editor what ≡ Becomes new.editor command
     → new.least ≡ block → new.number ≡ old.number + 1 → all_given new.script ≡ all_given old.script ++ Gives (planned_at block command) ∷ []
     → IsEditing new blocks (lines ++ Requests block what ∷ [])
@@ -156,7 +156,7 @@ after_answer old new blocks lines block what command b time is least number give
     (given ∙ ap (λ (os : List Outcome). all_given old.script ++ os) (sym (answer_comes old blocks lines block what (Becomes new.editor command) b time is)))
 
 -- the command is not given
-pub stops_give : (p : Editing) (blocks : Option ℕ) (room : ℕ) (lines : List ParsedEdit) (block : ℕ) (what : Request) (next : History) (command : CommandData) (fault : ScriptFault)
+pub stops_give : (p : Editing) (blocks : Option ℕ) (room : ℕ) (lines : List ParsedEdit) (block : ℕ) (what : EditRequestData) (next : History) (command : CommandData) (fault : ScriptFault)
     → IsEditing p blocks lines → time_fault blocks p.least block ≡ None → answered p.editor what ≡ Becomes next command
     → Stops fault room (all_given p.script ++ Gives (planned_at block command) ∷ [])
     → Stops fault room (edits_after blocks [] (lines ++ Requests block what ∷ []))

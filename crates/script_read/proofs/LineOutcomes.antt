@@ -4,7 +4,7 @@ use Rattle.std.specs.Prelude.{Option, Some, None, Result, Ok, Err, IfOk, IfErr, 
 use Rattle.plain_text.specs.Split.{split}
 use Rattle.plain_text.proofs.Cuts.{split_some}
 use Rattle.midi_stream.specs.Messages.{is_unfinished}
-use Rattle.midi_stream.specs.Reading.{Reads}
+use Rattle.midi_stream.specs.FedStream.{Reads}
 use Rattle.velocity_map.specs.declared.curve.Curve.{Curve}
 use Rattle.velocity_map.specs.declared.curve.Curve.TheVariants.{Linear}
 use Rattle.command_set.specs.Command.{CommandData}
@@ -21,8 +21,8 @@ use Rattle.script_read.specs.Lines.{ParsedLine, Blank, Maps, Orders, Feeds, Wron
 use Rattle.script_outcome.specs.Outcomes.{Outcome, Gives, Fails, fed_outcomes}
 use Rattle.script_read.specs.Outcomes.{curved, curve_after, block_after, stream_of, fed_line, time_fault, timed, line_after, line_outcomes, outcomes_after, text_end, text_outcomes}
 use Rattle.script_outcome.specs.Plan.{Refused, plan_of}
-use Rattle.script_outcome.specs.Reading.{Settles, Stops, all_given}
-use Rattle.script_read.specs.Reading.{IsAfter, IsWithin}
+use Rattle.script_outcome.specs.ReaderAnswer.{Settles, Stops, all_given}
+use Rattle.script_read.specs.TextSoFar.{IsAfter, IsWithin}
 use Rattle.script_outcome.proofs.Plans.{fails, stops_more}
 
 -- what one line changes

@@ -17,7 +17,7 @@ use Rattle.script_read.specs.Outcomes.{stream_of, outcomes_after, text_outcomes}
 use Rattle.script_outcome.specs.Plan.{Commands, Refused, TooMany, plan_of}
 use Rattle.midi_file.specs.File.{midi_outcomes}
 use Rattle.script_read.specs.Plan.{at_first, is_stream, is_midi_file, lines_outcomes, outcomes, plan}
-use Rattle.script_outcome.specs.Reading.{Settles, Stops, all_given}
+use Rattle.script_outcome.specs.ReaderAnswer.{Settles, Stops, all_given}
 use Rattle.script_outcome.proofs.Plans.{fails_after, stopped_refused, stopped_many, whole}
 use Rattle.script_outcome.proofs.Early.{AllEarly, given_early}
 use Rattle.script_read.proofs.Early.{all_early}

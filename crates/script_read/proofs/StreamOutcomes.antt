@@ -17,7 +17,7 @@ use Rattle.midi_stream.specs.Ended.{EndedMessage, ended_message}
 use Rattle.script_outcome.specs.Outcomes.{Outcome, ended_outcomes, fed_outcomes}
 use Rattle.script_read.specs.Outcomes.{stream_end, stream_outcomes}
 use Rattle.script_outcome.specs.Plan.{Refused, plan_of}
-use Rattle.script_outcome.specs.Reading.{Settles, Stops, all_given}
+use Rattle.script_outcome.specs.ReaderAnswer.{Settles, Stops, all_given}
 use Rattle.script_outcome.proofs.Plans.{fails, stops_more}
 use Rattle.script_outcome.proofs.EndedMessages.{begun_more, fed_more, take_next}
 use Rattle.script_outcome.proofs.FedBytes.{fed_append}

@@ -5,9 +5,9 @@ use Rattle.script_read.specs.declared.edit_line.EditRequest.{EditRequest}
 use Rattle.script_read.specs.declared.edit_line.EditRequest.TheVariants as request
 use Rattle.script_read.specs.declared.edit_line.EditLine.{EditLine}
 use Rattle.script_read.specs.declared.edit_line.EditLine.TheVariants as line
-use Rattle.script_read.specs.EditLines.{Request, Sets, Undoes, Redoes, Renames, Loads, Puts, ParsedEdit, Passed, Requests, Bad}
+use Rattle.script_read.specs.EditLines.{EditRequestData, Sets, Undoes, Redoes, Renames, Loads, Puts, ParsedEdit, Passed, Requests, Bad}
 
-abbrev pub request_data : EditRequest → Request
+abbrev pub request_data : EditRequest → EditRequestData
 request_data (request.Set number value) = Sets number value
 request_data request.Undo = Undoes
 request_data request.Redo = Redoes

@@ -10,18 +10,18 @@ use Rattle.script_read.specs.Lines.{is_comment}
 
 -- a request to an editor: a parameter of the voice set to a value; an act undone, or done again; another name; another voice; or the voice
 -- put into a slot
-pub data Request : Type 0 where
-  Sets : ℕ → ℕ → Request
-  Undoes : Request
-  Redoes : Request
-  Renames : List ℕ → Request
-  Loads : List ℕ → Request
-  Puts : ℕ → Request
+pub data EditRequestData : Type 0 where
+  Sets : ℕ → ℕ → EditRequestData
+  Undoes : EditRequestData
+  Redoes : EditRequestData
+  Renames : List ℕ → EditRequestData
+  Loads : List ℕ → EditRequestData
+  Puts : ℕ → EditRequestData
 
 -- a parsed line: nothing, it is passed over; or a request at a block; or it isn't of the grammar
 pub data ParsedEdit : Type 0 where
   Passed : ParsedEdit
-  Requests : ℕ → Request → ParsedEdit
+  Requests : ℕ → EditRequestData → ParsedEdit
   Bad : ParsedEdit
 
 -- a byte that a name may have
@@ -36,7 +36,7 @@ parsed_name text =
     else None
 
 -- a parameter of the voice, from 0 to 154, and a value, which may be above its greatest
-abbrev pub parsed_set : Option ℕ → Option ℕ → Option Request
+abbrev pub parsed_set : Option ℕ → Option ℕ → Option EditRequestData
 parsed_set (Some number) (Some value) = Some (Sets number value)
 parsed_set (Some number) None = None
 parsed_set None value = None
@@ -54,37 +54,37 @@ voice_taken (LoadsVoice voice) = Some voice
 voice_taken (LoadsCartridge voices) = None
 
 -- a kind alone
-abbrev pub request_alone : List ℕ → Option Request
+abbrev pub request_alone : List ℕ → Option EditRequestData
 request_alone kind =
     if bytes_eq kind (codes "undo") then Some Undoes
     else if bytes_eq kind (codes "redo") then Some Redoes
     else None
 
 -- a kind and one word; a voice is written as in a command
-abbrev pub request_of_one : List ℕ → List ℕ → Option Request
+abbrev pub request_of_one : List ℕ → List ℕ → Option EditRequestData
 request_of_one kind word =
     if bytes_eq kind (codes "voice") then option_map Loads (option_and_then voice_taken (parsed_voice word))
     else if bytes_eq kind (codes "store") then option_map Puts (number_to 31 word)
     else None
 
 -- a kind and two words
-abbrev pub request_of_two : List ℕ → List ℕ → List ℕ → Option Request
+abbrev pub request_of_two : List ℕ → List ℕ → List ℕ → Option EditRequestData
 request_of_two kind first second =
     if bytes_eq kind (codes "set") then parsed_set (number_to 154 first) (number_to (2 ^ 32 - 1) second) else None
 
 -- a kind and the words after it
-abbrev pub request_of_words : List ℕ → List (List ℕ) → Option Request
+abbrev pub request_of_words : List ℕ → List (List ℕ) → Option EditRequestData
 request_of_words kind [] = request_alone kind
 request_of_words kind (word ∷ []) = request_of_one kind word
 request_of_words kind (first ∷ second ∷ []) = request_of_two kind first second
 request_of_words kind (first ∷ second ∷ third ∷ more) = None
 
 -- the words after a block; a name is all of the text after its kind and one space
-abbrev pub parsed_request : List ℕ → List (List ℕ) → Option Request
+abbrev pub parsed_request : List ℕ → List (List ℕ) → Option EditRequestData
 parsed_request text [] = None
 parsed_request text (kind ∷ words) = if bytes_eq kind (codes "name") then option_map Renames (parsed_name text) else request_of_words kind words
 
-abbrev pub request_at : ℕ → Option Request → ParsedEdit
+abbrev pub request_at : ℕ → Option EditRequestData → ParsedEdit
 request_at block None = Bad
 request_at block (Some what) = Requests block what
 

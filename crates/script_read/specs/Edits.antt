@@ -9,7 +9,7 @@ use Rattle.script_outcome.specs.declared.fault.Place.{Place}
 use Rattle.script_outcome.specs.declared.fault.Place.TheVariants as place
 use Rattle.script_outcome.specs.declared.fault.ScriptKind.{ScriptKind}
 use Rattle.script_outcome.specs.declared.fault.ScriptKind.TheVariants as kind
-use Rattle.script_read.specs.EditLines.{Request, Sets, Undoes, Redoes, Renames, Loads, Puts, ParsedEdit, Passed, Requests, Bad}
+use Rattle.script_read.specs.EditLines.{EditRequestData, Sets, Undoes, Redoes, Renames, Loads, Puts, ParsedEdit, Passed, Requests, Bad}
 use Rattle.script_outcome.specs.Outcomes.{Outcome, Gives, Fails}
 use Rattle.script_read.specs.Outcomes.{time_fault, timed}
 
@@ -24,7 +24,7 @@ stepped why None = Refuses why
 stepped why (Some found) = Becomes found.0 found.1
 
 -- the voice put into a slot is no act
-unfoldable pub answered : History → Request → Answered
+unfoldable pub answered : History → EditRequestData → Answered
 answered h (Sets number value) =
     if nat_le value (greatest_value number)
     then Becomes (acted h (OneParameter number) (slice_set h.voice number value)) (SetsParameter number value)

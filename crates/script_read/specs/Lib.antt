@@ -7,5 +7,5 @@ pub mod Outcomes
 pub mod EditLines
 pub mod Edits
 pub mod Plan
-pub mod Reading
-pub mod EditReading
+pub mod TextSoFar
+pub mod EditsSoFar

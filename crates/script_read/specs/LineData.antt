@@ -1,11 +1,11 @@
 -- For private functions and proofs: a line that was read, as plain data.
 use Rattle.command_set.specs.Command.{IsInRange, content}
-use Rattle.script_read.specs.declared.line.Line.{Line}
-use Rattle.script_read.specs.declared.line.Line.TheVariants as line
+use Rattle.script_read.specs.declared.script_line.ScriptLine.{ScriptLine}
+use Rattle.script_read.specs.declared.script_line.ScriptLine.TheVariants as line
 use Rattle.script_read.specs.Lines.{ParsedLine, Maps, Orders, Feeds, Wrong}
 use Rattle.script_read.specs.Lines as lines
 
-abbrev pub line_data : Line → ParsedLine
+abbrev pub line_data : ScriptLine → ParsedLine
 line_data line.Blank = lines.Blank
 line_data (line.Map curve) = Maps curve
 line_data (line.Command block command) = Orders block (content command)
@@ -13,7 +13,7 @@ line_data (line.Bytes block bytes) = Feeds block bytes.items
 line_data line.Wrong = Wrong
 
 -- its command is in range
-abbrev pub IsSound : Line → Type 0
+abbrev pub IsSound : ScriptLine → Type 0
 IsSound line.Blank = Unit {0}
 IsSound (line.Map curve) = Unit {0}
 IsSound (line.Command block command) = IsInRange (content command)

@@ -13,7 +13,7 @@ ghost use Rattle.script_read.specs.EditLines.{request_of_words};
 ghost use Rattle.script_read.specs.EditData.{IsSoundRequest, IsSoundLine, request_data, edit_data};
 
 use crate::grammar::voice_of;
-use crate::line::starts_comment;
+use crate::script_line::starts_comment;
 use crate::words::{next_word, read_number};
 use command_set::Command;
 use plain_text::is_word;

@@ -1,11 +1,11 @@
-//! A script of edits.
+//! A script of edits, read line by line.
 
 ghost use Rattle.std.specs.Prelude.{List, ◌≡◌, ◌+◌, ◌≤◌, ◌<◌, ◌^◌, ◌-◌, [], ◌∷◌, ◌++◌, length, IfErr, OnOk};
 ghost use Rattle.script_read.specs.Words.{lines_of};
 ghost use Rattle.script_read.specs.EditLines.{ParsedEdit, parsed_edit, parsed_edits};
 ghost use Rattle.script_read.specs.Edits.{edit_text_outcomes, edits_after};
-ghost use Rattle.script_read.specs.EditReading.{HasEditOrder, IsEditing};
-ghost use Rattle.script_outcome.specs.Reading.{Settles, Stops};
+ghost use Rattle.script_read.specs.EditsSoFar.{HasEditOrder, IsEditing};
+ghost use Rattle.script_outcome.specs.ReaderAnswer.{Settles, Stops};
 
 use crate::edit_line::read_edit_line;
 use crate::editing::Editing;

@@ -6,7 +6,7 @@ ghost use Rattle.editor.specs.Names.{first_high};
 ghost use Rattle.script_read.specs.EditLines.{Loads, Redoes, Renames, Sets, Undoes};
 ghost use Rattle.script_read.specs.EditData.{IsSoundRequest, request_data};
 ghost use Rattle.script_read.specs.Edits.{Becomes, answered};
-ghost use Rattle.script_read.specs.EditReading.{IsRefusal};
+ghost use Rattle.script_read.specs.EditsSoFar.{IsRefusal};
 
 use crate::edit_line::{EditLine, EditRequest};
 use crate::progress::{fault_of_block, refused};
@@ -36,8 +36,8 @@ impl Editing {
     ghost use Rattle.script_read.specs.EditLines.{Requests, Bad, ParsedEdit, Passed};
     ghost use Rattle.script_read.specs.EditData.{IsSoundRequest, IsSoundLine, request_data, edit_data};
     ghost use Rattle.script_read.specs.Edits.{edits_after};
-    ghost use Rattle.script_read.specs.EditReading.{HasEditOrder, IsEditing};
-    ghost use Rattle.script_outcome.specs.Reading.{Stops};
+    ghost use Rattle.script_read.specs.EditsSoFar.{HasEditOrder, IsEditing};
+    ghost use Rattle.script_outcome.specs.ReaderAnswer.{Stops};
 
     /// Before the line after the first, with the opening voice. It asks for the memory that an editor needs.
     pub(crate) fn new(alloc: Global) -> Result<Editing, AllocError>

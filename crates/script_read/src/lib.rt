@@ -5,10 +5,10 @@ mod edit_line;
 mod edit_lines;
 mod editing;
 mod grammar;
-mod line;
 mod lines;
 mod progress;
 mod read;
+mod script_line;
 mod stream;
 mod words;
 

@@ -1,14 +1,14 @@
-//! A script that is text.
+//! A script that is text, read line by line.
 
 ghost use Rattle.std.specs.Prelude.{ℕ, List, ◌≡◌, ◌+◌, ◌≤◌, ◌<◌, ◌^◌, ◌-◌, ◌==◌, [], ◌∷◌, ◌++◌, length, slice_index, IfErr, IsTrue, OnOk};
 ghost use Rattle.script_read.specs.Words.{lines_of, without_return};
 ghost use Rattle.script_read.specs.Lines.{ParsedLine, parsed, parsed_lines};
 ghost use Rattle.script_read.specs.Outcomes.{outcomes_after, text_outcomes};
-ghost use Rattle.script_outcome.specs.Reading.{Settles, Stops};
-ghost use Rattle.script_read.specs.Reading.{HasOrder, IsAfter};
+ghost use Rattle.script_outcome.specs.ReaderAnswer.{Settles, Stops};
+ghost use Rattle.script_read.specs.TextSoFar.{HasOrder, IsAfter};
 
-use crate::line::read_line;
 use crate::progress::Progress;
+use crate::script_line::read_line;
 use plain_text::split_once;
 use script_outcome::{Bounds, ScriptFault};
 use script_plan::Script;

@@ -5,7 +5,7 @@ ghost use Rattle.velocity_map.specs.Map.{curve_of};
 ghost use Rattle.command_set.specs.Command.{IsInRange, content};
 ghost use Rattle.script_read.specs.Outcomes.{curved, time_fault};
 
-use crate::line::Line;
+use crate::script_line::ScriptLine;
 use command_set::Command;
 use script_outcome::{Bounds, Feed, Place, ScriptFault, ScriptKind, Spot, give, read_bytes};
 use script_plan::Script;
@@ -29,13 +29,13 @@ pub(crate) struct Progress {
 impl Progress {
     ghost use Rattle.std.specs.Prelude.{ℕ, List, Option, ◌≡◌, ◌+◌, ◌^◌, ◌-◌, ◌<◌, [], ◌∷◌, ◌++◌, true, false, IfErr, IfOk, OnErr, OnOk};
     ghost use Rattle.midi_stream.specs.Messages.{is_unfinished};
-    ghost use Rattle.midi_stream.specs.Reading.{Reads};
+    ghost use Rattle.midi_stream.specs.FedStream.{Reads};
     ghost use Rattle.command_set.specs.Command.{IsInRange, content};
     ghost use Rattle.script_read.specs.Lines.{ParsedLine, Blank, Feeds, Maps, Orders, Wrong};
     ghost use Rattle.script_read.specs.LineData.{IsSound, line_data};
     ghost use Rattle.script_read.specs.Outcomes.{outcomes_after};
-    ghost use Rattle.script_outcome.specs.Reading.{Stops};
-    ghost use Rattle.script_read.specs.Reading.{HasOrder, IsAfter};
+    ghost use Rattle.script_outcome.specs.ReaderAnswer.{Stops};
+    ghost use Rattle.script_read.specs.TextSoFar.{HasOrder, IsAfter};
 
     /// Before the line after the first. It asks for the memory that a reader of MIDI bytes needs.
     pub(crate) fn new(alloc: Global) -> Result<Progress, AllocError>
@@ -59,7 +59,7 @@ impl Progress {
     pub(crate) fn apply(
         &mut self,
         alloc: Global,
-        parsed: Line,
+        parsed: ScriptLine,
         maps: &MapSet,
         bounds: Bounds,
     ) -> Result<(), ScriptFault>
@@ -74,17 +74,21 @@ impl Progress {
             → Stops why bounds.room (outcomes_after bounds.blocks [] (lines ++ line_data parsed ∷ []))) }
     {
         match parsed {
-            Line::Blank => {
+            ScriptLine::Blank => {
                 self.pass_over();
                 Ok(())
             }
-            Line::Map(curve) => {
+            ScriptLine::Map(curve) => {
                 self.set_curve(curve);
                 Ok(())
             }
-            Line::Command { block, command } => self.add_command(block, command, maps, bounds),
-            Line::Bytes { block, bytes } => self.add_bytes(alloc, block, &bytes, maps, bounds),
-            Line::Wrong => Err(self.refuse()),
+            ScriptLine::Command { block, command } => self.add_command(
+                block, command, maps, bounds,
+            ),
+            ScriptLine::Bytes { block, bytes } => self.add_bytes(
+                alloc, block, &bytes, maps, bounds,
+            ),
+            ScriptLine::Wrong => Err(self.refuse()),
         }
     }
 

@@ -7,7 +7,7 @@ ghost use Rattle.script_outcome.specs.declared.fault.ScriptKind.{ScriptKind};
 ghost use Rattle.script_read.specs.Words.{lines_of};
 ghost use Rattle.script_outcome.specs.Plan.{Commands, Refused, TooMany};
 ghost use Rattle.script_read.specs.Plan.{is_midi_file, is_stream, lines_outcomes, outcomes, plan};
-ghost use Rattle.script_outcome.specs.Reading.{Settles};
+ghost use Rattle.script_outcome.specs.ReaderAnswer.{Settles};
 
 use crate::edit_lines::read_edit_lines;
 use crate::lines::{read_lines, without_return};

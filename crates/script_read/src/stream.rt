@@ -2,12 +2,12 @@
 
 ghost use Rattle.std.specs.Prelude.{ℕ, List, ◌≡◌, ◌+◌, ◌≤◌, ◌||◌, length, not, true, false, if◌then◌else◌, IfErr, IfOk, OnErr, OnOk};
 ghost use Rattle.midi_stream.specs.Messages.{is_unfinished};
-ghost use Rattle.midi_stream.specs.Reading.{Reads};
+ghost use Rattle.midi_stream.specs.FedStream.{Reads};
 ghost use Rattle.velocity_map.specs.declared.curve.Curve.TheVariants.{Linear};
 ghost use Rattle.velocity_map.specs.Map.{curve_of};
 ghost use Rattle.script_outcome.specs.Stream.{is_status};
 ghost use Rattle.script_read.specs.Outcomes.{stream_outcomes};
-ghost use Rattle.script_outcome.specs.Reading.{Settles};
+ghost use Rattle.script_outcome.specs.ReaderAnswer.{Settles};
 
 use script_outcome::{Feed, Place, ScriptFault, ScriptKind, Spot};
 use script_plan::Script;

@@ -1,4 +1,4 @@
-//! Scripts of both kinds, good ones and broken ones.
+//! Scripts of every kind, good ones and broken ones.
 
 use super::*;
 use plain_text::{LineText, push_number, push_text};

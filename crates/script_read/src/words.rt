@@ -1,10 +1,9 @@
 //! Words of a line, and the numbers that they write.
 
-ghost use Rattle.std.specs.Prelude.{◌≡◌, ◌≤◌, ◌↔◌, ◌&&◌, [], ◌∷◌, IfNone, IfSome, IsTrue, length, nat_le, if◌then◌else◌, Some, None};
-ghost use Rattle.std.specs.Int.{IsInRange};
+ghost use Rattle.std.specs.Prelude.{◌≡◌, ◌≤◌, ◌&&◌, [], ◌∷◌, IfNone, IfSome, length, nat_le, if◌then◌else◌, Some, None};
 ghost use Rattle.script_read.specs.Words.{number_to, text_after, words_of};
 
-use plain_text::split_once;
+use plain_text::{is_digit, split_once};
 
 /// The most digits of a number, zeros in front among them.
 const DIGITS: usize = 10;
@@ -49,10 +48,4 @@ pub(crate) fn read_number(word: &[u8], most: u32) -> Option<u32>
         }
     }
     Some(value as u32)
-}
-
-fn is_digit(byte: u8) -> bool
-    ensures { IsTrue result ↔ IsInRange 48 57 byte }
-{
-    b'0' <= byte && byte <= b'9'
 }

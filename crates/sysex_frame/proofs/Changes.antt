@@ -1,12 +1,14 @@
 -- Parameter changes and requests without a fault.
-use Rattle.std.proofs.Common.{◌≡◌, ◌≢◌, ℕ, ◌+◌, ◌-◌, ◌*◌, ◌/◌, ◌%◌, ◌<◌, ◌≤◌, List, [], ◌∷◌, ◌++◌, length, get_or, take, drop, ap, sym, ◌∙◌, arith, refl, subst, length-append, None}
+use Rattle.std.proofs.Common.{◌≡◌, ◌≢◌, ℕ, ◌+◌, ◌-◌, ◌*◌, ◌/◌, ◌%◌, ◌<◌, ◌≤◌, List, [], ◌∷◌, ◌++◌, length, get_or, take, drop, ap, sym, ◌∙◌, arith}
+use Rattle.std.proofs.Common.{refl, subst, length-append, None}
 use Rattle.std.specs.List.{slice_range}
 use Rattle.std.proofs.lemmas.Bool.{lt-leb}
 use Rattle.std.proofs.lemmas.List.Edits.{length-between}
 use Rattle.voice_record.specs.Voice.{greatest_value}
 use Rattle.voice_record.proofs.Voices.{greatest_small}
 use Rattle.sysex_frame.specs.Frame.{IsData, IsParamChange, IsOtherChange, IsRequest}
-use Rattle.sysex_frame.specs.FrameFault.{substatus, device, group, number, unknown_substatus, unknown_format, wrong_count, wanted_length, wrong_length, wrong_checksum, high_value}
+use Rattle.sysex_frame.specs.FrameFault.{substatus, device, group, number, unknown_substatus, unknown_format, wrong_count, wanted_length}
+use Rattle.sysex_frame.specs.FrameFault.{wrong_length, wrong_checksum, high_value}
 use Rattle.sysex_frame.specs.Halves.{later_fault}
 use Rattle.sysex_frame.proofs.Facts.{none_parts, row_free, row_none, IsPlain}
 use Rattle.sysex_frame.proofs.Conditions.{not_a_dump, not_a_change, length_of_change, change_length, request_length, value_known, value_good}
@@ -34,7 +36,8 @@ change_from_none message p s h =
       kind = s;
       least = sized.0;
       one = sized.1;
-      value = λ g n. value_known (substatus message) (group message) (number message) (greatest_value (number message)) (get_or message 5 0) s g n (row_free _ _ six.0);
+      value = λ g n. value_known (substatus message) (group message) (number message) (greatest_value (number message)) (get_or message 5 0) s g n
+          (row_free _ _ six.0);
     }
 
 pub change_clean : (message : List ℕ) → IsChangeMessage message → later_fault message ≡ None
@@ -43,7 +46,8 @@ change_clean message d =
     let a : unknown_substatus message ≡ None = row_none _ _ (lt-leb _ _ (omega (arith, d.kind))) in
     let b : unknown_format message ≡ None = row_none _ _ (not_a_dump (substatus message) _ other) in
     let c : wrong_count message ≡ None = row_none _ _ (not_a_dump (substatus message) _ other) in
-    let e : wrong_length message ≡ None = row_none _ _ (change_length (substatus message) (length message) (wanted_length message) (group message) d.kind d.least d.one) in
+    let e : wrong_length message ≡ None = row_none _ _ (change_length (substatus message) (length message) (wanted_length message) (group message) d.kind
+        d.least d.one) in
     let f : wrong_checksum message ≡ None = row_none _ _ (not_a_dump (substatus message) _ other) in
     let g : high_value message ≡ None =
     row_none _ _ (value_good (substatus message) (group message) (number message) (greatest_value (number message)) (get_or message 5 0) d.value) in
@@ -64,7 +68,8 @@ request_clean message s =
 nothing_between : (xs : List ℕ) (n : ℕ) → length xs - 1 ≡ n → slice_range xs n (length xs - 1) ≡ []
 nothing_between xs n e = let z : length xs - 1 - n ≡ 0 = omega arith in ap (λ k. take k (drop n xs)) z
 
-pub param_frame : (message : List ℕ) → IsChangeMessage message → group message ≡ 0 → number message ≤ 155 → IsParamChange message (device message) (number message) (get_or message 5 0)
+pub param_frame : (message : List ℕ) → IsChangeMessage message → group message ≡ 0 → number message ≤ 155
+    → IsParamChange message (device message) (number message) (get_or message 5 0)
 param_frame message d g n =
     let plain = d.plain in
     let size : length message ≡ 7 = d.one g in
@@ -73,7 +78,8 @@ param_frame message d g n =
     let two : get_or message 2 0 ≡ 0x10 + device message = omega (arith, d.kind) in
     let three : get_or message 3 0 ≡ number message / 128 = omega (arith, g) in
     let four : get_or message 4 0 ≡ number message % 128 = omega (arith, g) in
-    let head : message ≡ get_or message 0 0 ∷ get_or message 1 0 ∷ get_or message 2 0 ∷ get_or message 3 0 ∷ get_or message 4 0 ∷ get_or message 5 0 ∷ drop 6 message = heads_6 message (omega arith) in
+    let head : message ≡ get_or message 0 0 ∷ get_or message 1 0 ∷ get_or message 2 0 ∷ get_or message 3 0 ∷ get_or message 4 0 ∷ get_or message 5 0
+        ∷ drop 6 message = heads_6 message (omega arith) in
     let tail : drop 6 message ≡ slice_range message 6 (length message - 1) ++ get_or message (length message - 1) 0 ∷ [] = tail_end message 6 (omega arith) in
     let none : slice_range message 6 (length message - 1) ≡ [] = nothing_between message 6 (omega arith) in
     let end : drop 6 message ≡ 0xF7 ∷ [] = tail ∙ (ap (λ xs. xs ++ get_or message (length message - 1) 0 ∷ []) none ∙ ap (λ x. x ∷ []) plain.ended) in
@@ -84,7 +90,8 @@ param_frame message d g n =
       spelled = cc (head, plain.first, plain.manufacturer, two, three, four, end);
     }
 
-pub other_frame : (message : List ℕ) → IsChangeMessage message → (group message ≡ 0 → 155 < number message) → IsOtherChange message (device message) (group message) (number message)
+pub other_frame : (message : List ℕ) → IsChangeMessage message → (group message ≡ 0 → 155 < number message)
+    → IsOtherChange message (device message) (group message) (number message)
 other_frame message d other =
     let plain = d.plain in
     let least = d.least in
@@ -93,7 +100,8 @@ other_frame message d other =
     let two : get_or message 2 0 ≡ 0x10 + device message = omega (arith, d.kind) in
     let three : get_or message 3 0 ≡ 4 * group message + number message / 128 = omega arith in
     let four : get_or message 4 0 ≡ number message % 128 = omega arith in
-    let head : message ≡ get_or message 0 0 ∷ get_or message 1 0 ∷ get_or message 2 0 ∷ get_or message 3 0 ∷ get_or message 4 0 ∷ drop 5 message = heads_5 message (omega arith) in
+    let head : message ≡ get_or message 0 0 ∷ get_or message 1 0 ∷ get_or message 2 0 ∷ get_or message 3 0 ∷ get_or message 4 0 ∷ drop 5 message =
+        heads_5 message (omega arith) in
     let tail : drop 5 message ≡ slice_range message 5 (length message - 1) ++ get_or message (length message - 1) 0 ∷ [] = tail_end message 5 (omega arith) in
     let size : length (slice_range message 5 (length message - 1)) ≡ length message - 1 - 5 = length-between message 5 (length message - 1) (omega arith) in
     record {
@@ -125,7 +133,8 @@ request_frame message plain s =
 
 -- ---- messages that are spelled so have these places
 pub param_places :
-    (message : List ℕ) (d n v : ℕ) → IsParamChange message d n v → IsChangeMessage message × (group message ≡ 0) × (number message ≡ n) × (device message ≡ d) × (get_or message 5 0 ≡ v)
+    (message : List ℕ) (d n v : ℕ) → IsParamChange message d n v → IsChangeMessage message × (group message ≡ 0) × (number message ≡ n) × (device message ≡ d)
+        × (get_or message 5 0 ≡ v)
 param_places message d n v h =
     let spelled : List ℕ = 0xF0 ∷ 0x43 ∷ (0x10 + d) ∷ (n / 128) ∷ (n % 128) ∷ v ∷ 0xF7 ∷ [] in
     let sixteen = h.sixteen in
@@ -187,5 +196,6 @@ request_places message d h =
     let sixteen = h.sixteen in
     let least = h.least in
     let clean : IsData ((0x20 + d) ∷ rest) = data_cons (0x20 + d) rest (omega arith) h.bytes in
-    let all : IsPlain spelled × (substatus spelled ≡ 2) × (device spelled ≡ d) = (plain_message ((0x20 + d) ∷ rest) (omega arith) clean, omega arith, omega arith) in
+    let all : IsPlain spelled × (substatus spelled ≡ 2) × (device spelled ≡ d) =
+        (plain_message ((0x20 + d) ∷ rest) (omega arith) clean, omega arith, omega arith) in
     subst (λ t. IsPlain t × (substatus t ≡ 2) × (device t ≡ d)) (sym h.spelled) all

@@ -16,16 +16,20 @@ pub not_a_change : (s : ℕ) (rest : Bool) → s ≢ 1 → (s == 1 && rest) ≡ 
 not_a_change s rest h = grind (arith, nat_tests)
 
 -- the count bytes of a voice, and of a cartridge
-pub count_known_voice : (s n f a b : ℕ) → s ≡ 0 → 7 ≤ n → f ≡ 0 → (s == 0 && (nat_le 7 n && (f == 0 && not (a == 1 && b == 27) || f == 9 && not (a == 32 && b == 0)))) ≡ false → (a ≡ 1) × (b ≡ 27)
+pub count_known_voice : (s n f a b : ℕ) → s ≡ 0 → 7 ≤ n → f ≡ 0 → (s == 0 &&
+    (nat_le 7 n && (f == 0 && not (a == 1 && b == 27) || f == 9 && not (a == 32 && b == 0)))) ≡ false → (a ≡ 1) × (b ≡ 27)
 count_known_voice s n f a b es l ef h = grind (arith, nat_tests)
 
-pub count_known_cartridge : (s n f a b : ℕ) → s ≡ 0 → 7 ≤ n → f ≡ 9 → (s == 0 && (nat_le 7 n && (f == 0 && not (a == 1 && b == 27) || f == 9 && not (a == 32 && b == 0)))) ≡ false → (a ≡ 32) × (b ≡ 0)
+pub count_known_cartridge : (s n f a b : ℕ) → s ≡ 0 → 7 ≤ n → f ≡ 9 → (s == 0 &&
+    (nat_le 7 n && (f == 0 && not (a == 1 && b == 27) || f == 9 && not (a == 32 && b == 0)))) ≡ false → (a ≡ 32) × (b ≡ 0)
 count_known_cartridge s n f a b es l ef h = grind (arith, nat_tests)
 
-pub count_good_voice : (s n f a b : ℕ) → f ≡ 0 → a ≡ 1 → b ≡ 27 → (s == 0 && (nat_le 7 n && (f == 0 && not (a == 1 && b == 27) || f == 9 && not (a == 32 && b == 0)))) ≡ false
+pub count_good_voice : (s n f a b : ℕ) → f ≡ 0 → a ≡ 1 → b ≡ 27 → (s == 0 &&
+    (nat_le 7 n && (f == 0 && not (a == 1 && b == 27) || f == 9 && not (a == 32 && b == 0)))) ≡ false
 count_good_voice s n f a b ef ea eb = grind (arith, nat_tests)
 
-pub count_good_cartridge : (s n f a b : ℕ) → f ≡ 9 → a ≡ 32 → b ≡ 0 → (s == 0 && (nat_le 7 n && (f == 0 && not (a == 1 && b == 27) || f == 9 && not (a == 32 && b == 0)))) ≡ false
+pub count_good_cartridge : (s n f a b : ℕ) → f ≡ 9 → a ≡ 32 → b ≡ 0 → (s == 0 &&
+    (nat_le 7 n && (f == 0 && not (a == 1 && b == 27) || f == 9 && not (a == 32 && b == 0)))) ≡ false
 count_good_cartridge s n f a b ef ea eb = grind (arith, nat_tests)
 
 -- the lengths: of a dump, of a change, of a request
@@ -35,10 +39,12 @@ length_of_dump s n w g e h = grind (arith, nat_tests)
 pub dump_length : (s n w g : ℕ) → s ≡ 0 → n ≡ w → not (if s == 0 then n == w else (if s == 1 then (if g == 0 then n == 7 else nat_le 7 n) else true)) ≡ false
 dump_length s n w g e h = grind (arith, nat_tests)
 
-pub length_of_change : (s n w g : ℕ) → s ≡ 1 → not (if s == 0 then n == w else (if s == 1 then (if g == 0 then n == 7 else nat_le 7 n) else true)) ≡ false → (7 ≤ n) × (g ≡ 0 → n ≡ 7)
+pub length_of_change : (s n w g : ℕ) → s ≡ 1 → not (if s == 0 then n == w else (if s == 1 then (if g == 0 then n == 7 else nat_le 7 n) else true)) ≡ false
+    → (7 ≤ n) × (g ≡ 0 → n ≡ 7)
 length_of_change s n w g e h = (grind (arith, nat_tests), λ z. grind (arith, nat_tests))
 
-pub change_length : (s n w g : ℕ) → s ≡ 1 → 7 ≤ n → (g ≡ 0 → n ≡ 7) → not (if s == 0 then n == w else (if s == 1 then (if g == 0 then n == 7 else nat_le 7 n) else true)) ≡ false
+pub change_length : (s n w g : ℕ) → s ≡ 1 → 7 ≤ n → (g ≡ 0 → n ≡ 7) → not
+    (if s == 0 then n == w else (if s == 1 then (if g == 0 then n == 7 else nat_le 7 n) else true)) ≡ false
 change_length s n w g e l h = grind (arith, nat_tests)
 
 pub request_length : (s n w g : ℕ) → s ≡ 2 → not (if s == 0 then n == w else (if s == 1 then (if g == 0 then n == 7 else nat_le 7 n) else true)) ≡ false

@@ -1,14 +1,17 @@
 -- Dumps without a fault.
-use Rattle.std.proofs.Common.{◌≡◌, ℕ, suc, ◌+◌, ◌-◌, ◌<◌, ◌≤◌, List, [], ◌∷◌, ◌++◌, length, get_or, take, drop, ap, sym, ◌∙◌, arith, refl, subst, length-append, append_assoc, inl, inr, ◌⊎◌, None}
+use Rattle.std.proofs.Common.{◌≡◌, ℕ, suc, ◌+◌, ◌-◌, ◌<◌, ◌≤◌, List, [], ◌∷◌, ◌++◌, length, get_or, take, drop, ap, sym, ◌∙◌, arith, refl, subst}
+use Rattle.std.proofs.Common.{length-append, append_assoc, inl, inr, ◌⊎◌, None}
 use Rattle.std.proofs.lemmas.Bool.{lt-leb}
 use Rattle.std.proofs.lemmas.List.Edits.{length-between}
 use Rattle.std.proofs.lemmas.List.{get_or_at, take_at}
 use Rattle.sysex_frame.specs.Checksum.{IsChecksum, checksum_of}
 use Rattle.sysex_frame.specs.Frame.{IsData, IsDump}
-use Rattle.sysex_frame.specs.FrameFault.{substatus, device, format, group, payload, check, unknown_substatus, unknown_format, wrong_count, wanted_length, wrong_length, wrong_checksum, high_value}
+use Rattle.sysex_frame.specs.FrameFault.{substatus, device, format, group, payload, check, unknown_substatus, unknown_format, wrong_count}
+use Rattle.sysex_frame.specs.FrameFault.{wanted_length, wrong_length, wrong_checksum, high_value}
 use Rattle.sysex_frame.specs.Halves.{later_fault}
 use Rattle.sysex_frame.proofs.Facts.{none_parts, row_free, row_none, IsPlain}
-use Rattle.sysex_frame.proofs.Conditions.{format_known, format_good, not_a_change, count_known_voice, count_known_cartridge, count_good_voice, count_good_cartridge, length_of_dump, dump_length, wanted_voice, wanted_cartridge, check_known, check_good}
+use Rattle.sysex_frame.proofs.Conditions.{format_known, format_good, not_a_change, count_known_voice, count_known_cartridge, count_good_voice}
+use Rattle.sysex_frame.proofs.Conditions.{count_good_cartridge, length_of_dump, dump_length, wanted_voice, wanted_cartridge, check_known, check_good}
 use Rattle.sysex_frame.proofs.Shapes.{heads_6, tail_two, range_is_data, data_cons, data_none, data_append, plain_message}
 
 -- the places of a dump
@@ -27,7 +30,8 @@ checksum_checks bytes = record { below = omega arith; whole = omega arith }
 pub checksum_is : (bytes : List ℕ) (c : ℕ) → IsChecksum bytes c → c ≡ checksum_of bytes
 checksum_is bytes c h = omega (arith, h.below, h.whole)
 
-pub dump_from_none : (message : List ℕ) → IsPlain message → substatus message ≡ 0 → later_fault message ≡ None → IsDumpMessage message 0 0x01 0x1B 163 ⊎ IsDumpMessage message 9 0x20 0x00 4104
+pub dump_from_none : (message : List ℕ) → IsPlain message → substatus message ≡ 0 → later_fault message ≡ None → IsDumpMessage message 0 0x01 0x1B 163
+    ⊎ IsDumpMessage message 9 0x20 0x00 4104
 dump_from_none message p s h =
     let one = none_parts (unknown_substatus message) _ h in
     let two = none_parts (unknown_format message) _ one.1 in
@@ -38,10 +42,12 @@ dump_from_none message p s h =
     let summed = check_known (substatus message) (check message) (checksum_of (payload message)) s (row_free _ _ five.0) in
     elim (format_known (substatus message) (format message) s (row_free _ _ two.0)) [
       | inl f ↦ (let n : length message ≡ 163 = sized ∙ wanted_voice (substatus message) (format message) s f in
-          let counts = count_known_voice (substatus message) (length message) (format message) (get_or message 4 0) (get_or message 5 0) s (omega arith) f (row_free _ _ three.0) in
+          let counts = count_known_voice (substatus message) (length message) (format message) (get_or message 4 0) (get_or message 5 0) s (omega arith) f
+              (row_free _ _ three.0) in
           inl (record { plain = p; kind = s; form_is = f; high_is = counts.0; low_is = counts.1; size_is = n; checked = summed }))
       | inr f ↦ (let n : length message ≡ 4104 = sized ∙ wanted_cartridge (substatus message) (format message) s f in
-          let counts = count_known_cartridge (substatus message) (length message) (format message) (get_or message 4 0) (get_or message 5 0) s (omega arith) f (row_free _ _ three.0) in
+          let counts = count_known_cartridge (substatus message) (length message) (format message) (get_or message 4 0) (get_or message 5 0) s (omega arith) f
+              (row_free _ _ three.0) in
           inr (record { plain = p; kind = s; form_is = f; high_is = counts.0; low_is = counts.1; size_is = n; checked = summed }))
     ]
 
@@ -52,9 +58,11 @@ pub voice_clean : (message : List ℕ) → IsDumpMessage message 0 0x01 0x1B 163
 voice_clean message d =
     let a = known_kind message (omega (arith, d.kind)) in
     let b : unknown_format message ≡ None = row_none _ _ (format_good (substatus message) (format message) 0 d.form_is (inl refl)) in
-    let c : wrong_count message ≡ None = row_none _ _ (count_good_voice (substatus message) (length message) (format message) (get_or message 4 0) (get_or message 5 0) d.form_is d.high_is d.low_is) in
+    let c : wrong_count message ≡ None = row_none _ _ (count_good_voice (substatus message) (length message) (format message) (get_or message 4 0)
+        (get_or message 5 0) d.form_is d.high_is d.low_is) in
     let e : wrong_length message ≡ None =
-    row_none _ _ (dump_length (substatus message) (length message) (wanted_length message) (group message) d.kind (d.size_is ∙ sym (wanted_voice (substatus message) (format message) d.kind d.form_is))) in
+    row_none _ _ (dump_length (substatus message) (length message) (wanted_length message) (group message) d.kind (d.size_is
+        ∙ sym (wanted_voice (substatus message) (format message) d.kind d.form_is))) in
     let f : wrong_checksum message ≡ None = row_none _ _ (check_good (substatus message) (check message) (checksum_of (payload message)) d.checked) in
     let g : high_value message ≡ None = row_none _ _ (not_a_change (substatus message) _ (λ one. absurd (omega (arith, one, d.kind)))) in
     rw (a, b, c, e, f, g)
@@ -63,21 +71,25 @@ pub cartridge_clean : (message : List ℕ) → IsDumpMessage message 9 0x20 0x00
 cartridge_clean message d =
     let a = known_kind message (omega (arith, d.kind)) in
     let b : unknown_format message ≡ None = row_none _ _ (format_good (substatus message) (format message) 9 d.form_is (inr refl)) in
-    let c : wrong_count message ≡ None = row_none _ _ (count_good_cartridge (substatus message) (length message) (format message) (get_or message 4 0) (get_or message 5 0) d.form_is d.high_is d.low_is) in
+    let c : wrong_count message ≡ None = row_none _ _ (count_good_cartridge (substatus message) (length message) (format message) (get_or message 4 0)
+        (get_or message 5 0) d.form_is d.high_is d.low_is) in
     let e : wrong_length message ≡ None =
-    row_none _ _ (dump_length (substatus message) (length message) (wanted_length message) (group message) d.kind (d.size_is ∙ sym (wanted_cartridge (substatus message) (format message) d.kind d.form_is))) in
+    row_none _ _ (dump_length (substatus message) (length message) (wanted_length message) (group message) d.kind (d.size_is
+        ∙ sym (wanted_cartridge (substatus message) (format message) d.kind d.form_is))) in
     let f : wrong_checksum message ≡ None = row_none _ _ (check_good (substatus message) (check message) (checksum_of (payload message)) d.checked) in
     let g : high_value message ≡ None = row_none _ _ (not_a_change (substatus message) _ (λ one. absurd (omega (arith, one, d.kind)))) in
     rw (a, b, c, e, f, g)
 
 -- the places spell the message
-pub dump_frame : (message : List ℕ) (form high low count : ℕ) → IsDumpMessage message form high low (count + 8) → IsDump message (device message) form high low count (payload message)
+pub dump_frame : (message : List ℕ) (form high low count : ℕ) → IsDumpMessage message form high low (count + 8)
+    → IsDump message (device message) form high low count (payload message)
 dump_frame message form high low count d =
     let plain = d.plain in
     let size = d.size_is in
     let small : get_or message 2 0 < 16 = omega (arith, d.kind) in
     let same : get_or message 2 0 ≡ device message = omega arith in
-    let head : message ≡ get_or message 0 0 ∷ get_or message 1 0 ∷ get_or message 2 0 ∷ get_or message 3 0 ∷ get_or message 4 0 ∷ get_or message 5 0 ∷ drop 6 message = heads_6 message (omega arith) in
+    let head : message ≡ get_or message 0 0 ∷ get_or message 1 0 ∷ get_or message 2 0 ∷ get_or message 3 0 ∷ get_or message 4 0 ∷ get_or message 5 0
+        ∷ drop 6 message = heads_6 message (omega arith) in
     let tail : drop 6 message ≡ payload message ++ check message ∷ get_or message (length message - 1) 0 ∷ [] = tail_two message 6 (omega arith) in
     record {
       sixteen = omega arith;
@@ -102,9 +114,11 @@ spelled_dump d form high low c p ld lf lh ll seven checks =
     (data_cons form (high ∷ low ∷ (p ++ c ∷ [])) lf (data_cons high (low ∷ (p ++ c ∷ [])) lh (data_cons low (p ++ c ∷ []) ll inner))) in
     let same : 0xF0 ∷ 0x43 ∷ (mid ++ 0xF7 ∷ []) ≡ message = ap (λ rest. 0xF0 ∷ 0x43 ∷ d ∷ form ∷ high ∷ low ∷ rest) (append_assoc p (c ∷ []) (0xF7 ∷ [])) in
     let size : length (p ++ c ∷ 0xF7 ∷ []) ≡ length p + 2 = length-append p (c ∷ 0xF7 ∷ []) in
-    let own : payload message ≡ p = ap (λ n. take n (p ++ c ∷ 0xF7 ∷ [])) (let e : length message - 2 - 6 ≡ length p = omega arith in e) ∙ take_at p (c ∷ 0xF7 ∷ []) (length p) refl in
+    let own : payload message ≡ p = ap (λ n. take n (p ++ c ∷ 0xF7 ∷ [])) (let e : length message - 2 - 6 ≡ length p = omega arith in e)
+        ∙ take_at p (c ∷ 0xF7 ∷ []) (length p) refl in
     let last : check message ≡ c =
-    ap (λ n. get_or message n 0) (let e : length message - 2 ≡ suc (suc (suc (suc (suc (suc (length p)))))) = omega arith in e) ∙ get_or_at p c (0xF7 ∷ []) 0 (length p) refl in (
+    ap (λ n. get_or message n 0) (let e : length message - 2 ≡ suc (suc (suc (suc (suc (suc (length p)))))) = omega arith in e)
+        ∙ get_or_at p c (0xF7 ∷ []) 0 (length p) refl in (
       record {
         plain = subst IsPlain same (plain_message mid (omega arith) clean);
         kind = omega arith;
@@ -123,5 +137,6 @@ pub dump_places :
     IsDumpMessage message form high low (count + 8) × (payload message ≡ p) × (device message ≡ d)
 dump_places message d form high low count p lf lh ll h =
     subst (λ t. IsDumpMessage t form high low (count + 8) × (payload t ≡ p) × (device t ≡ d)) (sym h.spelled)
-    (subst (λ n. let t : List ℕ = 0xF0 ∷ 0x43 ∷ d ∷ form ∷ high ∷ low ∷ (p ++ h.check ∷ 0xF7 ∷ []) in IsDumpMessage t form high low (n + 8) × (payload t ≡ p) × (device t ≡ d)) h.size
+    (subst (λ n. let t : List ℕ = 0xF0 ∷ 0x43 ∷ d ∷ form ∷ high ∷ low ∷ (p ++ h.check ∷ 0xF7 ∷ []) in IsDumpMessage t form high low (n + 8) × (payload t ≡ p)
+        × (device t ≡ d)) h.size
     (spelled_dump d form high low h.check p h.sixteen lf lh ll h.bytes h.checked))

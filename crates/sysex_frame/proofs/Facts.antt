@@ -31,12 +31,15 @@ row_none b f h = rw h
 pub by_parts : (message : List ℕ) → first_fault message ≡ option_or (early_fault message) (later_fault message)
 unfolding first_fault
 by_parts message =
-    elim (not_framed message) as (λ a. option_or a (option_or (not_yamaha message) (option_or (data_byte message) (option_or (too_short message) (later_fault message))))
+    elim (not_framed message) as (λ a. option_or a (option_or (not_yamaha message)
+        (option_or (data_byte message) (option_or (too_short message) (later_fault message))))
     ≡ option_or (option_or a (option_or (not_yamaha message) (option_or (data_byte message) (option_or (too_short message) None)))) (later_fault message)) [
       | None ↦ elim (not_yamaha message) as (λ a. option_or a (option_or (data_byte message) (option_or (too_short message) (later_fault message)))
           ≡ option_or (option_or a (option_or (data_byte message) (option_or (too_short message) None))) (later_fault message)) [
-            | None ↦ elim (data_byte message) as (λ a. option_or a (option_or (too_short message) (later_fault message)) ≡ option_or (option_or a (option_or (too_short message) None)) (later_fault message)) [
-              | None ↦ elim (too_short message) as (λ a. option_or a (later_fault message) ≡ option_or (option_or a None) (later_fault message)) [ None ↦ refl | Some x ↦ refl ]
+            | None ↦ elim (data_byte message) as (λ a. option_or a (option_or (too_short message) (later_fault message)) ≡ option_or
+                (option_or a (option_or (too_short message) None)) (later_fault message)) [
+              | None ↦ elim (too_short message) as (λ a. option_or a (later_fault message) ≡ option_or (option_or a None) (later_fault message))
+                  [ None ↦ refl | Some x ↦ refl ]
               | Some x ↦ refl
             ]
             | Some x ↦ refl
@@ -79,8 +82,10 @@ plain_from_none message h =
       first = eqb-true _ _ (not-false _ both.0);
       manufacturer = eqb-true _ _ (not-false _ (row_free _ _ two.0));
       bytes = λ k two_on below.
-          let size : length (slice_range message 2 (length message - 1)) ≡ length message - 1 - 2 = length-between message 2 (length message - 1) (omega arith) in
-          let there : get_or (slice_range message 2 (length message - 1)) (k - 2) 0 ≡ get_or message (2 + (k - 2)) 0 = get_or-between message 2 (length message - 1) (k - 2) 0 (omega arith) in
+          let size : length (slice_range message 2 (length message - 1)) ≡ length message - 1 - 2 =
+              length-between message 2 (length message - 1) (omega arith) in
+          let there : get_or (slice_range message 2 (length message - 1)) (k - 2) 0 ≡ get_or message (2 + (k - 2)) 0 =
+              get_or-between message 2 (length message - 1) (k - 2) 0 (omega arith) in
           let same : 2 + (k - 2) ≡ k = omega arith in
           let small = no_position (slice_range message 2 (length message - 1)) three.0 (k - 2) (omega arith) in
           subst (λ j. get_or message j 0 < 128) same (rw there at small);
@@ -94,6 +99,7 @@ none_from_plain message p =
     let made : not_yamaha message ≡ None = row_none _ _ (rw (eq-eqb _ _ p.manufacturer)) in
     let size : length (slice_range message 2 (length message - 1)) ≡ length message - 1 - 2 = length-between message 2 (length message - 1) (omega arith) in
     let clean : data_byte message ≡ None =
-    position_none (slice_range message 2 (length message - 1)) (λ k l. rw (get_or-between message 2 (length message - 1) k 0 (omega arith)) (p.bytes (2 + k) (omega arith) (omega arith))) in
+    position_none (slice_range message 2 (length message - 1)) (λ k l. rw (get_or-between message 2 (length message - 1) k 0 (omega arith))
+        (p.bytes (2 + k) (omega arith) (omega arith))) in
     let long : too_short message ≡ None = row_none _ _ (le-ltb _ _ p.long) in
     rw (framed, made, clean, long)

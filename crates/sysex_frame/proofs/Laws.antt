@@ -7,13 +7,14 @@ use Rattle.std.proofs.lemmas.Bool.{cases_lt, cases_eq, eq-eqb, ne_eqb, le-leb, l
 use Rattle.sysex_frame.specs.Frame.{IsFrame, Content, VoiceDump, CartridgeDump, ParamChange, OtherChange, DumpRequest, content_of}
 use Rattle.sysex_frame.specs.FrameFault.{substatus, device, format, group, number, payload, unknown_substatus, first_fault}
 use Rattle.sysex_frame.specs.Halves.{early_fault, later_fault}
-use Rattle.sysex_frame.specs.Reading.{reading}
+use Rattle.sysex_frame.specs.ParsedFrame.{reading}
 use Rattle.sysex_frame.specs.Halves.{Answers}
 use Rattle.sysex_frame.specs.declared.frame.Frame.{Frame}
 use Rattle.sysex_frame.specs.declared.frame.FrameFault.{FrameFault}
 use Rattle.sysex_frame.proofs.Facts.{none_parts, row_free, by_parts, IsPlain, plain_from_none, none_from_plain}
 use Rattle.sysex_frame.proofs.Dumps.{dump_from_none, dump_frame, dump_places, voice_clean, cartridge_clean}
-use Rattle.sysex_frame.proofs.Changes.{IsChangeMessage, change_from_none, change_clean, param_frame, other_frame, param_places, other_places, request_clean, request_frame, request_places}
+use Rattle.sysex_frame.proofs.Changes.{IsChangeMessage, change_from_none, change_clean, param_frame, other_frame, param_places, other_places}
+use Rattle.sysex_frame.proofs.Changes.{request_clean, request_frame, request_places}
 
 -- ---- what the places read as
 reads_voice : (message : List ℕ) → substatus message ≡ 0 → format message ≡ 0 → reading message ≡ VoiceDump (device message) (payload message)
@@ -22,10 +23,12 @@ reads_voice message s f = rw (eq-eqb _ _ s, eq-eqb _ _ f)
 reads_cartridge : (message : List ℕ) → substatus message ≡ 0 → format message ≡ 9 → reading message ≡ CartridgeDump (device message) (payload message)
 reads_cartridge message s f = rw (eq-eqb _ _ s, ne_eqb (format message) 0 (λ z. absurd (omega (arith, z, f))))
 
-reads_param : (message : List ℕ) → substatus message ≡ 1 → group message ≡ 0 → number message ≤ 155 → reading message ≡ ParamChange (device message) (number message) (get_or message 5 0)
+reads_param : (message : List ℕ) → substatus message ≡ 1 → group message ≡ 0 → number message ≤ 155
+    → reading message ≡ ParamChange (device message) (number message) (get_or message 5 0)
 reads_param message s g n = rw (ne_eqb (substatus message) 0 (λ z. absurd (omega (arith, z, s))), eq-eqb _ _ s, eq-eqb _ _ g, le-leb _ _ n)
 
-reads_other : (message : List ℕ) → substatus message ≡ 1 → (group message ≡ 0 → 155 < number message) → reading message ≡ OtherChange (device message) (group message) (number message)
+reads_other : (message : List ℕ) → substatus message ≡ 1 → (group message ≡ 0 → 155 < number message)
+    → reading message ≡ OtherChange (device message) (group message) (number message)
 reads_other message s h =
     elim (cases_eq (group message) 0) [
       | inl g ↦ rw (ne_eqb (substatus message) 0 (λ z. absurd (omega (arith, z, s))), eq-eqb _ _ s, eq-eqb _ _ g, lt-leb _ _ (h g))
@@ -33,7 +36,8 @@ reads_other message s h =
     ]
 
 reads_request : (message : List ℕ) → substatus message ≡ 2 → reading message ≡ DumpRequest (device message)
-reads_request message s = rw (ne_eqb (substatus message) 0 (λ z. absurd (omega (arith, z, s))), ne_eqb (substatus message) 1 (λ z. absurd (omega (arith, z, s))))
+reads_request message s = rw (ne_eqb (substatus message) 0 (λ z. absurd (omega (arith, z, s))), ne_eqb (substatus message) 1 (λ z.
+    absurd (omega (arith, z, s))))
 
 -- ---- bytes without a fault are a message
 sound_change : (message : List ℕ) → IsChangeMessage message → IsFrame message (reading message)
@@ -59,7 +63,8 @@ sound message h =
       ]
       | inr not_zero ↦ elim (cases_eq (substatus message) 1) [
         | inl one_kind ↦ sound_change message (change_from_none message plain one_kind parts.1)
-        | inr not_one ↦ (let two : substatus message ≡ 2 = omega arith in subst (IsFrame message) (sym (reads_request message two)) (request_frame message plain two))
+        | inr not_one ↦ (let two : substatus message ≡ 2 = omega arith in
+            subst (IsFrame message) (sym (reads_request message two)) (request_frame message plain two))
       ]
     ]
 
@@ -98,24 +103,29 @@ frame_unique message a b f g = sym ((complete message a f).1) ∙ (complete mess
 pub early_first : (message : List ℕ) (e : FrameFault) → early_fault message ≡ Some e → first_fault message ≡ Some e
 early_first message e h = by_parts message ∙ ap (λ a. option_or a (later_fault message)) h
 
-pub late_answers : (message : List ℕ) (r : Result Frame FrameFault) → early_fault message ≡ None → Answers r (later_fault message) (reading message) → Answers r (first_fault message) (reading message)
+pub late_answers : (message : List ℕ) (r : Result Frame FrameFault) → early_fault message ≡ None → Answers r (later_fault message) (reading message)
+    → Answers r (first_fault message) (reading message)
 late_answers message r h a =
     let same : later_fault message ≡ first_fault message = sym (by_parts message ∙ ap (λ x. option_or x (later_fault message)) h) in
     subst (λ f. Answers r f (reading message)) same a
 
-pub answer_fault : (message : List ℕ) (r : Result Frame FrameFault) → Answers r (first_fault message) (reading message) → IfErr r (λ e. first_fault message ≡ Some e)
+pub answer_fault : (message : List ℕ) (r : Result Frame FrameFault) → Answers r (first_fault message) (reading message)
+    → IfErr r (λ e. first_fault message ≡ Some e)
 answer_fault message (Ok f) a = tt
 answer_fault message (Err e) a = a
 
-pub answer_faultless : (message : List ℕ) (r : Result Frame FrameFault) → Answers r (first_fault message) (reading message) → IsOk r ↔ (first_fault message ≡ None)
+pub answer_faultless : (message : List ℕ) (r : Result Frame FrameFault) → Answers r (first_fault message) (reading message)
+    → IsOk r ↔ (first_fault message ≡ None)
 answer_faultless message (Ok f) a = (λ _. a.0, λ _. refl)
 answer_faultless message (Err e) a = (λ h. absurd (cc), λ h. absurd (cc))
 
-pub answer_frame : (message : List ℕ) (r : Result Frame FrameFault) → Answers r (first_fault message) (reading message) → IfOk r (λ frame. IsFrame message (content_of frame))
+pub answer_frame : (message : List ℕ) (r : Result Frame FrameFault) → Answers r (first_fault message) (reading message)
+    → IfOk r (λ frame. IsFrame message (content_of frame))
 answer_frame message (Ok f) a = subst (IsFrame message) (sym (a.1)) (sound message a.0)
 answer_frame message (Err e) a = tt
 
 pub answer_only :
-    (message : List ℕ) (r : Result Frame FrameFault) → Answers r (first_fault message) (reading message) → (content : Content) → IsFrame message content → IsOkAnd r (λ frame. content_of frame ≡ content)
+    (message : List ℕ) (r : Result Frame FrameFault) → Answers r (first_fault message) (reading message) → (content : Content) → IsFrame message content
+        → IsOkAnd r (λ frame. content_of frame ≡ content)
 answer_only message (Ok f) a content h = a.1 ∙ (complete message content h).1
 answer_only message (Err e) a content h = let free = (complete message content h).0 in absurd (cc (a, free))

@@ -1,5 +1,6 @@
 -- A list by its first places and its last, and messages that are spelled out.
-use Rattle.std.proofs.Common.{◌≡◌, ℕ, zero, suc, ◌+◌, ◌-◌, ◌<◌, ◌≤◌, List, [], ◌∷◌, ◌++◌, length, get_or, take, drop, ap, sym, ◌∙◌, arith, refl, length-append, append_assoc, inl, inr}
+use Rattle.std.proofs.Common.{◌≡◌, ℕ, zero, suc, ◌+◌, ◌-◌, ◌<◌, ◌≤◌, List, [], ◌∷◌, ◌++◌, length, get_or, take, drop, ap, sym, ◌∙◌, arith, refl}
+use Rattle.std.proofs.Common.{length-append, append_assoc, inl, inr}
 use Rattle.std.specs.List.{slice_range}
 use Rattle.std.proofs.lemmas.Bool.{cases_lt}
 use Rattle.std.proofs.lemmas.List.{take_more, take_all, length-drop, get_or-drop, get_or_append_left, get_or_at, get_or-append_right}
@@ -43,7 +44,8 @@ tail_end xs n h =
     sym whole ∙ (more ∙ ap (λ x. take k rest ++ x ∷ []) at)
 
 -- the same with the last two
-pub tail_two : (xs : List ℕ) (n : ℕ) → n + 2 ≤ length xs → drop n xs ≡ slice_range xs n (length xs - 2) ++ get_or xs (length xs - 2) 0 ∷ get_or xs (length xs - 1) 0 ∷ []
+pub tail_two : (xs : List ℕ) (n : ℕ) → n + 2 ≤ length xs → drop n xs ≡ slice_range xs n (length xs - 2) ++ get_or xs (length xs - 2) 0
+    ∷ get_or xs (length xs - 1) 0 ∷ []
 tail_two xs n h =
     let rest : List ℕ = drop n xs in
     let size : length rest ≡ length xs - n = length-drop n xs in
@@ -52,7 +54,8 @@ tail_two xs n h =
     let at : get_or rest k 0 ≡ get_or xs (length xs - 2) 0 = get_or-drop n xs k 0 ∙ ap (λ j. get_or xs j 0) (omega arith) in
     let prefix : slice_range xs n (length xs - 1) ≡ take k rest ++ get_or xs (length xs - 2) 0 ∷ [] =
     ap (λ m. take m rest) (let e : length xs - 1 - n ≡ k + 1 = omega arith in e) ∙ (more ∙ ap (λ x. take k rest ++ x ∷ []) at) in
-    tail_end xs n (omega arith) ∙ (ap (λ ys. ys ++ get_or xs (length xs - 1) 0 ∷ []) prefix ∙ append_assoc (take k rest) (get_or xs (length xs - 2) 0 ∷ []) (get_or xs (length xs - 1) 0 ∷ []))
+    tail_end xs n (omega arith) ∙ (ap (λ ys. ys ++ get_or xs (length xs - 1) 0 ∷ []) prefix
+        ∙ append_assoc (take k rest) (get_or xs (length xs - 2) 0 ∷ []) (get_or xs (length xs - 1) 0 ∷ []))
 
 -- a part of the data bytes
 pub range_is_data : (xs : List ℕ) (n j : ℕ) → j ≤ length xs → ((k : ℕ) → n ≤ k → k < j → get_or xs k 0 < 128) → IsData (slice_range xs n j)

@@ -1,5 +1,5 @@
 -- The faults of bytes that are no message, as a table of conditions on all of them.
-use Rattle.std.specs.Prelude.{ℕ, ◌+◌, ◌-◌, ◌*◌, ◌/◌, ◌%◌, Bool, true, ◌&&◌, ◌||◌, not, nat_lt, nat_le, ◌==◌, if◌then◌else◌, List, []}
+use Rattle.std.specs.Prelude.{ℕ, ◌+◌, ◌-◌, ◌*◌, ◌/◌, ◌%◌, Bool, true, false, ◌&&◌, ◌||◌, not, nat_lt, nat_le, ◌==◌, if◌then◌else◌, List, []}
 use Rattle.std.specs.Prelude.{◌∷◌, length, slice_index, slice_range}
 use Rattle.std.specs.declared.option.Option.{Option}
 use Rattle.std.specs.declared.option.Option.TheVariants.{None, Some}
@@ -133,3 +133,16 @@ first_of (row ∷ rows) message = option_or (row message) (first_of rows message
 -- the first fault, or none
 unfoldable pub first_fault : List ℕ → Option FrameFault
 first_fault message = first_of fault_table message
+
+-- a message of another manufacturer, or of a kind that the DX7 doesn't know: none of the DX7's at all
+abbrev pub is_foreign : FrameFault → Bool
+is_foreign NotFramed = false
+is_foreign NotYamaha = true
+is_foreign (DataByte place) = false
+is_foreign (Short length) = false
+is_foreign (UnknownSubstatus found) = true
+is_foreign (UnknownFormat found) = true
+is_foreign (CountBytes high low) = false
+is_foreign (Length found wanted) = false
+is_foreign (Checksum found wanted) = false
+is_foreign (ParamValue number value) = false

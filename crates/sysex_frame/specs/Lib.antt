@@ -1,5 +1,5 @@
 pub mod Checksum
 pub mod Frame
 pub mod FrameFault
-pub mod Reading
+pub mod ParsedFrame
 pub mod Halves

@@ -39,3 +39,27 @@ pub enum FrameFault {
     /// The value is above the greatest of its parameter.
     ParamValue { number: u8, value: u8 },
 }
+
+impl FrameFault {
+    ghost use Rattle.std.specs.Prelude.{◌≡◌};
+    ghost use Rattle.sysex_frame.specs.FrameFault.{is_foreign};
+
+    /// Whether the bytes are a message of another manufacturer, or of a kind that the DX7 doesn't know. Whoever reads a
+    /// stream passes over these, and refuses all other faults.
+    pub fn is_foreign(self) -> bool
+        ensures { result ≡ is_foreign self }
+    {
+        match self {
+            FrameFault::NotYamaha
+            | FrameFault::UnknownSubstatus { .. }
+            | FrameFault::UnknownFormat { .. } => true,
+            FrameFault::NotFramed
+            | FrameFault::DataByte { .. }
+            | FrameFault::Short { .. }
+            | FrameFault::CountBytes { .. }
+            | FrameFault::Length { .. }
+            | FrameFault::Checksum { .. }
+            | FrameFault::ParamValue { .. } => false,
+        }
+    }
+}

@@ -1,4 +1,4 @@
-//! Reading one message.
+//! A message, read from its bytes: what it holds, or its first fault.
 
 ghost use Rattle.std.specs.Prelude.{ℕ, ◌≡◌, ◌+◌, ◌-◌, ◌%◌, ◌<◌, ◌≤◌, ◌↔◌, ◌&&◌, ◌==◌};
 ghost use Rattle.std.specs.Prelude.{not, nat_le, length, slice_index, slice_range};
@@ -9,7 +9,7 @@ ghost use Rattle.sysex_frame.specs.Frame.{Content, IsFrame, content_of};
 ghost use Rattle.sysex_frame.specs.FrameFault.{first_fault, has_count, high_value, not_framed, not_yamaha, payload};
 ghost use Rattle.sysex_frame.specs.FrameFault.{substatus, unknown_format, where_true, wrong_checksum, wrong_count, wrong_length};
 ghost use Rattle.sysex_frame.specs.Halves.{Answers, early_fault, later_fault};
-ghost use Rattle.sysex_frame.specs.Reading.{change, dump, reading};
+ghost use Rattle.sysex_frame.specs.ParsedFrame.{change, dump, reading};
 
 use crate::frame::{Frame, FrameFault};
 use crate::sums::checksum;

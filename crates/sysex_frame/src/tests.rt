@@ -151,3 +151,40 @@ fn written_messages(rt: HostRuntime) {
     );
     assert_eq!(rt; (checksum(&[]), checksum(&[1])), (0, 127));
 }
+
+#[test]
+fn three_faults_are_foreign(rt: HostRuntime) {
+    let table = [
+        (FrameFault::NotFramed, false),
+        (FrameFault::NotYamaha, true),
+        (FrameFault::DataByte { place: 2 }, false),
+        (FrameFault::Short { length: 3 }, false),
+        (FrameFault::UnknownSubstatus { found: 3 }, true),
+        (FrameFault::UnknownFormat { found: 1 }, true),
+        (FrameFault::CountBytes { high: 1, low: 26 }, false),
+        (
+            FrameFault::Length {
+                found: 5,
+                wanted: 7,
+            },
+            false,
+        ),
+        (
+            FrameFault::Checksum {
+                found: 1,
+                wanted: 0,
+            },
+            false,
+        ),
+        (
+            FrameFault::ParamValue {
+                number: 134,
+                value: 32,
+            },
+            false,
+        ),
+    ];
+    for (fault, foreign) in table {
+        assert_eq!(rt; fault.is_foreign(), foreign, "{fault:?}");
+    }
+}

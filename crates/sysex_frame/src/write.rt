@@ -1,4 +1,4 @@
-//! Writing messages.
+//! Messages, written: a voice, and the change of a parameter.
 
 ghost use Rattle.std.specs.Prelude.{◌≡◌, ◌≤◌};
 ghost use Rattle.voice_record.specs.Voice.{greatest_value};

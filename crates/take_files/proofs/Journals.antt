@@ -1,5 +1,6 @@
 -- The journal of a script, and the part of it that waits at a block.
-use Rattle.std.proofs.Common.{◌≡◌, ◌≢◌, ℕ, zero, suc, ◌+◌, ◌≤◌, ◌<◌, List, [], ◌∷◌, ◌++◌, length, take, drop, get_or, map, refl, sym, ◌∙◌, ap, subst, arith, add-one, append_assoc}
+use Rattle.std.proofs.Common.{◌≡◌, ◌≢◌, ℕ, zero, suc, ◌+◌, ◌≤◌, ◌<◌, List, [], ◌∷◌, ◌++◌, length, take, drop, get_or, map, refl, sym, ◌∙◌, ap, subst}
+use Rattle.std.proofs.Common.{arith, add-one, append_assoc}
 use Rattle.std.specs.Prelude.{◌==◌, Bool, true, false, cond, filter, take_while, All}
 use Rattle.std.proofs.lemmas.Bool.{eq-eqb, eqb-true}
 use Rattle.std.proofs.lemmas.Grind.{take_at_read}
@@ -73,7 +74,8 @@ pub count_is : (b count : ℕ) (ls : List Logged) → count ≡ length (take_whi
 count_is b count ls is = is ∙ ap length (run_is b ls)
 
 order_by : (b : ℕ) (l : Logged) (ls : List Logged) (t : Bool) → (l.block == b) ≡ t → AreOrdered b (journal_data (l ∷ ls))
-    → (AreOrdered b (journal_data ls) → AreOrdered (b + 1) (journal_data (drop (count_at b ls) ls))) → AreOrdered (b + 1) (journal_data (drop (count_at b (l ∷ ls)) (l ∷ ls)))
+    → (AreOrdered b (journal_data ls) → AreOrdered (b + 1) (journal_data (drop (count_at b ls) ls)))
+        → AreOrdered (b + 1) (journal_data (drop (count_at b (l ∷ ls)) (l ∷ ls)))
 order_by b l ls true is order rest =
     let same : l.block ≡ b = eqb-true l.block b is in
     rw is (rest (subst (λ (n : ℕ). AreOrdered n (journal_data ls)) same order.2))
@@ -123,7 +125,8 @@ commands_data [] b = refl
 commands_data (l ∷ ls) b = data_by b l ls (l.block == b) refl (commands_data ls b)
 
 -- the commands at the beginning are those of the block
-pub first_commands : (b count : ℕ) (ls : List Logged) → count ≡ count_at b ls → AreOrdered b (journal_data ls) → map command_in (take count ls) ≡ commands_in ls b
+pub first_commands : (b count : ℕ) (ls : List Logged) → count ≡ count_at b ls → AreOrdered b (journal_data ls)
+    → map command_in (take count ls) ≡ commands_in ls b
 first_commands b count ls is order =
     ap (map command_in) (ap (λ (n : ℕ). take n ls) is ∙ first_taken b ls ∙ sym (first_at b ls order))
 
@@ -157,13 +160,15 @@ pub plays : (journal : List LoggedData) (waiting : List Logged) (b count : ℕ) 
     → ((c : ℕ) → b ≤ c → commands_at journal c ≡ commands_at (journal_data waiting) c)
     → applied (state_before journal b) (map command_in (take count waiting)) ≡ state_at journal b
 plays journal waiting b count is order rest =
-    ap (applied (state_before journal b)) (first_commands b count waiting is order ∙ sym (commands_data waiting b) ∙ sym (rest b (omega arith))) ∙ sym (state_is journal b)
+    ap (applied (state_before journal b)) (first_commands b count waiting is order ∙ sym (commands_data waiting b) ∙ sym (rest b (omega arith)))
+        ∙ sym (state_is journal b)
 
 pub sounds : (journal : List LoggedData) (b : ℕ) → samples (state_at journal b) ≡ sound journal b
 unfolding sound
 sounds journal b = refl
 
-pub blocks_more : (journal : List LoggedData) (header : List ℕ) (b : ℕ) → header ++ wav_blocks journal (b + 1) ≡ (header ++ wav_blocks journal b) ++ wav_block (sound journal b)
+pub blocks_more : (journal : List LoggedData) (header : List ℕ) (b : ℕ) → header ++ wav_blocks journal (b + 1) ≡ (header ++ wav_blocks journal b)
+    ++ wav_block (sound journal b)
 unfolding wav_blocks
 blocks_more journal header b = rw add-one (sym (append_assoc header (wav_blocks journal b) (wav_block (sound journal b))))
 
@@ -180,4 +185,5 @@ rest_at journal waiting b n count is later was =
 pub block_after : (journal : List LoggedData) (b : ℕ) (before bytes : List ℕ) → wav_blocks journal b ≡ before ++ bytes
     → wav_blocks journal (b + 1) ≡ before ++ (bytes ++ wav_block (sound journal b))
 unfolding wav_blocks
-block_after journal b before bytes is = rw add-one (ap (λ (l : List ℕ). l ++ wav_block (sound journal b)) is ∙ append_assoc before bytes (wav_block (sound journal b)))
+block_after journal b before bytes is = rw add-one (ap (λ (l : List ℕ). l ++ wav_block (sound journal b)) is
+    ∙ append_assoc before bytes (wav_block (sound journal b)))

@@ -1,5 +1,6 @@
 -- A text is the order of one journal at most, and has one first fault at most.
-use Rattle.std.proofs.Common.{◌≡◌, ◌≢◌, ◌⊎◌, inl, inr, ℕ, ◌+◌, ◌<◌, ◌≤◌, List, [], ◌∷◌, ◌++◌, length, get_or, take, Result, Ok, Err, refl, sym, ◌∙◌, ap, subst, arith, append_assoc, length-append}
+use Rattle.std.proofs.Common.{◌≡◌, ◌≢◌, ◌⊎◌, inl, inr, ℕ, ◌+◌, ◌<◌, ◌≤◌, List, [], ◌∷◌, ◌++◌, length, get_or, take, Result, Ok, Err, refl, sym, ◌∙◌}
+use Rattle.std.proofs.Common.{ap, subst, arith, append_assoc, length-append}
 use Rattle.std.specs.Prelude.{All, MatchResult, IfOk}
 use Rattle.std.specs.List.{flat_map}
 use Rattle.std.proofs.Math.Seq.{take-append_seam, get_or-append_seam}
@@ -7,7 +8,8 @@ use Rattle.std.proofs.lemmas.List.{append-nil}
 use Rattle.std.proofs.lemmas.List.Elements.{All-head, All-tail}
 use Rattle.command_set.specs.Entries.{LoggedData}
 use Rattle.take_files.specs.Files.{order_header, order_line, order}
-use Rattle.take_files.specs.Orders.{IsWritable, HasBlock, Follows, IsOrdered, BeginsWith, HasFault, HasNoHeader, StopsAfter, IsRefused, OrderData, IsOrder, OrdersAreUnique, entry_limit, count_of}
+use Rattle.take_files.specs.Orders.{IsWritable, HasBlock, Follows, IsOrdered, BeginsWith, HasFault, HasNoHeader, StopsAfter, IsRefused, OrderData}
+use Rattle.take_files.specs.Orders.{IsOrder, OrdersAreUnique, entry_limit, count_of}
 use Rattle.take_files.specs.declared.read.OrderKind.{OrderKind}
 use Rattle.take_files.specs.declared.read.OrderKind.TheVariants.{Line, Block, Script, Sequence, Many}
 use Rattle.take_files.specs.declared.read.OrderFault.{OrderFault}
@@ -47,7 +49,8 @@ writable journal blocks scripts h i d below = (h.each i d below).writable
 after : (prefix more : List LoggedData) (l : LoggedData) (blocks scripts : ℕ) → IsOrdered (prefix ++ l ∷ more) blocks scripts → Follows prefix blocks scripts l
 after prefix more l blocks scripts h =
     let count : length (prefix ++ l ∷ more) ≡ length prefix + length (l ∷ more) = length-append prefix (l ∷ more) in
-    let f : Follows (take (length prefix) (prefix ++ l ∷ more)) blocks scripts (get_or (prefix ++ l ∷ more) (length prefix) l) = h.each (length prefix) l (omega (arith, count)) in
+    let f : Follows (take (length prefix) (prefix ++ l ∷ more)) blocks scripts (get_or (prefix ++ l ∷ more) (length prefix) l) =
+        h.each (length prefix) l (omega (arith, count)) in
     subst (λ (x : LoggedData). Follows prefix blocks scripts x) (get_or-append_seam prefix l more l)
     (subst (λ (ls : List LoggedData). Follows ls blocks scripts (get_or (prefix ++ l ∷ more) (length prefix) l)) (take-append_seam prefix (l ∷ more)) f)
 
@@ -90,7 +93,8 @@ no_block : (text : List ℕ) (journal : List LoggedData) (blocks : ℕ) (l m : L
     → HasBlock journal blocks m → ⊥
 no_block text journal blocks l m a b never has = never (subst (λ (x : LoggedData). HasBlock journal blocks x) (one_entry text m l b a) has)
 
-no_sequence : (text : List ℕ) (journal : List LoggedData) (l m : LoggedData) → BeginsWith text l → BeginsWith text m → l.entry.seq ≢ count_of l.entry.script journal
+no_sequence : (text : List ℕ) (journal : List LoggedData) (l m : LoggedData) → BeginsWith text l → BeginsWith text m
+    → l.entry.seq ≢ count_of l.entry.script journal
     → m.entry.seq ≡ count_of m.entry.script journal → ⊥
 no_sequence text journal l m a b never is = never (subst (λ (x : LoggedData). x.entry.seq ≡ count_of x.entry.script journal) (one_entry text m l b a) is)
 
@@ -172,7 +176,8 @@ one_kind a b journal blocks scripts text x y =
 
 -- ---- orders
 
-pub order_more : (journal : List LoggedData) (blocks scripts : ℕ) (rest : List ℕ) → order journal blocks scripts ++ rest ≡ order_header blocks scripts ++ (lines journal ++ rest)
+pub order_more : (journal : List LoggedData) (blocks scripts : ℕ) (rest : List ℕ) → order journal blocks scripts ++ rest ≡ order_header blocks scripts
+    ++ (lines journal ++ rest)
 unfolding order
 order_more journal blocks scripts rest = append_assoc (order_header blocks scripts) (lines journal) rest
 
@@ -184,7 +189,8 @@ prefixes js ks a b c d r s hj hk e =
     (sym (order_more js a b r) ∙ e ∙ order_more ks c d s)
 
 -- an order that goes on after a fault
-no_fault : (kind : OrderKind) (js ks : List LoggedData) (a b c d : ℕ) (r s : List ℕ) → a ≡ c → b ≡ d → IsOrdered js a b → HasFault kind ks c d s → GoesOn ks js s r → ⊥
+no_fault : (kind : OrderKind) (js ks : List LoggedData) (a b c d : ℕ) (r s : List ℕ) → a ≡ c → b ≡ d → IsOrdered js a b → HasFault kind ks c d s
+    → GoesOn ks js s r → ⊥
 no_fault kind js ks a b c d r s ea eb hj fault g =
     let whole : IsOrdered (ks ++ g.0 ∷ g.1) c d =
     subst (λ (n : ℕ). IsOrdered (ks ++ g.0 ∷ g.1) c n) eb
@@ -215,14 +221,16 @@ one_journal text a b x y =
       ]
     ]
 
-pub has_header : (text rest : List ℕ) (journal : List LoggedData) (blocks scripts : ℕ) → IsOrdered journal blocks scripts → text ≡ order journal blocks scripts ++ rest → ¬ HasNoHeader text
+pub has_header : (text rest : List ℕ) (journal : List LoggedData) (blocks scripts : ℕ) → IsOrdered journal blocks scripts → text ≡ order journal blocks scripts
+    ++ rest → ¬ HasNoHeader text
 has_header text rest journal blocks scripts h e never =
     never blocks scripts (lines journal ++ rest) h.some_blocks h.few_blocks h.some_scripts h.few_scripts (e ∙ order_more journal blocks scripts rest)
 
 spelled_more : (text : List ℕ) (o : OrderData) → IsOrder text o → text ≡ order o.journal o.blocks o.scripts ++ []
 spelled_more text o x = x.spelled ∙ sym (append-nil (order o.journal o.blocks o.scripts))
 
-stopped : (text : List ℕ) (o : OrderData) (kind : OrderKind) (journal : List LoggedData) (blocks scripts : ℕ) → IsOrder text o → StopsAfter text kind journal blocks scripts → ⊥
+stopped : (text : List ℕ) (o : OrderData) (kind : OrderKind) (journal : List LoggedData) (blocks scripts : ℕ) → IsOrder text o
+    → StopsAfter text kind journal blocks scripts → ⊥
 stopped text o kind journal blocks scripts x y =
     let f = prefixes o.journal journal o.blocks o.scripts blocks scripts [] y.rest x.ordered y.ordered (sym (spelled_more text o x) ∙ y.spelled) in
     elim (agree o.journal journal [] y.rest (writable o.journal o.blocks o.scripts x.ordered) (writable journal blocks scripts y.ordered) f.2) [
@@ -254,7 +262,8 @@ stops_same text kind second js ks a b c d x y =
       ]
     ]
 
-one_fault : (text : List ℕ) (line other : ℕ) (kind second : OrderKind) → IsRefused text line kind → IsRefused text other second → (line ≡ other) × (kind ≡ second)
+one_fault : (text : List ℕ) (line other : ℕ) (kind second : OrderKind) → IsRefused text line kind → IsRefused text other second → (line ≡ other)
+    × (kind ≡ second)
 one_fault text line other kind second (inl x) (inl y) = (x.0 ∙ sym y.0, x.1 ∙ sym y.1)
 one_fault text line other kind second (inl x) (inr y) = absurd (has_header text (y.4.rest) y.0 y.1 y.2 (y.4.ordered) (y.4.spelled) x.2)
 one_fault text line other kind second (inr x) (inl y) = absurd (has_header text (x.4.rest) x.0 x.1 x.2 (x.4.ordered) (x.4.spelled) y.2)

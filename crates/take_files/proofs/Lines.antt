@@ -1,5 +1,6 @@
 -- Texts cut at a byte of one code, and the lines of an order.
-use Rattle.std.proofs.Common.{◌≡◌, ◌≢◌, ℕ, suc, ◌^◌, ◌/◌, ◌%◌, ◌<◌, ◌==◌, Bool, true, false, List, [], ◌∷◌, ◌++◌, length, get_or, refl, sym, ◌∙◌, ap, arith, append_assoc}
+use Rattle.std.proofs.Common.{◌≡◌, ◌≢◌, ℕ, suc, ◌^◌, ◌/◌, ◌%◌, ◌<◌, ◌==◌, Bool, true, false, List, [], ◌∷◌, ◌++◌, length, get_or, refl, sym, ◌∙◌, ap}
+use Rattle.std.proofs.Common.{arith, append_assoc}
 use Rattle.std.specs.Prelude.{All, codes, decimal, not}
 use Rattle.std.specs.Int.{IsInRange as IsWithin}
 use Rattle.std.specs.Str.Parse.{digits_value}
@@ -15,7 +16,8 @@ use Rattle.voice_record.proofs.Every.{every, every_at}
 use Rattle.voice_record.proofs.Voices.{greatest_small}
 use Rattle.plain_text.specs.Split.{split, spaced}
 use Rattle.plain_text.proofs.Cuts.{split_some}
-use Rattle.command_set.specs.Command.{CommandData, StartsNote, EndsNote, Bends, Controls, PicksProgram, SetsParameter, StoresVoice, LoadsVoice, LoadsCartridge, IsInRange}
+use Rattle.command_set.specs.Command.{CommandData, StartsNote, EndsNote, Bends, Controls, PicksProgram, SetsParameter, StoresVoice, LoadsVoice}
+use Rattle.command_set.specs.Command.{LoadsCartridge, IsInRange}
 use Rattle.command_set.specs.Entries.{LoggedData}
 use Rattle.command_set.specs.Text.{text, packed}
 use Rattle.command_set.proofs.WordBytes.{HasNo, codes_whole, decimal_whole, hex_whole, own}
@@ -77,7 +79,8 @@ spaced_whole : (word : List ℕ) (more : List (List ℕ)) → HasNo 10 word → 
 spaced_whole word [] h hs = h
 spaced_whole word (next ∷ more) h hs =
     All-append (λ byte. (byte == 10) ≡ false) word (32 ∷ spaced next more) h
-    (All-cons (λ byte. (byte == 10) ≡ false) 32 (spaced next more) refl (spaced_whole next more (All-head (HasNo 10) next more hs) (All-tail (HasNo 10) next more hs)))
+    (All-cons (λ byte. (byte == 10) ≡ false) 32 (spaced next more) refl (spaced_whole next more (All-head (HasNo 10) next more hs)
+        (All-tail (HasNo 10) next more hs)))
 
 number_whole : (n : ℕ) → n < 2 ^ 32 → HasNo 10 (decimal n)
 number_whole n l = decimal_whole 10 n (omega arith) l
@@ -108,13 +111,15 @@ text_whole (StartsNote channel key velocity) (a, b, low, high) =
 text_whole (EndsNote channel key) (a, b) = two_whole (codes "off") channel key (codes_whole 10 (codes "off") refl) (omega arith) (omega arith)
 text_whole (Bends channel value) (a, b) = two_whole (codes "bend") channel value (codes_whole 10 (codes "bend") refl) (omega arith) (omega arith)
 text_whole (Controls channel number value) (a, known, b) =
-    three_whole (codes "control") channel number value (codes_whole 10 (codes "control") refl) (omega arith) (omega (arith, known_small number known)) (omega arith)
+    three_whole (codes "control") channel number value (codes_whole 10 (codes "control") refl) (omega arith) (omega (arith, known_small number known))
+        (omega arith)
 text_whole (PicksProgram channel number) (a, b) =
     two_whole (codes "program") channel number (codes_whole 10 (codes "program") refl) (omega arith) (omega arith)
 text_whole (SetsParameter number value) (a, b) =
     two_whole (codes "param") number value (codes_whole 10 (codes "param") refl) (omega arith) (omega (arith, greatest_small number (omega arith)))
 text_whole (StoresVoice slot) a = one_whole (codes "store") (decimal slot) (codes_whole 10 (codes "store") refl) (number_whole slot (omega arith))
-text_whole (LoadsVoice voice) v = one_whole (codes "voice") (encode_lower voice) (codes_whole 10 (codes "voice") refl) (hex_whole 10 voice (omega arith) (voice_bytes voice v))
+text_whole (LoadsVoice voice) v = one_whole (codes "voice") (encode_lower voice) (codes_whole 10 (codes "voice") refl)
+    (hex_whole 10 voice (omega arith) (voice_bytes voice v))
 text_whole (LoadsCartridge voices) h =
     one_whole (codes "cartridge") (encode_lower (flat_map packed voices)) (codes_whole 10 (codes "cartridge") refl)
     (hex_whole 10 (flat_map packed voices) (omega arith) (cartridge_bytes voices h))
@@ -127,8 +132,10 @@ line_more l more = append_assoc (entry_text l) (10 ∷ []) more
 
 pub entry_whole : (l : LoggedData) → IsWritable l → HasNo 10 (entry_text l)
 entry_whole l w =
-    spaced_whole (decimal l.block) (decimal l.entry.sent_at ∷ decimal l.entry.script ∷ decimal l.entry.seq ∷ text l.entry.command ∷ []) (number_whole l.block w.block)
-    (All-cons (HasNo 10) (decimal l.entry.sent_at) (decimal l.entry.script ∷ decimal l.entry.seq ∷ text l.entry.command ∷ []) (number_whole l.entry.sent_at w.due)
+    spaced_whole (decimal l.block) (decimal l.entry.sent_at ∷ decimal l.entry.script ∷ decimal l.entry.seq ∷ text l.entry.command
+        ∷ []) (number_whole l.block w.block)
+    (All-cons (HasNo 10) (decimal l.entry.sent_at) (decimal l.entry.script ∷ decimal l.entry.seq ∷ text l.entry.command
+        ∷ []) (number_whole l.entry.sent_at w.due)
     (All-cons (HasNo 10) (decimal l.entry.script) (decimal l.entry.seq ∷ text l.entry.command ∷ []) (number_whole l.entry.script w.script)
     (All-cons (HasNo 10) (decimal l.entry.seq) (text l.entry.command ∷ []) (number_whole l.entry.seq w.seq)
     (All-cons (HasNo 10) (text l.entry.command) [] (text_whole l.entry.command w.command) (All-nil (HasNo 10))))))
@@ -136,7 +143,8 @@ entry_whole l w =
 made : ℕ → ℕ → ℕ → ℕ → CommandData → LoggedData
 made block due script seq command = record { block = block; entry = record { script = script; seq = seq; sent_at = due; command = command } }
 
-made_same : (a b c d : ℕ) (e : CommandData) (a2 b2 c2 d2 : ℕ) (e2 : CommandData) → a ≡ a2 → b ≡ b2 → c ≡ c2 → d ≡ d2 → e ≡ e2 → made a b c d e ≡ made a2 b2 c2 d2 e2
+made_same : (a b c d : ℕ) (e : CommandData) (a2 b2 c2 d2 : ℕ) (e2 : CommandData) → a ≡ a2 → b ≡ b2 → c ≡ c2 → d ≡ d2 → e ≡ e2
+    → made a b c d e ≡ made a2 b2 c2 d2 e2
 made_same a b c d e a2 b2 c2 d2 e2 ha hb hc hd he = cc
 
 entry_same : (l m : LoggedData) → IsWritable l → IsWritable m → entry_text l ≡ entry_text m → l ≡ m
@@ -187,7 +195,8 @@ header_text_same a b c d la lb lc ld e =
 pub header_same : (a b c d : ℕ) (xs ys : List ℕ) → a < 2 ^ 32 → b < 2 ^ 32 → c < 2 ^ 32 → d < 2 ^ 32 → order_header a b ++ xs ≡ order_header c d ++ ys
     → (a ≡ c) × (b ≡ d) × (xs ≡ ys)
 header_same a b c d xs ys la lb lc ld e =
-    let h = prefix_same 10 (header_text a b) (header_text c d) xs ys (header_whole a b la lb) (header_whole c d lc ld) (sym (header_more a b xs) ∙ e ∙ header_more c d ys) in
+    let h = prefix_same 10 (header_text a b) (header_text c d) xs ys (header_whole a b la lb) (header_whole c d lc ld) (sym (header_more a b xs) ∙ e
+        ∙ header_more c d ys) in
     let n = header_text_same a b c d la lb lc ld h.0 in
     (n.0, n.1, h.1)
 

@@ -7,9 +7,10 @@ use Rattle.plain_text.specs.Split.{split}
 use Rattle.plain_text.proofs.Numbers.{reads_decimal, written}
 use Rattle.command_set.specs.Entries.{LoggedData}
 use Rattle.command_set.specs.Text.{text}
+use Rattle.instrument.specs.Limits.{block_limit}
 use Rattle.take_files.specs.Files.{entry_text, header_text}
 use Rattle.take_files.specs.Orders.{IsWritable}
-use Rattle.take_files.specs.Reading.{IsHeader, numbered}
+use Rattle.take_files.specs.OrderSoFar.{IsHeader, numbered}
 use Rattle.command_set.proofs.WordBytes.{decimal_whole}
 use Rattle.take_files.proofs.Lines.{cut_none, cut_only, cut_text, number_same}
 
@@ -54,13 +55,16 @@ pub second_number : (whole rest more : List ℕ) (n block due script seq : ℕ) 
     → whole ≡ numbered block due script seq more → rest ≡ decimal due ++ 32 ∷ (decimal script ++ 32 ∷ (decimal seq ++ 32 ∷ more))
 second_number whole rest more n block due script seq e ln lb is = (next_number whole rest _ n block e ln lb is).1
 
-pub third_number : (whole one rest more : List ℕ) (n m block due script seq : ℕ) → whole ≡ decimal n ++ 32 ∷ one → one ≡ decimal m ++ 32 ∷ rest → n < 2 ^ 32 → m < 2 ^ 32
+pub third_number : (whole one rest more : List ℕ) (n m block due script seq : ℕ) → whole ≡ decimal n ++ 32 ∷ one → one ≡ decimal m ++ 32 ∷ rest → n < 2 ^ 32
+    → m < 2 ^ 32
     → block < 2 ^ 32 → due < 2 ^ 32 → whole ≡ numbered block due script seq more → rest ≡ decimal script ++ 32 ∷ (decimal seq ++ 32 ∷ more)
 third_number whole one rest more n m block due script seq e next ln lm lb ld is =
     (next_number one rest _ m due next lm ld (second_number whole one more n block due script seq e ln lb is)).1
 
-pub fourth_number : (whole one two rest more : List ℕ) (n m k block due script seq : ℕ) → whole ≡ decimal n ++ 32 ∷ one → one ≡ decimal m ++ 32 ∷ two → two ≡ decimal k ++ 32 ∷ rest
-    → n < 2 ^ 32 → m < 2 ^ 32 → k < 2 ^ 32 → block < 2 ^ 32 → due < 2 ^ 32 → script < 2 ^ 32 → whole ≡ numbered block due script seq more → rest ≡ decimal seq ++ 32 ∷ more
+pub fourth_number : (whole one two rest more : List ℕ) (n m k block due script seq : ℕ) → whole ≡ decimal n ++ 32 ∷ one → one ≡ decimal m ++ 32 ∷ two
+    → two ≡ decimal k ++ 32 ∷ rest
+    → n < 2 ^ 32 → m < 2 ^ 32 → k < 2 ^ 32 → block < 2 ^ 32 → due < 2 ^ 32 → script < 2 ^ 32 → whole ≡ numbered block due script seq more → rest ≡ decimal seq
+        ++ 32 ∷ more
 fourth_number whole one two rest more n m k block due script seq e next then ln lm lk lb ld ls is =
     (next_number two rest _ k script then lk ls (third_number whole one two more n m block due script seq e next ln lm lb ld is)).1
 
@@ -73,14 +77,17 @@ numbered_same a b c d block due script seq rest more la lb lc ld lblock ldue lsc
     (number_same d seq rest more ld lseq three.1).1
 
 -- the text of the command of a line
-pub entry_command : (line rest : List ℕ) (a b c d : ℕ) (l : LoggedData) → line ≡ numbered a b c d rest → a < 2 ^ 32 → b < 2 ^ 32 → c < 2 ^ 32 → d < 2 ^ 32 → IsWritable l
+pub entry_command : (line rest : List ℕ) (a b c d : ℕ) (l : LoggedData) → line ≡ numbered a b c d rest → a < 2 ^ 32 → b < 2 ^ 32 → c < 2 ^ 32 → d < 2 ^ 32
+    → IsWritable l
     → entry_text l ≡ line → text l.entry.command ≡ rest
 entry_command line rest a b c d l e la lb lc ld w is =
-    sym (numbered_same a b c d l.block l.entry.sent_at l.entry.script l.entry.seq rest (text l.entry.command) la lb lc ld w.block w.due w.script w.seq (sym e ∙ sym is))
+    sym (numbered_same a b c d l.block l.entry.sent_at l.entry.script l.entry.seq rest (text l.entry.command) la lb lc ld w.block w.due w.script w.seq (sym e
+        ∙ sym is))
 
 -- ---- the two numbers of a first line
 
-pub header_first : (blocks scripts : ℕ) → header_text blocks scripts ≡ codes "order engine 1 blocks " ++ (decimal blocks ++ 32 ∷ (codes "scripts " ++ decimal scripts))
+pub header_first : (blocks scripts : ℕ) → header_text blocks scripts ≡ codes "order engine 1 blocks "
+    ++ (decimal blocks ++ 32 ∷ (codes "scripts " ++ decimal scripts))
 unfolding header_text
 header_first blocks scripts = refl
 
@@ -97,16 +104,17 @@ pub header_last : (line rest last word : List ℕ) (n blocks scripts : ℕ) → 
 header_last line rest last word n blocks scripts e next more ln lb is =
     append_cancel_left (codes "scripts ") _ _ (sym more ∙ header_third line rest last n blocks scripts e next ln lb is)
 
-pub no_header : (line rest last word : List ℕ) (n : ℕ) → line ≡ codes "order engine 1 blocks " ++ rest → rest ≡ decimal n ++ 32 ∷ last → last ≡ codes "scripts " ++ word
+pub no_header : (line rest last word : List ℕ) (n : ℕ) → line ≡ codes "order engine 1 blocks " ++ rest → rest ≡ decimal n ++ 32 ∷ last → last ≡ codes "scripts "
+    ++ word
     → n < 2 ^ 32 → None ≡ number 1 256 word → (blocks scripts : ℕ) → ¬ IsHeader blocks scripts line
 no_header line rest last word n e next more ln none blocks scripts h =
-    let few : blocks ≤ 1048576 = h.few_blocks in
+    let few : blocks ≤ block_limit = h.few_blocks in
     let is : word ≡ decimal scripts = header_last line rest last word n blocks scripts e next more ln (omega arith) h.spelled in
     let some : number 1 256 word ≡ Some scripts = reads_decimal 1 256 scripts word (omega arith) (is, h.some_scripts, h.few_scripts) in
     absurd (cc)
 
 pub header_found : (line rest last word : List ℕ) (blocks scripts : ℕ) → line ≡ codes "order engine 1 blocks " ++ rest → rest ≡ decimal blocks ++ 32 ∷ last
-    → last ≡ codes "scripts " ++ word → (1 ≤ blocks) × (blocks ≤ 1048576) → Some scripts ≡ number 1 256 word → IsHeader blocks scripts line
+    → last ≡ codes "scripts " ++ word → (1 ≤ blocks) × (blocks ≤ block_limit) → Some scripts ≡ number 1 256 word → IsHeader blocks scripts line
 header_found line rest last word blocks scripts e next more within some =
     let w = written 1 256 scripts word (omega arith) (sym some) in
     record {
@@ -115,7 +123,8 @@ header_found line rest last word blocks scripts e next more within some =
       some_scripts = w.1;
       few_scripts = w.2;
       spelled = e ∙ ap (λ (bs : List ℕ). codes "order engine 1 blocks " ++ bs)
-          (next ∙ ap (λ (bs : List ℕ). decimal blocks ++ 32 ∷ bs) (more ∙ ap (λ (bs : List ℕ). codes "scripts " ++ bs) w.0)) ∙ sym (header_first blocks scripts);
+          (next ∙ ap (λ (bs : List ℕ). decimal blocks ++ 32 ∷ bs) (more ∙ ap (λ (bs : List ℕ). codes "scripts " ++ bs) w.0))
+              ∙ sym (header_first blocks scripts);
     }
 
 -- ---- lengths

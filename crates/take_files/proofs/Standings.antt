@@ -1,5 +1,6 @@
 -- How a reader of an order stands.
-use Rattle.std.proofs.Common.{◌≡◌, ◌≢◌, inl, inr, ℕ, ◌+◌, ◌<◌, ◌≤◌, ◌==◌, true, false, Result, Err, List, [], ◌∷◌, ◌++◌, length, Option, None, Some, refl, sym, ◌∙◌, ap, subst, arith, append_assoc, length-append}
+use Rattle.std.proofs.Common.{◌≡◌, ◌≢◌, inl, inr, ℕ, ◌+◌, ◌<◌, ◌≤◌, ◌==◌, true, false, Result, Err, List, [], ◌∷◌, ◌++◌, length, Option, None, Some}
+use Rattle.std.proofs.Common.{refl, sym, ◌∙◌, ap, subst, arith, append_assoc, length-append}
 use Rattle.std.specs.Prelude.{IfOk, MatchResult}
 use Rattle.std.proofs.lemmas.Bool.{cases_lt, ne_eqb}
 use Rattle.std.proofs.lemmas.List.{append-nil}
@@ -8,13 +9,14 @@ use Rattle.command_set.specs.Entries.{LoggedData, journal_data}
 use Rattle.take_files.specs.Files.{entry_text, header_text, order, order_header, order_line}
 use Rattle.take_files.specs.Orders.{BeginsWith, HasFault, IsOrder, IsRefused, IsWritable, OrderData}
 use Rattle.take_files.specs.Chunks.{HasFed, IsSeen, line_feeds}
-use Rattle.take_files.specs.Reading.{AreRead, IsHeader, IsListing, lines_read, listed, next_number, standing, text_of, with_entry}
+use Rattle.take_files.specs.OrderSoFar.{AreRead, IsHeader, IsListing, lines_read, listed, next_number, standing, text_of, with_entry}
 use Rattle.take_files.specs.declared.listing.Listing.{Listing}
 use Rattle.take_files.specs.declared.read.OrderKind.{OrderKind}
 use Rattle.take_files.specs.declared.read.OrderKind.TheVariants.{Line}
 use Rattle.take_files.specs.declared.read.OrderFault.{OrderFault}
 use Rattle.take_files.specs.declared.read.OrderFault.TheVariants.{Refused, Memory}
-use Rattle.take_files.proofs.Feeding.{feeds_append, feeds_end, has_no_feed, long_entry, long_header, no_first, no_line, open_none, open_order, order_fed, seen_more}
+use Rattle.take_files.proofs.Feeding.{feeds_append, feeds_end, has_no_feed, long_entry, long_header, no_first, no_line, open_none, open_order}
+use Rattle.take_files.proofs.Feeding.{order_fed, seen_more}
 use Rattle.take_files.proofs.Laws.{answers_orders, fault_after, lines, orders_unique}
 use Rattle.take_files.proofs.Lines.{header_begins, line_begins, line_more}
 
@@ -162,7 +164,8 @@ header_seen line more none other =
 pub entry_more : (o : OrderData) (e : LoggedData) (line : List ℕ) → entry_text e ≡ line → text_of (with_entry o e) ≡ text_of o ++ (line ++ 10 ∷ [])
 unfolding order order_line
 entry_more o e line is =
-    ap (λ (bs : List ℕ). order_header o.blocks o.scripts ++ bs) (flat_map-append order_line o.journal (e ∷ []) ∙ ap (λ (bs : List ℕ). lines o.journal ++ bs) one)
+    ap (λ (bs : List ℕ). order_header o.blocks o.scripts ++ bs) (flat_map-append order_line o.journal (e ∷ [])
+        ∙ ap (λ (bs : List ℕ). lines o.journal ++ bs) one)
     ∙ sym (append_assoc (order_header o.blocks o.scripts) (lines o.journal) (line ++ 10 ∷ [])) where
       one : lines (e ∷ []) ≡ line ++ 10 ∷ []
       one = append-nil (order_line e) ∙ ap (λ (bs : List ℕ). bs ++ 10 ∷ []) is

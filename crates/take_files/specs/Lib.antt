@@ -2,5 +2,5 @@ pub mod Files
 pub mod Orders
 pub mod Chunks
 pub mod Playback
-pub mod Reading
+pub mod OrderSoFar
 pub mod Playing

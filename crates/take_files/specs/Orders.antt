@@ -2,6 +2,7 @@
 use Rattle.std.specs.Prelude.{ℕ, ◌≡◌, ◌≢◌, ◌⊎◌, ◌+◌, ◌^◌, ◌<◌, ◌≤◌, ◌==◌, List, [], ◌∷◌, ◌++◌, length, filter, take, slice_index_or}
 use Rattle.command_set.specs.Command.{IsInRange}
 use Rattle.command_set.specs.Entries.{LoggedData}
+use Rattle.instrument.specs.Limits.{block_limit}
 use Rattle.take_files.specs.Files.{order_header, order_line, order}
 use Rattle.take_files.specs.declared.read.OrderKind.{OrderKind}
 use Rattle.take_files.specs.declared.read.OrderKind.TheVariants.{Line, Block, Script, Sequence, Many}
@@ -41,10 +42,10 @@ pub record Follows (journal : List LoggedData) (blocks scripts : ℕ) (l : Logge
   pub script : l.entry.script < scripts
   pub seq : l.entry.seq ≡ count_of l.entry.script journal
 
--- an order lists these entries: 1 to 1048576 blocks, 1 to 256 scripts, and each entry may stand after those before it
+-- an order lists these entries: 1 up to the most blocks of a run, 1 to 256 scripts, and each entry may stand after those before it
 pub record IsOrdered (journal : List LoggedData) (blocks scripts : ℕ) : Type 0 where
   pub some_blocks : 1 ≤ blocks
-  pub few_blocks : blocks ≤ 1048576
+  pub few_blocks : blocks ≤ block_limit
   pub some_scripts : 1 ≤ scripts
   pub few_scripts : scripts ≤ 256
   pub few : length journal ≤ entry_limit
@@ -70,7 +71,7 @@ HasFault Many journal blocks scripts text =
 -- the text has no first line of an order
 abbrev pub HasNoHeader : List ℕ → Type 0
 HasNoHeader text =
-    (blocks scripts : ℕ) (more : List ℕ) → 1 ≤ blocks → blocks ≤ 1048576 → 1 ≤ scripts → scripts ≤ 256
+    (blocks scripts : ℕ) (more : List ℕ) → 1 ≤ blocks → blocks ≤ block_limit → 1 ≤ scripts → scripts ≤ 256
     → text ≢ order_header blocks scripts ++ more
 
 -- a text that goes on after an order, with a line that has this fault

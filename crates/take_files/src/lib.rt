@@ -1,8 +1,9 @@
 //! The two files of a run: the order of its commands, and its sound.
 #![tactic(auto)]
 
+mod entry_line;
 mod header;
-mod line;
+mod line_prefix;
 mod listing;
 mod order;
 mod playback;
@@ -10,7 +11,6 @@ mod read;
 mod reader;
 mod sound;
 mod wav;
-mod words;
 
 pub use order::{order_file, order_header, order_line};
 pub use playback::{Chunk, Playback};

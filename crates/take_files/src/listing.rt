@@ -2,9 +2,10 @@
 
 ghost use Rattle.std.specs.Prelude.{ℕ, List, ◌≡◌, ◌≤◌, ◌+◌, ◌↔◌, [], IfOk, OnOk, IfNone, IsTrue, Some, length};
 ghost use Rattle.command_set.specs.Entries.{logged_data};
+ghost use Rattle.instrument.specs.Limits.{block_limit};
 ghost use Rattle.take_files.specs.declared.read.OrderKind.{OrderKind};
 ghost use Rattle.take_files.specs.Orders.{BeginsWith, HasBlock, HasFault, IsWritable};
-ghost use Rattle.take_files.specs.Reading.{CanFollow, HasRoom, IsListing, listed, with_entry};
+ghost use Rattle.take_files.specs.OrderSoFar.{CanFollow, HasRoom, IsListing, listed, with_entry};
 
 use crate::read::OrderKind;
 use command_set::Logged;
@@ -26,7 +27,7 @@ pub(crate) struct Listing {
 impl Listing {
     /// No entries yet.
     pub(crate) fn new(alloc: Global, blocks: u32, scripts: u32) -> Result<Listing, AllocError>
-        requires blocks { (1 ≤ blocks) × (blocks ≤ 1048576) }
+        requires blocks { (1 ≤ blocks) × (blocks ≤ block_limit) }
         requires scripts { (1 ≤ scripts) × (scripts ≤ 256) }
         ensures listing { IfOk result (λ l. IsListing l) }
         ensures listed { IfOk result (λ l. listed l ≡ record { journal = []; blocks = blocks; scripts = scripts }) }

@@ -3,11 +3,12 @@
 ghost use Rattle.std.specs.Prelude.{ℕ, ◌≡◌, ◌≤◌, Err, IfOk, MatchResult, length};
 ghost use Rattle.dx_tables.specs.declared.engine.Engine.TheVariants.{One};
 ghost use Rattle.command_set.specs.Entries.{journal_data};
+ghost use Rattle.instrument.specs.Limits.{block_limit};
 ghost use Rattle.take_files.specs.declared.read.OrderKind.{OrderKind};
 ghost use Rattle.take_files.specs.declared.read.OrderFault.TheVariants.{Refused, Memory};
 ghost use Rattle.take_files.specs.Files.{AreOrdered};
 ghost use Rattle.take_files.specs.Orders.{IsOrder, IsRefused, OrderData, OrdersAreUnique};
-ghost use Rattle.take_files.specs.Reading.{IsListing, listed};
+ghost use Rattle.take_files.specs.OrderSoFar.{IsListing, listed};
 
 use crate::listing::Listing;
 use crate::reader::OrderReader;
@@ -85,7 +86,7 @@ impl Order {
     /// How many blocks its sound has, 1 to 1048576.
     pub fn blocks(&self) -> u32
         ensures blocks { result ≡ self.now.blocks }
-        ensures few { result ≤ 1048576 }
+        ensures few { result ≤ block_limit }
     {
         self.blocks
     }

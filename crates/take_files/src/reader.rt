@@ -5,10 +5,10 @@ ghost use Rattle.take_files.specs.declared.read.OrderKind.{OrderKind};
 ghost use Rattle.take_files.specs.declared.read.OrderFault.TheVariants.{Refused, Memory};
 ghost use Rattle.take_files.specs.Orders.{IsOrder, IsRefused, OrderData};
 ghost use Rattle.take_files.specs.Chunks.{Clean, Faulty, HasFed, IsSeen, IsSettled, OutOfMemory, answer, line_feeds};
-ghost use Rattle.take_files.specs.Reading.{AreRead, IsListing, lines_read, listed, next_number, text_of};
+ghost use Rattle.take_files.specs.OrderSoFar.{AreRead, IsListing, lines_read, listed, next_number, text_of};
 
+use crate::entry_line::read_entry;
 use crate::header::read_header;
-use crate::line::read_entry;
 use crate::listing::Listing;
 use crate::read::{Order, OrderFault, OrderKind};
 use command_set::TextFault;
@@ -30,7 +30,7 @@ pub struct OrderReader {
 
 impl Model for OrderReader {
     ghost use Rattle.take_files.specs.Chunks.{Standing};
-    ghost use Rattle.take_files.specs.Reading.{IsReading, standing};
+    ghost use Rattle.take_files.specs.OrderSoFar.{IsReading, standing};
 
     ghost Value = { Standing };
 

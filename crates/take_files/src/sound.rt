@@ -2,6 +2,7 @@
 
 ghost use Rattle.std.specs.Prelude.{◌≡◌, ◌≤◌, IfOk};
 ghost use Rattle.command_set.specs.Entries.{journal_data};
+ghost use Rattle.instrument.specs.Limits.{block_limit};
 ghost use Rattle.take_files.specs.Files.{AreOrdered, wav};
 
 use crate::playback::Playback;
@@ -19,7 +20,7 @@ pub fn sound_file(
     journal: &[Logged],
     blocks: u32,
 ) -> Result<Vec<u8>, AllocError>
-    requires blocks { blocks ≤ 1048576 }
+    requires blocks { blocks ≤ block_limit }
     requires order { AreOrdered 0 (journal_data journal.now) }
     ensures { IfOk result (λ sound. sound.items ≡ wav (journal_data journal.now) blocks) }
 {

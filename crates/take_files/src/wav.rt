@@ -2,20 +2,21 @@
 
 ghost use Rattle.std.specs.Prelude.{◌≡◌, ◌≤◌};
 ghost use Rattle.take_files.specs.Files as files;
+ghost use Rattle.instrument.specs.Limits.{block_limit};
 
 use byteorder::{ByteOrder, LittleEndian};
 
 /// The header of a sound file of so many blocks: RIFF, one channel of 16 bits at 44100 Hz.
 #[tactic(auto, unfolding(crate::specs::Files::wav_header))]
 pub fn wav_header(blocks: u32) -> [u8; 44]
-    requires { blocks ≤ 1048576 }
+    requires { blocks ≤ block_limit }
     ensures { result ≡ files.wav_header blocks }
 {
     let size = 128 * blocks;
     let mut header = *b"RIFF....WAVEfmt ....................data....";
     LittleEndian::write_u32(&mut header[4..], 36 + size);
     LittleEndian::write_u32(&mut header[16..], 16);
-    // The samples are plain numbers.
+    // Format 1: samples of whole numbers, not compressed.
     LittleEndian::write_u16(&mut header[20..], 1);
     // One channel.
     LittleEndian::write_u16(&mut header[22..], 1);

@@ -33,7 +33,7 @@ block_before zero samples = []
 block_before (suc t) samples = wav_block samples
 
 -- the players are as before, but for the entries of each that were found in the journal
-pub record Noted (journal : List LoggedData) (before now : List PlayerView) : Type 0 where
+pub record HaveCounted (journal : List LoggedData) (before now : List PlayerView) : Type 0 where
   pub many : length now ≡ length before
   pub each : (k : ℕ) (d : PlayerView) → k < length before
       → slice_index_or now k d ≡ record (slice_index_or before k d) { logged = length (blocks_of k journal) }

@@ -2,7 +2,7 @@
 use Rattle.std.specs.Prelude.{ℕ, ◌≡◌, ◌+◌, ◌<◌, ◌≤◌, List, ◌++◌, length, All}
 use Rattle.command_set.specs.Command.{IsInRange}
 use Rattle.command_set.specs.Entries.{LoggedData, entries_of, sent_by}
-use Rattle.lateness.specs.Late.{AreDue, IsOff}
+use Rattle.lateness.specs.Late.{AreDue, IsLateOrLeft}
 use Rattle.script_plan.specs.Plan.{PlannedData, due_blocks}
 use Rattle.players.specs.Players.{entries}
 use Rattle.turns.specs.Turns.{plan_of, others_than, blocks_of}
@@ -25,4 +25,4 @@ pub record ArePlayed (journal : List LoggedData) (plans : List (List PlannedData
 pub record IsTimed (journal : List LoggedData) (plans : List (List PlannedData)) (places : ℕ) : Type 0 where
   pub played : ArePlayed journal plans
   pub full : (k i : ℕ) → k < length plans → i < length (plan_of plans k)
-      → IsOff (due_blocks (plan_of plans k)) (blocks_of k journal) i → places ≤ i + others_than plans k
+      → IsLateOrLeft (due_blocks (plan_of plans k)) (blocks_of k journal) i → places ≤ i + others_than plans k

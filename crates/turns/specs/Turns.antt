@@ -1,7 +1,7 @@
 -- What the turns begin with, and what holds of the players and the journal after them.
 use Rattle.std.specs.Prelude.{ℕ, ◌≡◌, ◌-◌, ◌<◌, ◌==◌, List, [], ◌++◌, length, map, filter, sum, slice_index_or}
 use Rattle.command_set.specs.Entries.{LoggedData}
-use Rattle.command_queue.specs.Ends.{LineView, quota_of, new_taker}
+use Rattle.command_queue.specs.Ends.{LineView, quota_of}
 use Rattle.live_renderer.specs.Renderer.{RendererView}
 use Rattle.lateness.specs.Late.{AreDue, AreTimed}
 use Rattle.script_plan.specs.Plan.{PlannedData, due_blocks}
@@ -40,9 +40,12 @@ abbrev pub AreFresh : LineView → List PlayerView → Type 0
 AreFresh line players =
     (length players ≡ length line.quotas) × ((k : ℕ) (d : PlayerView) → k < length players → IsFresh line k (slice_index_or players k d))
 
--- a renderer of the line that took nothing and rendered nothing
-abbrev pub IsFreshRenderer : LineView → RendererView → Type 0
-IsFreshRenderer line r = (r.taker ≡ new_taker line) × (r.journal ≡ []) × (r.blocks ≡ 0)
+-- a renderer of the line that took nothing and rendered nothing; it may have found the line empty
+pub record IsFreshRenderer (line : LineView) (r : RendererView) : Type 0 where
+  pub line_is : r.taker.line ≡ line
+  pub list : r.taker.list ≡ []
+  pub journal : r.journal ≡ []
+  pub blocks : r.blocks ≡ 0
 
 -- What holds of script k wherever the turns end. What its end accepted are the first commands of its plan, as its entries, and the others
 -- are left in its player. The journal has as many entries of it as its end accepted, each logged at the command's due block or above.

@@ -2,6 +2,7 @@
 ghost use Rattle.std.specs.Prelude.{◌≡◌, ◌≢◌, ◌<◌, ◌≤◌, ◌-◌, ℕ, List, [], All, OnOk, OnErr, length, map, option_map, vec_len, vec_capacity, slice_index_or};
 ghost use Rattle.command_set.specs.Command.{IsInRange};
 ghost use Rattle.command_set.specs.Entries.{journal_data};
+ghost use Rattle.instrument.specs.Limits.{block_limit};
 ghost use Rattle.instrument.specs.Logging.{AreTakenUpTo};
 ghost use Rattle.outside.specs.Files.{Lacks};
 ghost use Rattle.outside.specs.Faults.{HasCause};
@@ -11,7 +12,7 @@ ghost use Rattle.script_plan.specs.Plan.{PlannedData, due_blocks};
 ghost use Rattle.players.specs.Players.{PlayerView};
 ghost use Rattle.turns.specs.Turns.{AreFresh, IsFreshRenderer, HavePlayed, AreOnTime, plans_of, many_commands};
 ghost use Rattle.turns.specs.Timed.{ArePlayed, IsTimed};
-ghost use Rattle.turns.specs.Written.{order_lines, both_appended, BothBegun, HoldsNothing};
+ghost use Rattle.turns.specs.Written.{order_lines, both_appended, Blames, BothBegun, HoldsNothing};
 
 use crate::target::Target;
 use crate::turns::run_turns;
@@ -22,6 +23,20 @@ use outside::{Gate, Shelf};
 use players::Player;
 use std::sync::Wait;
 use std::thread::Threads;
+
+/// Who takes part in a run: the line, the renderer at its taking end, the players at its other ends, and an empty list with room for these ends
+/// when they come back.
+#[derive(Drop)]
+pub struct Cast {
+    /// The line.
+    pub line: Line,
+    /// The renderer at the end that takes.
+    pub renderer: LiveRenderer,
+    /// A player for each end that sends, in order.
+    pub players: Vec<Player>,
+    /// Room for the players' ends.
+    pub ends: Vec<SendEnd>,
+}
 
 // The players' ends, in order, in a list that has room for them.
 fn ends_of(players: Vec<Player>, ends: Vec<SendEnd>) -> Vec<SendEnd>
@@ -36,29 +51,29 @@ fn ends_of(players: Vec<Player>, ends: Vec<SendEnd>) -> Vec<SendEnd>
     ends
 }
 
-/// Joins the ends of the players after `play_turns`, whatever it answered, takes what rests in the line, and gives the journal. `ends` is
-/// empty and has room for an end for each player.
+/// Joins the ends of the players after `play_turns`, whatever it answered, takes what rests in the line, and gives the journal.
 ///
 /// Of the plans that the players were handed in, the journal's entries of each script are just those of the first commands (`played`); and
 /// after all turns a command is late or left only where the line has few places (`timed`).
-pub fn close<R: Wait>(
-    rt: &R,
-    line: Line,
-    renderer: LiveRenderer,
-    players: Vec<Player>,
-    ends: Vec<SendEnd>,
-) -> Vec<Logged>
-    requires taker { renderer.taker.line ≡ line }
-    requires empty { ends.items ≡ [] }
-    requires room { vec_len players ≤ vec_capacity ends }
-    requires played { (plans : List (List PlannedData)) × HavePlayed line plans renderer.journal players.items }
-    ensures journal { journal_data result.items ≡ renderer.journal }
-    ensures ranges { All (λ l. IsInRange l.entry.command) renderer.journal }
-    ensures order { AreTakenUpTo renderer.blocks renderer.journal }
-    ensures played { (plans : List (List PlannedData)) → HavePlayed line plans renderer.journal players.items → ArePlayed renderer.journal plans }
-    ensures timed { (plans : List (List PlannedData)) (blocks : ℕ) → HavePlayed line plans renderer.journal players.items
-        → AreOnTime line blocks plans renderer.journal players.items → IsTimed renderer.journal plans line.places }
+pub fn close<R: Wait>(rt: &R, cast: Cast) -> Vec<Logged>
+    requires taker { cast.renderer.taker.line ≡ cast.line }
+    requires empty { cast.ends.items ≡ [] }
+    requires room { vec_len cast.players ≤ vec_capacity cast.ends }
+    requires played { (plans : List (List PlannedData)) × HavePlayed cast.line plans cast.renderer.journal cast.players.items }
+    ensures journal { journal_data result.items ≡ cast.renderer.journal }
+    ensures ranges { All (λ l. IsInRange l.entry.command) cast.renderer.journal }
+    ensures order { AreTakenUpTo cast.renderer.blocks cast.renderer.journal }
+    ensures played { (plans : List (List PlannedData)) → HavePlayed cast.line plans cast.renderer.journal cast.players.items
+        → ArePlayed cast.renderer.journal plans }
+    ensures timed { (plans : List (List PlannedData)) (blocks : ℕ) → HavePlayed cast.line plans cast.renderer.journal cast.players.items
+        → AreOnTime cast.line blocks plans cast.renderer.journal cast.players.items → IsTimed cast.renderer.journal plans cast.line.places }
 {
+    let Cast {
+        line,
+        renderer,
+        players,
+        ends,
+    } = cast;
     let (taker, journal) = renderer.into_parts();
     let ends = ends_of(players, ends);
     let mut rest = line.finish(rt, taker, ends);
@@ -74,50 +89,48 @@ pub fn close<R: Wait>(
 /// answer of `run_turns`.
 pub fn play_scripts<R: Threads + Wait + Sync, S: Shelf, G: Gate>(
     rt: &R,
-    line: Line,
-    renderer: LiveRenderer,
-    players: Vec<Player>,
-    ends: Vec<SendEnd>,
+    cast: Cast,
     blocks: u32,
     shelf: &mut S,
     sound: &str,
     order: &str,
     gate: &G,
 ) -> (Vec<Logged>, Result<(), Target>)
-    requires players { AreFresh line players.items }
-    requires renderer { IsFreshRenderer line renderer }
-    requires spare { many_commands (plans_of players.items) ≤ renderer.spare }
-    requires empty { ends.items ≡ [] }
-    requires room { vec_len players ≤ vec_capacity ends }
-    requires blocks { (1 ≤ blocks) × (blocks ≤ 1048576) }
-    requires due { (k : ℕ) (d : PlayerView) → k < length players.items → AllBelow blocks (due_blocks (slice_index_or players.items k d).left) }
+    requires players { AreFresh cast.line cast.players.items }
+    requires renderer { IsFreshRenderer cast.line cast.renderer }
+    requires spare { many_commands (plans_of cast.players.items) ≤ cast.renderer.spare }
+    requires empty { cast.ends.items ≡ [] }
+    requires room { vec_len cast.players ≤ vec_capacity cast.ends }
+    requires blocks { (1 ≤ blocks) × (blocks ≤ block_limit) }
+    requires due { (k : ℕ) (d : PlayerView) → k < length cast.players.items
+        → AllBelow blocks (due_blocks (slice_index_or cast.players.items k d).left) }
     requires differ { sound.now ≢ order.now }
     requires has_sound { ¬ (Lacks (S.files shelf.old) sound.now) }
     requires has_order { ¬ (Lacks (S.files shelf.old) order.now) }
     ensures ranges { All (λ l. IsInRange l.entry.command) (journal_data result.0.items) }
     ensures order { AreTakenUpTo (blocks - 1) (journal_data result.0.items) }
-    ensures played { ArePlayed (journal_data result.0.items) (plans_of players.items) }
-    ensures timed { OnOk result.1 (IsTimed (journal_data result.0.items) (plans_of players.items) line.places) }
+    ensures played { ArePlayed (journal_data result.0.items) (plans_of cast.players.items) }
+    ensures timed { OnOk result.1 (IsTimed (journal_data result.0.items) (plans_of cast.players.items) cast.line.places) }
     ensures whole { OnOk result.1 (S.files shelf.new ≡ option_map (both_appended sound.now (wav_blocks (journal_data result.0.items) blocks)
         order.now (order_lines (journal_data result.0.items))) (S.files shelf.old)) }
     ensures begun { OnErr result.1 (BothBegun sound.now (wav_blocks (journal_data result.0.items) blocks)
         order.now (order_lines (journal_data result.0.items)) (S.files shelf.old) (S.files shelf.new)) }
     ensures cause { HasCause (S.writing shelf.old) (S.writing shelf.new) (S.reading shelf.old) (S.reading shelf.new) ⊥ result.1 }
     ensures reads { S.reads shelf.new ≡ S.reads shelf.old }
+    ensures blames { Blames result.1 sound.now order.now (S.failed shelf.old) (S.failed shelf.new) }
     ensures written_out { OnOk result.1 (HoldsNothing (S.held shelf.new) sound.now order.now) }
 {
-    let mut renderer = renderer;
-    let mut players = players;
+    let mut cast = cast;
     let result = run_turns(
         rt,
-        &line,
-        &mut renderer,
-        players.as_mut_slice(),
+        &cast.line,
+        &mut cast.renderer,
+        cast.players.as_mut_slice(),
         blocks,
         shelf,
         sound,
         order,
         gate,
     );
-    (close(rt, line, renderer, players, ends), result)
+    (close(rt, cast), result)
 }

@@ -3,14 +3,14 @@
 
 mod half;
 mod joined;
-mod note;
 mod opening;
+mod settle;
 mod target;
 mod turn;
 mod turns;
 mod write;
 
-pub use joined::{close, play_scripts};
+pub use joined::{Cast, close, play_scripts};
 pub use opening::new_players;
 pub use target::Target;
 pub use turns::{play_turns, run_turns};

@@ -4,7 +4,7 @@ ghost use Rattle.std.specs.Prelude.{◌≡◌, ◌+◌, ◌≤◌, All, IfOk, le
 ghost use Rattle.lateness.specs.Late.{AllBelow};
 ghost use Rattle.script_plan.specs.Plan.{due_blocks};
 
-use crate::{new_players, play_scripts};
+use crate::{Cast, new_players, play_scripts};
 use command_queue::Line;
 use command_set::{Command, Logged};
 use live_renderer::{Engine, LiveRenderer};
@@ -124,10 +124,12 @@ fn play<R: Threads + Wait + Sync, G: Gate>(
     }
     let (journal, answer) = play_scripts(
         rt,
-        line,
-        renderer,
-        players,
-        spare,
+        Cast {
+            line,
+            renderer,
+            players,
+            ends: spare,
+        },
         last + 1,
         shelf,
         sound,

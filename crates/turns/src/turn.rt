@@ -6,7 +6,7 @@ ghost use Rattle.players.specs.Players.{PlayerView};
 ghost use Rattle.turns.specs.Steps.{AfterTurns, block_before};
 
 use crate::half::run_halves;
-use crate::note::settle;
+use crate::settle::settle;
 use command_queue::Line;
 use live_renderer::LiveRenderer;
 use outside::Gate;

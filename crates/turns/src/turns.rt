@@ -1,14 +1,10 @@
 //! All turns of a run.
-ghost use Rattle.std.specs.Prelude.{◌≡◌, ◌≢◌, ◌<◌, ◌≤◌, ℕ, All, OnOk, OnErr, length, option_map, slice_index_or};
-ghost use Rattle.outside.specs.Files.{Lacks};
-ghost use Rattle.outside.specs.Faults.{HasCause};
+ghost use Rattle.std.specs.Prelude.{◌≡◌, ◌⊎◌, OnOk, OnErr};
+ghost use Rattle.outside.specs.Faults.{HasCause, HasFailed};
 ghost use Rattle.take_files.specs.Files.{wav_blocks};
-ghost use Rattle.live_renderer.specs.Renderer.{IsLive};
-ghost use Rattle.lateness.specs.Late.{AllBelow};
-ghost use Rattle.script_plan.specs.Plan.{due_blocks};
-ghost use Rattle.players.specs.Players.{PlayerView};
-ghost use Rattle.turns.specs.Turns.{AreFresh, IsFreshRenderer, HavePlayed, AreOnTime, plans_of, many_commands};
-ghost use Rattle.turns.specs.Written.{order_lines, both_appended, BothBegun, HoldsNothing};
+ghost use Rattle.turns.specs.Runs.{AreWritten, CanRun, HaveRun};
+ghost use Rattle.turns.specs.Turns.{plans_of};
+ghost use Rattle.turns.specs.Written.{order_lines, Blames, HoldsNothing};
 
 use crate::target::Target;
 use crate::turn::run_turn;
@@ -33,26 +29,13 @@ pub fn run_turns<R: Threads + Wait + Sync, S: Shelf, G: Gate>(
     order: &str,
     gate: &G,
 ) -> Result<(), Target>
-    requires players { AreFresh line.now players.old }
-    requires renderer { IsFreshRenderer line.now renderer.old }
-    requires spare { many_commands (plans_of players.old) ≤ renderer.old.spare }
-    requires blocks { (1 ≤ blocks) × (blocks ≤ 1048576) }
-    requires due { (k : ℕ) (d : PlayerView) → k < length players.old → AllBelow blocks (due_blocks (slice_index_or players.old k d).left) }
-    requires differ { sound.now ≢ order.now }
-    requires has_sound { ¬ (Lacks (S.files shelf.old) sound.now) }
-    requires has_order { ¬ (Lacks (S.files shelf.old) order.now) }
-    ensures played { HavePlayed line.now (plans_of players.old) renderer.new.journal players.new }
-    ensures taker { renderer.new.taker.line ≡ line.now }
-    ensures live { IsLive renderer.new }
-    ensures within { All (λ l. l.block < blocks) renderer.new.journal }
-    ensures on_time { OnOk result (AreOnTime line.now blocks (plans_of players.old) renderer.new.journal players.new) }
-    ensures rendered { OnOk result (renderer.new.blocks ≡ blocks) }
-    ensures whole { OnOk result (S.files shelf.new ≡ option_map
-        (both_appended sound.now (wav_blocks renderer.new.journal blocks) order.now (order_lines renderer.new.journal)) (S.files shelf.old)) }
-    ensures begun { OnErr result (BothBegun sound.now (wav_blocks renderer.new.journal blocks) order.now (order_lines renderer.new.journal)
-        (S.files shelf.old) (S.files shelf.new)) }
+    requires { CanRun line.now renderer.old players.old blocks (S.files shelf.old) sound.now order.now }
+    ensures run { HaveRun line.now blocks (plans_of players.old) renderer.new players.new result }
+    ensures files { AreWritten sound.now (wav_blocks renderer.new.journal blocks) order.now (order_lines renderer.new.journal)
+        (S.files shelf.old) (S.files shelf.new) result }
     ensures cause { HasCause (S.writing shelf.old) (S.writing shelf.new) (S.reading shelf.old) (S.reading shelf.new) ⊥ result }
     ensures reads { S.reads shelf.new ≡ S.reads shelf.old }
+    ensures blames { Blames result sound.now order.now (S.failed shelf.old) (S.failed shelf.new) }
     ensures written_out { OnOk result (HoldsNothing (S.held shelf.new) sound.now order.now) }
 {
     append_turns(
@@ -73,27 +56,15 @@ fn append_turns<R: Threads + Wait + Sync, S: Shelf, G: Gate>(
     order: &str,
     gate: &G,
 ) -> Result<(), Target>
-    requires players { AreFresh line.now players.old }
-    requires renderer { IsFreshRenderer line.now renderer.old }
-    requires spare { many_commands (plans_of players.old) ≤ renderer.old.spare }
-    requires blocks { (1 ≤ blocks) × (blocks ≤ 1048576) }
-    requires due { (k : ℕ) (d : PlayerView) → k < length players.old → AllBelow blocks (due_blocks (slice_index_or players.old k d).left) }
-    requires differ { sound.now ≢ order.now }
-    requires has_sound { ¬ (Lacks (S.files shelf.old) sound.now) }
-    requires has_order { ¬ (Lacks (S.files shelf.old) order.now) }
-    ensures played { HavePlayed line.now (plans_of players.old) renderer.new.journal players.new }
-    ensures taker { renderer.new.taker.line ≡ line.now }
-    ensures live { IsLive renderer.new }
-    ensures within { All (λ l. l.block < blocks) renderer.new.journal }
-    ensures on_time { OnOk result (AreOnTime line.now blocks (plans_of players.old) renderer.new.journal players.new) }
-    ensures rendered { OnOk result (renderer.new.blocks ≡ blocks) }
-    ensures whole { OnOk result (S.files shelf.new ≡ option_map
-        (both_appended sound.now (wav_blocks renderer.new.journal blocks) order.now (order_lines renderer.new.journal)) (S.files shelf.old)) }
-    ensures begun { OnErr result (BothBegun sound.now (wav_blocks renderer.new.journal blocks) order.now (order_lines renderer.new.journal)
-        (S.files shelf.old) (S.files shelf.new)) }
+    requires { CanRun line.now renderer.old players.old blocks (S.files shelf.old) sound.now order.now }
+    ensures run { HaveRun line.now blocks (plans_of players.old) renderer.new players.new result }
+    ensures files { AreWritten sound.now (wav_blocks renderer.new.journal blocks) order.now (order_lines renderer.new.journal)
+        (S.files shelf.old) (S.files shelf.new) result }
     ensures cause { HasCause (S.writing shelf.old) (S.writing shelf.new) (S.reading shelf.old) (S.reading shelf.new) ⊥ result }
     ensures reads { S.reads shelf.new ≡ S.reads shelf.old }
+    ensures blames { Blames result sound.now order.now (S.failed shelf.old) (S.failed shelf.new) }
 {
+    // a line has at most 256 ends, which the proof reads here
     let _ = line.places();
     let actor = players.len() as u32;
     let mut samples = [0i16; 64];
@@ -131,26 +102,15 @@ pub fn play_turns<R: Threads + Wait + Sync, S: Shelf, G: Gate>(
     order: &str,
     gate: &G,
 ) -> Result<(), Failed>
-    requires players { AreFresh line.now players.old }
-    requires renderer { IsFreshRenderer line.now renderer.old }
-    requires spare { many_commands (plans_of players.old) ≤ renderer.old.spare }
-    requires blocks { (1 ≤ blocks) × (blocks ≤ 1048576) }
-    requires due { (k : ℕ) (d : PlayerView) → k < length players.old → AllBelow blocks (due_blocks (slice_index_or players.old k d).left) }
-    requires differ { sound.now ≢ order.now }
-    requires has_sound { ¬ (Lacks (S.files shelf.old) sound.now) }
-    requires has_order { ¬ (Lacks (S.files shelf.old) order.now) }
-    ensures played { HavePlayed line.now (plans_of players.old) renderer.new.journal players.new }
-    ensures taker { renderer.new.taker.line ≡ line.now }
-    ensures live { IsLive renderer.new }
-    ensures within { All (λ l. l.block < blocks) renderer.new.journal }
-    ensures on_time { OnOk result (AreOnTime line.now blocks (plans_of players.old) renderer.new.journal players.new) }
-    ensures rendered { OnOk result (renderer.new.blocks ≡ blocks) }
-    ensures whole { OnOk result (S.files shelf.new ≡ option_map
-        (both_appended sound.now (wav_blocks renderer.new.journal blocks) order.now (order_lines renderer.new.journal)) (S.files shelf.old)) }
-    ensures begun { OnErr result (BothBegun sound.now (wav_blocks renderer.new.journal blocks) order.now (order_lines renderer.new.journal)
-        (S.files shelf.old) (S.files shelf.new)) }
+    requires { CanRun line.now renderer.old players.old blocks (S.files shelf.old) sound.now order.now }
+    ensures run { HaveRun line.now blocks (plans_of players.old) renderer.new players.new result }
+    ensures files { AreWritten sound.now (wav_blocks renderer.new.journal blocks) order.now (order_lines renderer.new.journal)
+        (S.files shelf.old) (S.files shelf.new) result }
     ensures cause { HasCause (S.writing shelf.old) (S.writing shelf.new) (S.reading shelf.old) (S.reading shelf.new) ⊥ result }
     ensures reads { S.reads shelf.new ≡ S.reads shelf.old }
+    ensures failed_kept { OnOk result (S.failed shelf.new ≡ S.failed shelf.old) }
+    ensures failed_name { OnErr result (HasFailed sound.now (S.failed shelf.old) (S.failed shelf.new)
+        ⊎ HasFailed order.now (S.failed shelf.old) (S.failed shelf.new)) }
     ensures written_out { OnOk result (HoldsNothing (S.held shelf.new) sound.now order.now) }
 {
     match run_turns(

@@ -1,11 +1,11 @@
 //! What is made in a turn is appended to the two files.
-ghost use Rattle.std.specs.Prelude.{◌≡◌, ◌≢◌, All, OnOk, OnErr, option_map};
+ghost use Rattle.std.specs.Prelude.{◌≡◌, ◌≢◌, All, IfErr, OnOk, OnErr, option_map};
 ghost use Rattle.command_set.specs.Command.{IsInRange};
 ghost use Rattle.command_set.specs.Entries.{journal_data};
 ghost use Rattle.outside.specs.Files.{Lacks, AppendedSome, appended};
-ghost use Rattle.outside.specs.Faults.{HasCause};
+ghost use Rattle.outside.specs.Faults.{HasCause, HasFailed};
 ghost use Rattle.turns.specs.Steps.{block_before};
-ghost use Rattle.turns.specs.Written.{HoldsNothing, order_lines};
+ghost use Rattle.turns.specs.Written.{Blames, HoldsNothing, order_lines};
 
 use crate::target::Target;
 use command_set::{LineText, Logged};
@@ -24,6 +24,9 @@ pub(crate) fn write_block<S: Shelf>(
     ensures some { OnErr result (AppendedSome sound.now (block_before t samples.now) (S.files shelf.old) (S.files shelf.new)) }
     ensures cause { HasCause (S.writing shelf.old) (S.writing shelf.new) (S.reading shelf.old) (S.reading shelf.new) ⊥ result }
     ensures reads { S.reads shelf.new ≡ S.reads shelf.old }
+    ensures failed_kept { OnOk result (S.failed shelf.new ≡ S.failed shelf.old) }
+    ensures failed_name { OnErr result (HasFailed sound.now (S.failed shelf.old) (S.failed shelf.new)) }
+    ensures target { IfErr result (λ target. target ≡ Target.Sound) }
 {
     if t == 0 {
         return Ok(());
@@ -46,6 +49,9 @@ pub(crate) fn write_lines<S: Shelf>(
     ensures some { OnErr result (AppendedSome order.now (order_lines (journal_data entries.now)) (S.files shelf.old) (S.files shelf.new)) }
     ensures cause { HasCause (S.writing shelf.old) (S.writing shelf.new) (S.reading shelf.old) (S.reading shelf.new) ⊥ result }
     ensures reads { S.reads shelf.new ≡ S.reads shelf.old }
+    ensures failed_kept { OnOk result (S.failed shelf.new ≡ S.failed shelf.old) }
+    ensures failed_name { OnErr result (HasFailed order.now (S.failed shelf.old) (S.failed shelf.new)) }
+    ensures target { IfErr result (λ target. target ≡ Target.Order) }
 {
     for logged in entries {
         let mut text = LineText::new();
@@ -70,6 +76,7 @@ pub(crate) fn write_out_both<S: Shelf>(
     ensures files { S.files shelf.new ≡ S.files shelf.old }
     ensures cause { HasCause (S.writing shelf.old) (S.writing shelf.new) (S.reading shelf.old) (S.reading shelf.new) ⊥ result }
     ensures reads { S.reads shelf.new ≡ S.reads shelf.old }
+    ensures blames { Blames result sound.now order.now (S.failed shelf.old) (S.failed shelf.new) }
     ensures written_out { OnOk result (HoldsNothing (S.held shelf.new) sound.now order.now) }
 {
     match write_out(shelf, sound) {

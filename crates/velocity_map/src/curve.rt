@@ -1,4 +1,4 @@
-//! The three curves.
+//! The three curves that a velocity may follow: linear, soft and hard.
 
 /// What becomes of the velocity of a note that is played.
 #[derive(Clone, Copy, Debug, PartialEq, Eq)]

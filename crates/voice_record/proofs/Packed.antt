@@ -1,5 +1,6 @@
 -- How the packed bytes are filled, field by field, and that each voice has one packed form.
-use Rattle.std.proofs.Common.{◌≡◌, ◌≢◌, ℕ, zero, suc, ◌+◌, ◌-◌, ◌*◌, ◌/◌, ◌%◌, ◌^◌, ◌<◌, ◌≤◌, List, length, get_or, set, refl, ap, sym, ◌∙◌, subst, arith, inl, inr, ◌⊎◌, length-set, replicate, lit<, get_or-set_same, get_or-set_other, mul_assoc}
+use Rattle.std.proofs.Common.{◌≡◌, ◌≢◌, ℕ, zero, suc, ◌+◌, ◌-◌, ◌*◌, ◌/◌, ◌%◌, ◌^◌, ◌<◌, ◌≤◌, List, length, get_or, set, refl, ap, sym, ◌∙◌, subst, arith, inl}
+use Rattle.std.proofs.Common.{inr, ◌⊎◌, length-set, replicate, lit<, get_or-set_same, get_or-set_other, mul_assoc}
 use Rattle.std.specs.Int.{bit_at}
 use Rattle.std.proofs.lemmas.Bool.{cases_eq, cases_lt}
 use Rattle.std.proofs.lemmas.Nat.{pow_pos, pow-add, field_of, shr_high, shr-shr, shl_below}
@@ -67,7 +68,8 @@ filled_more fields bytes n value v l h is =
                       let kept = keeps_low (get_or bytes (row_of n).byte 0) (get_or fields n 0) (row_of n).shift (row_of k).shift (row_of k).width under in
                       let read : get_or (set bytes (row_of n).byte value) (row_of k).byte 0 ≡ value =
                       subst (λ b. get_or (set bytes (row_of n).byte value) b 0 ≡ value) (sym same) (get_or-set_same bytes (row_of n).byte value 0 there) in
-                      rw read (rw is (kept ∙ subst (λ b. get_or bytes b 0 / 2 ^ (row_of k).shift % 2 ^ (row_of k).width ≡ get_or fields k 0) same (h.rows k earlier))))
+                      rw read (rw is (kept ∙ subst (λ b. get_or bytes b 0 / 2 ^ (row_of k).shift % 2 ^ (row_of k).width ≡ get_or fields k 0) same
+                      (h.rows k earlier))))
                   | inr other ↦ rw get_or-set_other (h.rows k earlier)
                 ])
           ];
@@ -130,11 +132,13 @@ bit_of_field n shift width bit a b =
     ap (λ m. m % 2) (sym moved) ∙ (sym one ∙ ap (λ m. m % 2) (sym whole))
 
 -- the same voice has the same used bits in each of its packed forms
-same_used : (fields p q : List ℕ) (byte bit : ℕ) → Packs fields p → Packs fields q → IsUsed byte bit → bit_at (get_or p byte 0) bit ≡ bit_at (get_or q byte 0) bit
+same_used : (fields p q : List ℕ) (byte bit : ℕ) → Packs fields p → Packs fields q → IsUsed byte bit
+    → bit_at (get_or p byte 0) bit ≡ bit_at (get_or q byte 0) bit
 same_used fields p q byte bit a b (k, small, at, low, high) =
     let fact : (x : List ℕ) → Packs fields x → bit_at (get_or x byte 0) bit ≡ bit_at (get_or fields k 0) (bit - (row_of k).shift) =
     λ x h. subst (λ y. bit_at (get_or x y 0) bit ≡ bit_at (get_or fields k 0) (bit - (row_of k).shift)) at
-    (bit_of_field (get_or x (row_of k).byte 0) (row_of k).shift (row_of k).width bit low high ∙ ap (λ m. bit_at m (bit - (row_of k).shift)) (packed_bits fields x k h small)) in
+    (bit_of_field (get_or x (row_of k).byte 0) (row_of k).shift (row_of k).width bit low high
+    ∙ ap (λ m. bit_at m (bit - (row_of k).shift)) (packed_bits fields x k h small)) in
     fact p a ∙ sym (fact q b)
 
 -- a bit is used or not
@@ -142,7 +146,11 @@ used_or_not : (byte bit : ℕ) → IsUsed byte bit ⊎ ¬ IsUsed byte bit
 used_or_not byte bit =
     elim (cases_lt bit (fill 155 byte)) [
       | inl a ↦ inl (used_below 155 byte bit (omega arith) a)
-      | inr b ↦ inr (λ (k, small, at, low, high). absurd (omega (arith, subst (λ y. (row_of k).shift + (row_of k).width ≤ fill 155 y) at (below_fill 155 k (omega arith) small))))
+      | inr b ↦ inr (λ (k, small, at, low, high). absurd (omega (
+        arith,
+        subst (λ y.
+            (row_of k).shift + (row_of k).width ≤ fill 155 y) at (below_fill 155 k (omega arith) small),
+      )))
     ]
 
 -- each voice has one packed form

@@ -1,5 +1,6 @@
 -- What the bit table is like: the fields of a byte lie one above the other from bit 0 on, and each fits its bits.
-use Rattle.std.proofs.Common.{◌≡◌, ℕ, zero, suc, ◌+◌, ◌-◌, ◌*◌, get_or, ◌/◌, ◌%◌, ◌^◌, ◌<◌, ◌≤◌, ◌&&◌, true, if◌then◌else◌, refl, arith, subst, inl, inr, nat_le, nat_lt, ◌==◌}
+use Rattle.std.proofs.Common.{◌≡◌, ℕ, zero, suc, ◌+◌, ◌-◌, ◌*◌, get_or, ◌/◌, ◌%◌, ◌^◌, ◌<◌, ◌≤◌, ◌&&◌, true, if◌then◌else◌, refl, arith, subst, inl, inr}
+use Rattle.std.proofs.Common.{nat_le, nat_lt, ◌==◌}
 use Rattle.std.proofs.lemmas.Bool.{lt-ltb, le-ltb, leb-true, ltb-true, eqb-true, eq-eqb, ne_eqb, cases_eq, cases_lt, and_parts}
 use Rattle.voice_record.specs.Voice.{greatest_value}
 use Rattle.voice_record.specs.Packing.{row_of, placed, operator_rows, common_rows, IsUsed}
@@ -18,19 +19,21 @@ all_stacked = refl
 pub stacked : (n : ℕ) → n < 155 → fill n (row_of n).byte ≡ (row_of n).shift
 stacked n l = eqb-true _ _ (every_at (λ k. fill k (row_of k).byte == (row_of k).shift) 155 all_stacked n l)
 
-all_places : every (λ n. nat_lt (row_of n).byte 128 && (nat_le ((row_of n).shift + (row_of n).width) 7 && nat_lt (greatest_value n) (2 ^ (row_of n).width))) 155 ≡ true
+all_fit : every (λ n. nat_lt (row_of n).byte 128 && (nat_le ((row_of n).shift + (row_of n).width) 7 && nat_lt (greatest_value n) (2 ^ (row_of n).width))) 155 ≡
+    true
 unfolding every row_of greatest_value
-all_places = refl
+all_fit = refl
 
 -- where a field may lie
-pub record IsPlace (n : ℕ) : Type 0 where
+pub record IsBitField (n : ℕ) : Type 0 where
   pub byte : (row_of n).byte < 128
   pub end : (row_of n).shift + (row_of n).width ≤ 7
   pub fits : greatest_value n < 2 ^ (row_of n).width
 
-pub places_of : (n : ℕ) → n < 155 → IsPlace n
+pub places_of : (n : ℕ) → n < 155 → IsBitField n
 places_of n l =
-    let all = every_at (λ n. nat_lt (row_of n).byte 128 && (nat_le ((row_of n).shift + (row_of n).width) 7 && nat_lt (greatest_value n) (2 ^ (row_of n).width))) 155 all_places n l in
+    let all = every_at (λ n. nat_lt (row_of n).byte 128 && (nat_le ((row_of n).shift + (row_of n).width) 7 && nat_lt (greatest_value n) (2 ^ (row_of n).width)))
+    155 all_fit n l in
     let first = and_parts _ _ all in
     let second = and_parts _ _ first.1 in
     record { byte = ltb-true _ _ first.0; end = leb-true _ _ second.0; fits = ltb-true _ _ second.1 }

@@ -13,17 +13,17 @@ all_small = refl
 pub greatest_small : (number : ℕ) → number < 156 → greatest_value number ≤ 127
 greatest_small number l = leb-true _ _ (every_at (λ n. nat_le (greatest_value n) 127) 156 all_small number l)
 
--- the greatest value of an operator's field, by the place of the operator and of the field in it
-pub greatest_of_operator : (place field : ℕ) → place < 6 → field < 21 → greatest_value (21 * place + field) ≡ get_or operator_greatest field 0
+-- the greatest value of an operator's field, by the index of the operator and of the field in it
+pub greatest_of_operator : (index field : ℕ) → index < 6 → field < 21 → greatest_value (21 * index + field) ≡ get_or operator_greatest field 0
 unfolding greatest_value
-greatest_of_operator place field p f =
-    let below : 21 * place + field < 126 = omega arith in
-    let rest : (21 * place + field) % 21 ≡ field = omega arith in rw (lt-ltb _ _ below, rest)
+greatest_of_operator index field p f =
+    let below : 21 * index + field < 126 = omega arith in
+    let rest : (21 * index + field) % 21 ≡ field = omega arith in rw (lt-ltb _ _ below, rest)
 
 -- an operator's field in a voice
 pub within_operator :
-    (fields : List ℕ) (place field : ℕ) → IsVoice fields → place < 6 → field < 21 → get_or fields (21 * place + field) 0 ≤ get_or operator_greatest field 0
-within_operator fields place field v p f = rw (greatest_of_operator place field p f) at (v.within (21 * place + field) (omega arith))
+    (fields : List ℕ) (index field : ℕ) → IsVoice fields → index < 6 → field < 21 → get_or fields (21 * index + field) 0 ≤ get_or operator_greatest field 0
+within_operator fields index field v p f = rw (greatest_of_operator index field p f) at (v.within (21 * index + field) (omega arith))
 
 opening_within : every (λ n. nat_le (get_or opening_voice n 0) (greatest_value n)) 155 ≡ true
 unfolding every greatest_value opening_voice

@@ -1,4 +1,4 @@
--- A voice: a list of 155 parameters, each at most the greatest value of its place.
+-- A voice: a list of 155 parameters, each at most its greatest value.
 use Rattle.std.specs.Prelude.{ℕ, ◌≡◌, ◌-◌, ◌%◌, ◌<◌, ◌≤◌, min, codes, List, [], ◌∷◌, ◌++◌, length, nat_lt, slice_index, if◌then◌else◌}
 
 -- the greatest values of the 21 parameters of an operator
@@ -42,12 +42,12 @@ greatest_value number =
     if nat_lt number 126 then slice_index operator_greatest (number % 21)
     else slice_index common_greatest (number - 126)
 
--- 155 parameters, each at most the greatest value of its place
+-- 155 parameters, each at most its greatest value
 pub record IsVoice (fields : List ℕ) : Type 0 where
   pub count : length fields ≡ 155
   pub within : (number : ℕ) → number < 155 → slice_index fields number ≤ greatest_value number
 
--- each parameter is the lesser of the byte modulo 128 and the greatest value of its place
+-- each parameter is the lesser of the byte modulo 128 and its greatest value
 pub record IsClamped (bytes fields : List ℕ) : Type 0 where
   pub count : length fields ≡ 155
   pub clamped :

@@ -3,6 +3,7 @@
 #![tactic(auto)]
 
 mod limits;
+pub mod operator_parameter;
 mod packing;
 pub mod parameter;
 mod voice;

@@ -70,14 +70,14 @@ const COMMON_ROWS: [(u8, u8, u8); 29] = [
 
 /// Where a parameter lies: its byte, its lowest bit there, and the number of its bits.
 #[derive(Clone, Copy)]
-struct Place {
+struct BitField {
     byte: u8,
     shift: u8,
     width: u8,
 }
 
-/// The place of a parameter, 0 to 154.
-fn place_of(field: u8) -> Place
+/// The bit field of a parameter, 0 to 154.
+fn bit_field_of(field: u8) -> BitField
     requires { field ≤ 154 }
     ensures byte { result.byte ≡ (row_of field).byte }
     ensures shift { result.shift ≡ (row_of field).shift }
@@ -87,14 +87,14 @@ fn place_of(field: u8) -> Place
 {
     if field < PITCH_RATES {
         let (byte, shift, width) = OPERATOR_ROWS[(field % OPERATOR_FIELDS) as usize];
-        Place {
+        BitField {
             byte: OPERATOR_BYTES * (field / OPERATOR_FIELDS) + byte,
             shift,
             width,
         }
     } else {
         let (byte, shift, width) = COMMON_ROWS[(field - PITCH_RATES) as usize];
-        Place { byte, shift, width }
+        BitField { byte, shift, width }
     }
 }
 
@@ -103,8 +103,8 @@ fn bits(bytes: &[u8; 128], field: u8) -> u8
     requires { field ≤ 154 }
     ensures { result ≡ bits_of bytes.now field }
 {
-    let place = place_of(field);
-    (bytes[place.byte as usize] >> place.shift) % (1 << place.width)
+    let bits = bit_field_of(field);
+    (bytes[bits.byte as usize] >> bits.shift) % (1 << bits.width)
 }
 
 /// A byte with further bits above those that it has.
@@ -118,7 +118,7 @@ fn with_bits(byte: u8, value: u8, shift: u8) -> u8
 }
 
 /// The 155 parameters of 128 packed bytes.
-pub fn unpack(bytes: &[u8; 128]) -> [u8; 155]
+pub(crate) fn unpack(bytes: &[u8; 128]) -> [u8; 155]
     ensures { Unpacks bytes.now result }
 {
     let mut fields = [0; 155];
@@ -129,15 +129,15 @@ pub fn unpack(bytes: &[u8; 128]) -> [u8; 155]
 }
 
 /// The 128 packed bytes of 155 parameters.
-pub fn pack(fields: &[u8; 155]) -> [u8; 128]
+pub(crate) fn pack(fields: &[u8; 155]) -> [u8; 128]
     requires { IsVoice fields.now }
     ensures { Packs fields.now result }
 {
     let mut bytes = [0; 128];
     for field in 0..155u8 {
-        let place = place_of(field);
-        let byte = bytes[place.byte as usize];
-        bytes[place.byte as usize] = with_bits(byte, fields[field as usize], place.shift);
+        let bits = bit_field_of(field);
+        let byte = bytes[bits.byte as usize];
+        bytes[bits.byte as usize] = with_bits(byte, fields[field as usize], bits.shift);
     }
     bytes
 }

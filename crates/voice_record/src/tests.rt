@@ -1,6 +1,9 @@
 //! Known voices and packed bytes.
 
-use crate::parameter::OPERATOR_FIELDS;
+use crate::operator_parameter::{DETUNE, LEFT_CURVE, OUTPUT_LEVEL, RATE_SCALING, RIGHT_CURVE};
+use crate::parameter::{
+    ALGORITHM, LFO_SPEED, LFO_WAVE, NAME, OPERATOR_FIELDS, OPERATOR_SWITCH, TRANSPOSE,
+};
 use crate::{ValueHigh, Voice, greatest};
 use hex::FromHex;
 use std::test::Fail;
@@ -27,18 +30,21 @@ fn the_opening_voice(rt: HostRuntime) -> Result<(), Fail> {
         .ok()
         .ok_or("no hex")?;
     for k in 0..10u8 {
-        assert_eq!(rt; voice.get(145 + k), name[k as usize]);
+        assert_eq!(rt; voice.get(NAME + k), name[k as usize]);
     }
     assert_eq!(rt;
-        (voice.get(5 * OPERATOR_FIELDS + 16), voice.get(16)),
+        (
+            voice.get(5 * OPERATOR_FIELDS + OUTPUT_LEVEL),
+            voice.get(OUTPUT_LEVEL)
+        ),
         (99, 0)
     );
     assert_eq!(rt;
         (
-            voice.get(134),
+            voice.get(ALGORITHM),
             voice.get(136),
-            voice.get(137),
-            voice.get(144)
+            voice.get(LFO_SPEED),
+            voice.get(TRANSPOSE)
         ),
         (0, 1, 35, 24)
     );
@@ -86,10 +92,18 @@ fn each_field_is_packed_in_its_bits(rt: HostRuntime) {
         assert_eq!(rt; packed[byte], written, "byte {byte}");
     }
     assert_eq!(rt;
-        (full.get(11), full.get(12), full.get(13), full.get(20)),
+        (
+            full.get(LEFT_CURVE),
+            full.get(RIGHT_CURVE),
+            full.get(RATE_SCALING),
+            full.get(DETUNE)
+        ),
         (3, 3, 7, 14)
     );
-    assert_eq!(rt; (full.get(142), full.get(144), full.get(154)), (5, 48, 127));
+    assert_eq!(rt;
+        (full.get(LFO_WAVE), full.get(TRANSPOSE), full.get(NAME + 9)),
+        (5, 48, 127)
+    );
     assert_eq!(rt; Voice::from_bytes(&[0xff; 155]), full);
-    assert_eq!(rt; (greatest(133), greatest(155)), (99, 63));
+    assert_eq!(rt; (greatest(133), greatest(OPERATOR_SWITCH)), (99, 63));
 }

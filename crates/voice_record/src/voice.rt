@@ -40,7 +40,7 @@ impl Model for Voice {
     ghost inverse = { λ numbers. record { fields = numbers } };
 }
 
-/// A value that a voice can't have: its place, the value, and the greatest value there.
+/// A value that a parameter can't have: the parameter's number, the value, and the greatest value of that parameter.
 #[derive(Clone, Copy, Debug, PartialEq, Eq)]
 pub struct ValueHigh {
     pub number: u8,
@@ -57,7 +57,7 @@ impl Voice {
         Voice { fields: OPENING }
     }
 
-    /// The parameter at a place from 0 to 154.
+    /// The value of a parameter, 0 to 154.
     pub fn get(&self, number: u8) -> u8
         requires { number ≤ 154 }
         ensures value { result ≡ slice_index self.now number }
@@ -67,8 +67,8 @@ impl Voice {
         self.fields[number as usize]
     }
 
-    /// Puts a value at a place from 0 to 154 and gives the old one. A value above the greatest of its
-    /// place is refused, and the voice stays.
+    /// Sets a parameter, 0 to 154, and gives its old value. A value above the greatest of that parameter
+    /// is refused, and the voice stays.
     pub fn set(&mut self, number: u8, value: u8) -> Result<u8, ValueHigh>
         requires { number ≤ 154 }
         ensures accepted { IsOk result ↔ (value ≤ greatest_value number) }

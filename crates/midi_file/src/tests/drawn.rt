@@ -1,4 +1,4 @@
-//! Drawn MIDI files, read back against a plain program that goes from tick to tick.
+//! Drawn MIDI files, read back against a reference program that goes from tick to tick.
 
 ghost use Rattle.std.specs.Prelude.{◌≡◌, ◌<◌};
 ghost use Rattle.velocity_map.specs.declared.curve.Curve.TheVariants.{Linear};
@@ -117,7 +117,7 @@ fn add_note(text: &mut Vec<u8>, due: u32, key: u8, velocity: u8) -> Result<(), A
 
 /// What the file says: at each tick the events of the first track, then those of the second and of the
 /// third; then the time goes on by the tempo.
-fn plain_text_of(alloc: Global, events: &[Drawn]) -> Result<Vec<u8>, AllocError> {
+fn reference_text_of(alloc: Global, events: &[Drawn]) -> Result<Vec<u8>, AllocError> {
     let mut text = Vec::new(alloc);
     let mut time = 0u64;
     let mut tempo = 500_000u32;
@@ -138,7 +138,7 @@ fn plain_text_of(alloc: Global, events: &[Drawn]) -> Result<Vec<u8>, AllocError>
     Ok(text)
 }
 
-/// Whether drawn files say what the plain program says.
+/// Whether drawn files say what the reference program says.
 pub(crate) fn files_are_read_back(
     rt: &impl Abort,
     alloc: Global,
@@ -150,7 +150,7 @@ pub(crate) fn files_are_read_back(
         let mut bytes = Vec::new(alloc);
         let mut events = Vec::new(alloc);
         draw_file(alloc, &mut bytes, &mut events, seed)?;
-        let wanted = plain_text_of(alloc, &events)?;
+        let wanted = reference_text_of(alloc, &events)?;
         let bounds = Bounds {
             blocks: None,
             room: 100,

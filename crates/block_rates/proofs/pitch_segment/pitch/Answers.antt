@@ -5,7 +5,8 @@ use Rattle.dx_tables.proofs.Ranges.{Within, Within-mul, Within-pos, fits_from_Wi
 use Rattle.block_rates.specs.Pitches.{pitch_of}
 use Rattle.block_rates.proofs.pitch_segment.pitch.Goals as goal
 
-pitch_is : (n : ℕ) (l f : ℤ) → SFits w8 l → neg_ℤ (pos 128) ≤ℤ l → l ≤ℤ pos 127 → l ≡ pitch_level n → f ≡ to_z w8 (of_z w8 l) → to_z w32 (of_z w32 (to_z w32 (of_z w32 f) *ℤ pos 524288)) ≡ pitch_of n
+pitch_is : (n : ℕ) (l f : ℤ) → SFits w8 l → neg_ℤ (pos 128) ≤ℤ l → l ≤ℤ pos 127 → l ≡ pitch_level n → f ≡ to_z w8 (of_z w8 l)
+    → to_z w32 (of_z w32 (to_z w32 (of_z w32 f) *ℤ pos 524288)) ≡ pitch_of n
 unfolding pitch_of
 pitch_is n l f f8 low high a b =
     let w : Within 128 l = record { low = low; high = omega (arith, ints) } in
@@ -15,4 +16,5 @@ pitch_is n l f f8 low high a b =
     rw (b, to_z-of_z w8 l f8, to_z-of_z w32 l f32, to_z-of_z w32 (l *ℤ pos 524288) fp) (ap (λ z. z *ℤ pos 524288) a)
 
 pub returns-clause-value : goal.returns-clause-value
-returns-clause-value c = let k = c.pitch_level.ensures in pitch_is c.args.parameter c.pitch_level.result c.from.result (record { sfits = c.pitch_level.type_inv }) k.low k.high k.value c.from.ensures
+returns-clause-value c = let k = c.pitch_level.ensures in pitch_is c.args.parameter c.pitch_level.result c.from.result
+    (record { sfits = c.pitch_level.type_inv }) k.low k.high k.value c.from.ensures

@@ -22,7 +22,8 @@ high xs ys a j l h e =
 
 whole : (xs ys : List ℕ) (a : ℕ) → a + 128 ≤ length xs → length ys ≡ 128 → length (take a xs ++ (ys ++ drop 128 (drop a xs))) ≡ length xs
 whole xs ys a h e =
-    omega (arith, length-append (take a xs) (ys ++ drop 128 (drop a xs)), length-append ys (drop 128 (drop a xs)), length-take a xs, length-drop 128 (drop a xs), length-drop a xs)
+    omega (arith, length-append (take a xs) (ys ++ drop 128 (drop a xs)), length-append ys (drop 128 (drop a xs)), length-take a xs, length-drop 128
+        (drop a xs), length-drop a xs)
 
 others :
     (xs ys : List ℕ) (slot other : ℕ) → length xs ≡ 4096 → slot ≤ 31 → length ys ≡ 128 → other < 32 → other ≢ slot →
@@ -47,4 +48,5 @@ others xs ys slot other size l e small ne =
 pub returns-clause-others : goal.returns-clause-others
 returns-clause-others c = λ other small ne.
     let width : 128 * c.args.slot + 128 - 128 * c.args.slot ≡ 128 = omega arith in
-    rw width (others c.args.packed.now c.copy_from_slice.new.self c.args.slot other c.requires.size c.requires.slot (ap length c.copy_from_slice.ensures.after ∙ omega arith) small ne)
+    rw width (others c.args.packed.now c.copy_from_slice.new.self c.args.slot other c.requires.size c.requires.slot (ap length c.copy_from_slice.ensures.after
+        ∙ omega arith) small ne)

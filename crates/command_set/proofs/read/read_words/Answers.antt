@@ -12,4 +12,5 @@ pub returns-in-Some-split_once-clause-refused : goal.returns-in-Some-split_once-
 returns-in-Some-split_once-clause-refused c =
     let whole = c.in-Some.ensures.cut ∙ ap (λ ps. c.in-Some.parts.0.now ∷ ps) c.in-Some-split_once.ensures.cut in
     λ e d r same.
-    c.within_range.ensures.refused e d r (c.read_more.ensures ∙ numbers_more c.in-Some.parts.0.now c.in-Some-split_once.first.now c.in-Some-split_once.rest.now d r (same ∙ whole))
+    c.within_range.ensures.refused e d r (c.read_more.ensures ∙ numbers_more c.in-Some.parts.0.now c.in-Some-split_once.first.now c.in-Some-split_once.rest.now
+        d r (same ∙ whole))

@@ -8,7 +8,8 @@ pub returns-then-not-is_packed : goal.returns-then-not-is_packed
 returns-then-not-is_packed c = (
   λ is. absurd (cc),
   λ all.
-      let own : Packs (unpacked (slot_bytes c.args.bytes.now c.loop-slot.slot)) (slot_bytes c.args.bytes.now c.loop-slot.slot) = packs_itself _ _ (all.slots c.loop-slot.slot c.loop-slot-test.true) in
+      let own : Packs (unpacked (slot_bytes c.args.bytes.now c.loop-slot.slot)) (slot_bytes c.args.bytes.now c.loop-slot.slot) =
+          packs_itself _ _ (all.slots c.loop-slot.slot c.loop-slot-test.true) in
       let held : c.is_packed.result ≡ true = c.is_packed.ensures.1 (subst (λ bytes. Packs (unpacked bytes) bytes) (sym c.slot_of.ensures) own) in
       absurd (cc (held, c.if-not-is_packed.true)),
 )

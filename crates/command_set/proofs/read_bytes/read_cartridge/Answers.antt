@@ -16,19 +16,22 @@ pub returns-in-Err-clause-memory : goal.returns-in-Err-clause-memory
 returns-in-Err-clause-memory c =
     λ e. (
       LoadsCartridge (voices_of c.decode_lower.new.into),
-      cartridge_read c.args.word.now c.decode_lower.new.into (c.is_payload.ensures.0 c.if-not-is_payload.false) (c.decode_lower.ensures.decoded c.if-not-decode_lower.false),
+      cartridge_read c.args.word.now c.decode_lower.new.into (c.is_payload.ensures.0 c.if-not-is_payload.false)
+          (c.decode_lower.ensures.decoded c.if-not-decode_lower.false),
     )
 
 pub returns-in-Ok-new-clause-read : goal.returns-in-Ok-new-clause-read
 returns-in-Ok-new-clause-read c =
     let packs = c.is_payload.ensures.0 c.if-not-is_payload.false in
     let said = cartridge_read c.args.word.now c.decode_lower.new.into packs (c.decode_lower.ensures.decoded c.if-not-decode_lower.false) in
-    let is : c.in-Ok-new.cartridge.value ≡ voices_of c.decode_lower.new.into = c.in-Ok-new.ensures.ok ∙ c.in-Ok.ensures.back (voices_of c.decode_lower.new.into) packs in
+    let is : c.in-Ok-new.cartridge.value ≡ voices_of c.decode_lower.new.into = c.in-Ok-new.ensures.ok
+        ∙ c.in-Ok.ensures.back (voices_of c.decode_lower.new.into) packs in
     rw is said
 
 pub returns-clause-memory : goal.returns-clause-memory
 returns-clause-memory c =
     λ e. (
       LoadsCartridge (voices_of c.decode_lower.new.into),
-      cartridge_read c.args.word.now c.decode_lower.new.into (c.is_payload.ensures.0 c.if-not-is_payload.false) (c.decode_lower.ensures.decoded c.if-not-decode_lower.false),
+      cartridge_read c.args.word.now c.decode_lower.new.into (c.is_payload.ensures.0 c.if-not-is_payload.false)
+          (c.decode_lower.ensures.decoded c.if-not-decode_lower.false),
     )

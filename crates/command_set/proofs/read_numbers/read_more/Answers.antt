@@ -8,7 +8,8 @@ returns-in-None c = c.read_two.ensures ∙ sym (two_words c.args.kind.now c.args
 pub returns-in-None-split_once : goal.returns-in-None-split_once
 returns-in-None-split_once c =
     c.read_three.ensures
-    ∙ sym (three_words c.args.kind.now c.args.first.now c.args.rest.now c.in-Some.second.now c.in-Some.third.now c.in-Some.ensures.cut c.in-None-split_once.ensures.whole)
+    ∙ sym (three_words c.args.kind.now c.args.first.now c.args.rest.now c.in-Some.second.now c.in-Some.third.now c.in-Some.ensures.cut
+        c.in-None-split_once.ensures.whole)
 
 pub returns-in-Some-split_once : goal.returns-in-Some-split_once
 returns-in-Some-split_once c =

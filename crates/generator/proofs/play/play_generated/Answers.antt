@@ -12,7 +12,8 @@ pub loop-block-init : goal.loop-block-init
 loop-block-init c =
     let four = c.four_scripts-scripts in
     record {
-      world = first_block c.args.seed (c.args.blocks / 4) four.result c.in_ok-world.world (search rules) c.in_ok-world.ensures.opening four.ensures.none four.ensures.generated;
+      world = first_block c.args.seed (c.args.blocks / 4) four.result c.in_ok-world.world (search rules) c.in_ok-world.ensures.opening four.ensures.none
+          four.ensures.generated;
       sent = refl;
       sum = sym (no_samples (generated_journal c.args.seed c.args.blocks));
       low = omega (arith, ints);

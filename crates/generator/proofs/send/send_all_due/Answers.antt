@@ -7,8 +7,11 @@ pub send_due-requires-clause-ready : goal.send_due-requires-clause-ready
 send_due-requires-clause-ready c =
     let r = c.requires.ready in
     let l = c.loop-number in
-    let h = l.invariant r.0 r.1 in
-    (script_seed r.0 l.number, may_send r.0 c.args.commands c.args.block l.number l.scripts c.index-scripts-number.result l.world c.requires.few c.loop-number-test.true h)
+    let h = l.invariant r.0 r.1 in (
+      script_seed r.0 l.number,
+      may_send r.0 c.args.commands c.args.block l.number l.scripts c.index-scripts-number.result l.world c.requires.few
+          c.loop-number-test.true h,
+    )
 
 pub loop-number-preserved : goal.loop-number-preserved
 loop-number-preserved c = λ seed first.

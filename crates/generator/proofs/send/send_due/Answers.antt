@@ -12,7 +12,8 @@ send_next-requires-clause-ready c =
     let r = c.requires.ready in
     (r.0, (c.loop-script.invariant.sent r.0 r.1).can)
 
-one_past : (seed block count j due_block : ℕ) → due_block ≡ due seed count → due_block ≤ block → ((k : ℕ) → k < count → due seed k < block + 1) → j < count + 1 → (j < count) ⊎ (count ≤ j) → due seed j < block + 1
+one_past : (seed block count j due_block : ℕ) → due_block ≡ due seed count → due_block ≤ block → ((k : ℕ) → k < count → due seed k < block + 1) → j < count + 1
+    → (j < count) ⊎ (count ≤ j) → due seed j < block + 1
 one_past seed block count j due_block is low past below (inl inside) = past j inside
 one_past seed block count j due_block is low past below (inr last) =
     let same : due seed j ≡ due seed count = ap (due seed) (let e : j ≡ count = omega (arith, below, last) in e) in
@@ -31,7 +32,8 @@ loop-script-preserved c =
             can = e.can seed d.can;
             sent = subst (λ (w : Core). IsSent c.args.world.now c.args.number seed from c.send_next.new.script.count w) (sym (e.sent seed d.can))
                 (subst (λ (n : ℕ). IsSent c.args.world.now c.args.number seed from n (after_send c.loop-script.world c.args.number seed count)) (sym e.count)
-                (one_sent c.args.world.now c.loop-script.world c.args.number seed from count i.up d.can.made (omega (arith, d.can.room, c.loop-script-test.true)) d.sent));
+                (one_sent c.args.world.now c.loop-script.world c.args.number seed from count i.up d.can.made
+                (omega (arith, d.can.room, c.loop-script-test.true)) d.sent));
           };
       generated = λ seed h. e.generated seed (i.generated seed h);
       past = λ seed generated past j below.

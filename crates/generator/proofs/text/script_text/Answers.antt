@@ -12,7 +12,8 @@ loop-turn-preserved c =
       text =
           c.in_ok-extend_from_slice-2.ensures.items
           ∙ lines_more seed n c.loop-turn.text.items _ i.text
-          (c.as_slice.ensures.value ∙ c.write_line.ensures ∙ line_is seed c.loop-turn.generated.count n c.loop-turn.generated.due _ i.generated.due (c.next_command-command.ensures.command seed i.generated) i.count);
+          (c.as_slice.ensures.value ∙ c.write_line.ensures ∙ line_is seed c.loop-turn.generated.count n c.loop-turn.generated.due _ i.generated.due
+          (c.next_command-command.ensures.command seed i.generated) i.count);
       generated = c.next_command-command.ensures.generated seed i.generated;
       count = omega (arith, c.next_command-command.ensures.count, i.count);
     }

@@ -27,4 +27,5 @@ pub returns-clause-left : goal.returns-clause-left
 returns-clause-left c = λ i d e lt. c.loop-i.invariant.run.marked.run i d e lt (c.loop-i.invariant.passed i (omega arith))
 
 pub returns-clause-samples : goal.returns-clause-samples
-returns-clause-samples c = λ y o. IsAdded-same _ _ _ _ (c.loop-i.invariant.run.added y o) (λ j lt. sum_whole _ y 16 j (λ x l. c.loop-i.invariant.passed x (omega arith)))
+returns-clause-samples c = λ y o. IsAdded-same _ _ _ _ (c.loop-i.invariant.run.added y o) (λ j lt.
+    sum_whole _ y 16 j (λ x l. c.loop-i.invariant.passed x (omega arith)))

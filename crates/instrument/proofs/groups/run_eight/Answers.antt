@@ -1,7 +1,7 @@
 use Rattle.std.proofs.Common.{ℕ, ◌+ℤ◌, true, ◌≡◌, ◌≢◌, ◌∙◌, ◌+◌, ◌*◌, ◌^◌, ◌<◌, ◌≤◌, ap, get_or, set, arith}
 use Rattle.algorithm_bus.specs.declared.note_block.NoteBlock.{NoteBlock}
 use Rattle.algorithm_bus.specs.Signals.{feedback_state_left, note_output}
-use Rattle.algorithm_bus.specs.NoteBlocks.{block_patch}
+use Rattle.algorithm_bus.specs.NoteBlocks.{block_input}
 use Rattle.instrument.proofs.Marks.{marked_next, added_next, done_here, done_other, done_stays, done_sum, eight_more, eight_same, marks_long}
 use Rattle.instrument.proofs.Sums.{IsSmall-more}
 use Rattle.instrument.proofs.groups.run_eight.Goals as goal
@@ -42,22 +42,29 @@ returns-clause-run c = λ bs from r.
     let b5 = c.index-blocks-e.result in
     let b6 = c.index-blocks-f.result in
     let b7 = c.index-blocks-g.result in
-    let at0 : (z : NoteBlock) → block_patch (get_or c.args.blocks.now i b0) ≡ block_patch (get_or bs i z) = λ z. m0.same i b0 z li c.requires.left in
-    let at1 : (z : NoteBlock) → block_patch (get_or c.args.blocks.now a b1) ≡ block_patch (get_or bs a z) = λ z. m0.same a b1 z la g.left_a in
-    let at2 : (z : NoteBlock) → block_patch (get_or c.args.blocks.now b b2) ≡ block_patch (get_or bs b z) = λ z. m0.same b b2 z lb g.left_b in
-    let at3 : (z : NoteBlock) → block_patch (get_or c.args.blocks.now k b3) ≡ block_patch (get_or bs k z) = λ z. m0.same k b3 z lk g.left_c in
-    let at4 : (z : NoteBlock) → block_patch (get_or c.args.blocks.now d b4) ≡ block_patch (get_or bs d z) = λ z. m0.same d b4 z ld g.left_d in
-    let at5 : (z : NoteBlock) → block_patch (get_or c.args.blocks.now e b5) ≡ block_patch (get_or bs e z) = λ z. m0.same e b5 z le g.left_e in
-    let at6 : (z : NoteBlock) → block_patch (get_or c.args.blocks.now f b6) ≡ block_patch (get_or bs f z) = λ z. m0.same f b6 z lf g.left_f in
-    let at7 : (z : NoteBlock) → block_patch (get_or c.args.blocks.now h b7) ≡ block_patch (get_or bs h z) = λ z. m0.same h b7 z lh g.left_g in
+    let at0 : (z : NoteBlock) → block_input (get_or c.args.blocks.now i b0) ≡ block_input (get_or bs i z) = λ z. m0.same i b0 z li c.requires.left in
+    let at1 : (z : NoteBlock) → block_input (get_or c.args.blocks.now a b1) ≡ block_input (get_or bs a z) = λ z. m0.same a b1 z la g.left_a in
+    let at2 : (z : NoteBlock) → block_input (get_or c.args.blocks.now b b2) ≡ block_input (get_or bs b z) = λ z. m0.same b b2 z lb g.left_b in
+    let at3 : (z : NoteBlock) → block_input (get_or c.args.blocks.now k b3) ≡ block_input (get_or bs k z) = λ z. m0.same k b3 z lk g.left_c in
+    let at4 : (z : NoteBlock) → block_input (get_or c.args.blocks.now d b4) ≡ block_input (get_or bs d z) = λ z. m0.same d b4 z ld g.left_d in
+    let at5 : (z : NoteBlock) → block_input (get_or c.args.blocks.now e b5) ≡ block_input (get_or bs e z) = λ z. m0.same e b5 z le g.left_e in
+    let at6 : (z : NoteBlock) → block_input (get_or c.args.blocks.now f b6) ≡ block_input (get_or bs f z) = λ z. m0.same f b6 z lf g.left_f in
+    let at7 : (z : NoteBlock) → block_input (get_or c.args.blocks.now h b7) ≡ block_input (get_or bs h z) = λ z. m0.same h b7 z lh g.left_g in
     let m1 = marked_next done bs _ i c.sound_eight.new.first m0 li (λ z. c.sound_eight.ensures.feedback_state0 ∙ ap feedback_state_left (at0 z)) in
-    let m2 = marked_next (set done i true) bs _ a c.sound_eight.new.second m1 la (λ z. c.sound_eight.ensures.feedback_state1 ∙ ap feedback_state_left (at1 z)) in
-    let m3 = marked_next (set (set done i true) a true) bs _ b c.sound_eight.new.third m2 lb (λ z. c.sound_eight.ensures.feedback_state2 ∙ ap feedback_state_left (at2 z)) in
-    let m4 = marked_next (set (set (set done i true) a true) b true) bs _ k c.sound_eight.new.fourth m3 lk (λ z. c.sound_eight.ensures.feedback_state3 ∙ ap feedback_state_left (at3 z)) in
-    let m5 = marked_next (set (set (set (set done i true) a true) b true) k true) bs _ d c.sound_eight.new.fifth m4 ld (λ z. c.sound_eight.ensures.feedback_state4 ∙ ap feedback_state_left (at4 z)) in
-    let m6 = marked_next (set (set (set (set (set done i true) a true) b true) k true) d true) bs _ e c.sound_eight.new.sixth m5 le (λ z. c.sound_eight.ensures.feedback_state5 ∙ ap feedback_state_left (at5 z)) in
-    let m7 = marked_next (set (set (set (set (set (set done i true) a true) b true) k true) d true) e true) bs _ f c.sound_eight.new.seventh m6 lf (λ z. c.sound_eight.ensures.feedback_state6 ∙ ap feedback_state_left (at6 z)) in
-    let m8 = marked_next (set (set (set (set (set (set (set done i true) a true) b true) k true) d true) e true) f true) bs _ h c.sound_eight.new.eighth m7 lh (λ z. c.sound_eight.ensures.feedback_state7 ∙ ap feedback_state_left (at7 z)) in
+    let m2 = marked_next (set done i true) bs _ a c.sound_eight.new.second m1 la (λ z. c.sound_eight.ensures.feedback_state1
+    ∙ ap feedback_state_left (at1 z)) in
+    let m3 = marked_next (set (set done i true) a true) bs _ b c.sound_eight.new.third m2 lb (λ z. c.sound_eight.ensures.feedback_state2
+    ∙ ap feedback_state_left (at2 z)) in
+    let m4 = marked_next (set (set (set done i true) a true) b true) bs _ k c.sound_eight.new.fourth m3 lk (λ z. c.sound_eight.ensures.feedback_state3
+    ∙ ap feedback_state_left (at3 z)) in
+    let m5 = marked_next (set (set (set (set done i true) a true) b true) k true) bs _ d c.sound_eight.new.fifth m4 ld (λ z.
+    c.sound_eight.ensures.feedback_state4 ∙ ap feedback_state_left (at4 z)) in
+    let m6 = marked_next (set (set (set (set (set done i true) a true) b true) k true) d true) bs _ e c.sound_eight.new.sixth m5 le (λ z.
+    c.sound_eight.ensures.feedback_state5 ∙ ap feedback_state_left (at5 z)) in
+    let m7 = marked_next (set (set (set (set (set (set done i true) a true) b true) k true) d true) e true) bs _ f c.sound_eight.new.seventh m6 lf (λ z.
+    c.sound_eight.ensures.feedback_state6 ∙ ap feedback_state_left (at6 z)) in
+    let m8 = marked_next (set (set (set (set (set (set (set done i true) a true) b true) k true) d true) e true) f true) bs _ h c.sound_eight.new.eighth m7 lh
+    (λ z. c.sound_eight.ensures.feedback_state7 ∙ ap feedback_state_left (at7 z)) in
     let n10 : a ≢ i = omega (arith, o1) in
     let n20 : b ≢ i = omega (arith, o1, o2) in
     let n21 : b ≢ a = omega (arith, o2) in
@@ -89,13 +96,24 @@ returns-clause-run c = λ bs from r.
     let f1 = done_other done i a g.left_a n10 in
     let f2 = done_other (set done i true) a b (done_other done i b g.left_b n20) n21 in
     let f3 = done_other (set (set done i true) a true) b k (done_other (set done i true) a k (done_other done i k g.left_c n30) n31) n32 in
-    let f4 = done_other (set (set (set done i true) a true) b true) k d (done_other (set (set done i true) a true) b d (done_other (set done i true) a d (done_other done i d g.left_d n40) n41) n42) n43 in
-    let f5 = done_other (set (set (set (set done i true) a true) b true) k true) d e (done_other (set (set (set done i true) a true) b true) k e (done_other (set (set done i true) a true) b e (done_other (set done i true) a e (done_other done i e g.left_e n50) n51) n52) n53) n54 in
-    let f6 = done_other (set (set (set (set (set done i true) a true) b true) k true) d true) e f (done_other (set (set (set (set done i true) a true) b true) k true) d f (done_other (set (set (set done i true) a true) b true) k f (done_other (set (set done i true) a true) b f (done_other (set done i true) a f (done_other done i f g.left_f n60) n61) n62) n63) n64) n65 in
-    let f7 = done_other (set (set (set (set (set (set done i true) a true) b true) k true) d true) e true) f h (done_other (set (set (set (set (set done i true) a true) b true) k true) d true) e h (done_other (set (set (set (set done i true) a true) b true) k true) d h (done_other (set (set (set done i true) a true) b true) k h (done_other (set (set done i true) a true) b h (done_other (set done i true) a h (done_other done i h g.left_g n70) n71) n72) n73) n74) n75) n76 in
+    let f4 = done_other (set (set (set done i true) a true) b true) k d (done_other (set (set done i true) a true) b d
+    (done_other (set done i true) a d (done_other done i d g.left_d n40) n41) n42) n43 in
+    let f5 = done_other (set (set (set (set done i true) a true) b true) k true) d e
+    (done_other (set (set (set done i true) a true) b true) k e (done_other (set (set done i true) a true) b e
+    (done_other (set done i true) a e (done_other done i e g.left_e n50) n51) n52) n53) n54 in
+    let f6 = done_other (set (set (set (set (set done i true) a true) b true) k true) d true) e f
+    (done_other (set (set (set (set done i true) a true) b true) k true) d f
+    (done_other (set (set (set done i true) a true) b true) k f (done_other (set (set done i true) a true) b f
+    (done_other (set done i true) a f (done_other done i f g.left_f n60) n61) n62) n63) n64) n65 in
+    let f7 = done_other (set (set (set (set (set (set done i true) a true) b true) k true) d true) e true) f h
+    (done_other (set (set (set (set (set done i true) a true) b true) k true) d true) e h
+    (done_other (set (set (set (set done i true) a true) b true) k true) d h
+    (done_other (set (set (set done i true) a true) b true) k h (done_other (set (set done i true) a true) b h
+    (done_other (set done i true) a h (done_other done i h g.left_g n70) n71) n72) n73) n74) n75) n76 in
     record {
       marked = m8;
-      added = λ y q. added_next _ _ _ (λ j. (y i j +ℤ y a j +ℤ y b j +ℤ y k j) +ℤ (y d j +ℤ y e j +ℤ y f j +ℤ y h j)) _ _ _ (r.added y q) c.sound_eight.ensures.samples
+      added = λ y q. added_next _ _ _ (λ j. (y i j +ℤ y a j +ℤ y b j +ℤ y k j) +ℤ (y d j +ℤ y e j +ℤ y f j +ℤ y h j)) _ _ _ (r.added y q)
+          c.sound_eight.ensures.samples
           (λ j. eight_same _ _ _ _ _ _ _ _ _ _ _ _ _ _ _ _
           (ap (λ p. note_output p j) (at0 b0) ∙ q i b0 li j)
           (ap (λ p. note_output p j) (at1 b1) ∙ q a b1 la j)

@@ -1,7 +1,7 @@
 use Rattle.std.proofs.Common.{ℕ, ◌+ℤ◌, true, ◌≡◌, ◌≢◌, ◌∙◌, ◌+◌, ◌*◌, ◌^◌, ◌<◌, ◌≤◌, ap, get_or, set, arith}
 use Rattle.algorithm_bus.specs.declared.note_block.NoteBlock.{NoteBlock}
 use Rattle.algorithm_bus.specs.Signals.{feedback_state_left, note_output}
-use Rattle.algorithm_bus.specs.NoteBlocks.{block_patch}
+use Rattle.algorithm_bus.specs.NoteBlocks.{block_input}
 use Rattle.instrument.proofs.Marks.{marked_next, added_next, done_here, done_other, done_stays, done_sum, four_more, four_same}
 use Rattle.instrument.proofs.Sums.{IsSmall-more}
 use Rattle.instrument.proofs.groups.run_group.Goals as goal
@@ -23,14 +23,16 @@ returns-clause-run c = λ bs from r.
     let b1 = c.index-blocks-a.result in
     let b2 = c.index-blocks-b.result in
     let b3 = c.index-blocks-c.result in
-    let at0 : (e : NoteBlock) → block_patch (get_or c.args.blocks.now i b0) ≡ block_patch (get_or bs i e) = λ e. m0.same i b0 e li c.requires.left in
-    let at1 : (e : NoteBlock) → block_patch (get_or c.args.blocks.now a b1) ≡ block_patch (get_or bs a e) = λ e. m0.same a b1 e la g.left.0 in
-    let at2 : (e : NoteBlock) → block_patch (get_or c.args.blocks.now b b2) ≡ block_patch (get_or bs b e) = λ e. m0.same b b2 e lb g.left.1 in
-    let at3 : (e : NoteBlock) → block_patch (get_or c.args.blocks.now k b3) ≡ block_patch (get_or bs k e) = λ e. m0.same k b3 e lk g.left.2 in
+    let at0 : (e : NoteBlock) → block_input (get_or c.args.blocks.now i b0) ≡ block_input (get_or bs i e) = λ e. m0.same i b0 e li c.requires.left in
+    let at1 : (e : NoteBlock) → block_input (get_or c.args.blocks.now a b1) ≡ block_input (get_or bs a e) = λ e. m0.same a b1 e la g.left.0 in
+    let at2 : (e : NoteBlock) → block_input (get_or c.args.blocks.now b b2) ≡ block_input (get_or bs b e) = λ e. m0.same b b2 e lb g.left.1 in
+    let at3 : (e : NoteBlock) → block_input (get_or c.args.blocks.now k b3) ≡ block_input (get_or bs k e) = λ e. m0.same k b3 e lk g.left.2 in
     let m1 = marked_next done bs _ i c.sound_four.new.first m0 li (λ e. c.sound_four.ensures.feedback_state0 ∙ ap feedback_state_left (at0 e)) in
     let m2 = marked_next (set done i true) bs _ a c.sound_four.new.second m1 la (λ e. c.sound_four.ensures.feedback_state1 ∙ ap feedback_state_left (at1 e)) in
-    let m3 = marked_next (set (set done i true) a true) bs _ b c.sound_four.new.third m2 lb (λ e. c.sound_four.ensures.feedback_state2 ∙ ap feedback_state_left (at2 e)) in
-    let m4 = marked_next (set (set (set done i true) a true) b true) bs _ k c.sound_four.new.fourth m3 lk (λ e. c.sound_four.ensures.feedback_state3 ∙ ap feedback_state_left (at3 e)) in
+    let m3 = marked_next (set (set done i true) a true) bs _ b c.sound_four.new.third m2 lb (λ e. c.sound_four.ensures.feedback_state2
+    ∙ ap feedback_state_left (at2 e)) in
+    let m4 = marked_next (set (set (set done i true) a true) b true) bs _ k c.sound_four.new.fourth m3 lk (λ e. c.sound_four.ensures.feedback_state3
+    ∙ ap feedback_state_left (at3 e)) in
     let h1 = g.first in
     let h2 = g.second in
     let h3 = g.third in

@@ -15,7 +15,8 @@ loop-i-preserved c =
     let e = c.index-blocks-i.result in
     record {
       len = simp length-set v.len;
-      ended = λ bs m ws h q. ended_next i m ws bs _ _ v.len lt (v.ended bs m ws h q) (c.end_block.ensures (get_or bs i e) m (ws i) ((v.ended bs m ws h q).rest i _ e (omega arith) lt) (q i e e lt));
+      ended = λ bs m ws h q. ended_next i m ws bs _ _ v.len lt (v.ended bs m ws h q)
+          (c.end_block.ensures (get_or bs i e) m (ws i) ((v.ended bs m ws h q).rest i _ e (omega arith) lt) (q i e e lt));
     }
 
 pub returns : goal.returns

@@ -10,5 +10,6 @@ use Rattle.instrument.proofs.slots.end_all.Given as goal
 abbrev pub invariant-loop-i : goal.invariant-loop-i
 invariant-loop-i l = record {
   len : length l.slots ≡ 16;
-  ended : (bs : List NoteBlock) (m : Modulation) (ws : ℕ → Option SlotData) → AreSlotsBegun l.fn.slots bs m ws → AreLeft bs l.blocks → AreEndedUpTo l.i m ws bs l.slots;
+  ended : (bs : List NoteBlock) (m : Modulation) (ws : ℕ → Option SlotData) → AreSlotsBegun l.fn.slots bs m ws → AreLeft bs l.blocks
+      → AreEndedUpTo l.i m ws bs l.slots;
 }

@@ -11,7 +11,8 @@ loop-i-preserved c =
     let v = c.loop-i.invariant in
     record {
       len = simp length-set v.len;
-      slots = λ ws h. AreSlotsUpTo-next i _ ws _ _ v.len c.loop-i-test.true (v.slots ws h) (c.pedal_up.ensures (ws i) ((v.slots ws h).rest i _ (omega arith) c.loop-i-test.true));
+      slots = λ ws h. AreSlotsUpTo-next i _ ws _ _ v.len c.loop-i-test.true (v.slots ws h)
+          (c.pedal_up.ensures (ws i) ((v.slots ws h).rest i _ (omega arith) c.loop-i-test.true));
     }
 
 pub returns : goal.returns

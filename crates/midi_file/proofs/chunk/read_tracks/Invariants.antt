@@ -1,6 +1,6 @@
 use Rattle.std.proofs.Common.{◌<◌, ◌++◌, length}
 use Rattle.midi_file.specs.Chunks.{tracks_outcomes}
-use Rattle.midi_file.specs.Reading.{all_come}
+use Rattle.midi_file.specs.FileSoFar.{all_come}
 use Rattle.midi_file.proofs.Files.{IsWithinFile}
 use Rattle.midi_file.proofs.chunk.read_tracks.Given as goal
 

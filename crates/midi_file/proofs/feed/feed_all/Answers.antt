@@ -1,7 +1,7 @@
 use Rattle.std.proofs.Common.{◌++◌, ℕ, List, [], ◌∷◌, take, get_or, refl, ap, sym, subst, ◌∙◌, append_assoc, append-nil}
-use Rattle.midi_stream.specs.Reading.{Reads}
+use Rattle.midi_stream.specs.FedStream.{Reads}
 use Rattle.midi_file.specs.Track.{TrackOutcome}
-use Rattle.midi_file.specs.Reading.{all_come}
+use Rattle.midi_file.specs.FileSoFar.{all_come}
 use Rattle.midi_file.proofs.EndedMessages.{fed_none, fed_step, fed_faults}
 use Rattle.script_outcome.proofs.EndedMessages.{take_next}
 use Rattle.midi_file.proofs.feed.feed_all.Goals as goal

@@ -1,7 +1,7 @@
 use Rattle.std.proofs.Common.{◌≡◌, ◌++◌, ℕ, List, take}
-use Rattle.midi_stream.specs.Reading.{Reads}
+use Rattle.midi_stream.specs.FedStream.{Reads}
 use Rattle.midi_file.specs.Track.{bytes_outcomes}
-use Rattle.midi_file.specs.Reading.{all_come}
+use Rattle.midi_file.specs.FileSoFar.{all_come}
 use Rattle.midi_file.proofs.feed.feed_all.Given as goal
 
 abbrev pub invariant-loop-byte : goal.invariant-loop-byte

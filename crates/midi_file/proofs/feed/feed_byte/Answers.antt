@@ -1,6 +1,6 @@
 use Rattle.std.proofs.Common.{ap, sym, subst, ◌∙◌, ◌++◌, append-nil, List}
 use Rattle.midi_file.specs.Track.{TrackOutcome}
-use Rattle.midi_file.specs.Reading.{Faults, all_come}
+use Rattle.midi_file.specs.FileSoFar.{Faults, all_come}
 use Rattle.script_outcome.proofs.Plans.{on_ok_more, if_err_more}
 use Rattle.midi_file.proofs.EndedMessages.{none_ended, message_is_ended}
 use Rattle.midi_file.proofs.feed.feed_byte.Goals as goal

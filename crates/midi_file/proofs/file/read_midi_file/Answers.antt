@@ -1,6 +1,6 @@
 use Rattle.std.proofs.Common.{List, subst}
 use Rattle.script_outcome.specs.Outcomes.{Outcome}
-use Rattle.script_outcome.specs.Reading.{Settles}
+use Rattle.script_outcome.specs.ReaderAnswer.{Settles}
 use Rattle.midi_file.proofs.Plans.{whole_file, faulty_file}
 use Rattle.midi_file.proofs.file.read_midi_file.Goals as goal
 

@@ -1,6 +1,6 @@
 use Rattle.std.proofs.Common.{◌≤◌, ◌+◌, ◌*◌, ◌++◌, length}
 use Rattle.midi_file.specs.Track.{track_outcomes}
-use Rattle.midi_file.specs.Reading.{all_come}
+use Rattle.midi_file.specs.FileSoFar.{all_come}
 use Rattle.midi_file.proofs.Tracks.{IsWithinTrack}
 use Rattle.midi_file.proofs.track.read_track.Given as goal
 

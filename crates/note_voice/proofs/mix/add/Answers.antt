@@ -35,4 +35,5 @@ pub returns-clause-samples : goal.returns-clause-samples
 returns-clause-samples c = IsAddedUpTo-all _ _ _ _ (omega arith) c.loop-j.invariant.added
 
 pub returns-clause-small : goal.returns-clause-small
-returns-clause-small c = λ b s. IsAdded-small _ _ _ b (IsAddedUpTo-all _ _ _ _ (omega arith) c.loop-j.invariant.added) (λ j lt. c.loop-j.invariant.fits j (omega arith)) s
+returns-clause-small c = λ b s. IsAdded-small _ _ _ b (IsAddedUpTo-all _ _ _ _ (omega arith) c.loop-j.invariant.added) (λ j lt.
+    c.loop-j.invariant.fits j (omega arith)) s

@@ -31,7 +31,8 @@ returns-clause-value c =
     let fe : SFits w32 c.exp.result = record { sfits = c.exp.type_inv } in
     let e : c.max.result ≡ int_max (c.args.level -ℤ c.args.attenuation) (pos 0) = simp to_z-of_z at c.max.ensures.value in
     let f2 : SFits w32 (c.max.result -ℤ pos 234881024) = max_fits c.max.result (c.args.level -ℤ c.args.attenuation) e (omega (arith, ints)) in
-    to_z-of_z w32 _ fe ∙ c.exp.ensures.value ∙ ap exponential (arg_bits c.max.result fm f2) ∙ ap (λ z. exponential (z -ℤ pos 234881024)) (e ∙ max_swapped (c.args.level -ℤ c.args.attenuation) (pos 0))
+    to_z-of_z w32 _ fe ∙ c.exp.ensures.value ∙ ap exponential (arg_bits c.max.result fm f2)
+    ∙ ap (λ z. exponential (z -ℤ pos 234881024)) (e ∙ max_swapped (c.args.level -ℤ c.args.attenuation) (pos 0))
 
 pub returns-clause-high : goal.returns-clause-high
 returns-clause-high c =

@@ -1,7 +1,8 @@
 use Rattle.std.proofs.Common.{◌+◌, SFits, w32, length-set, arith, rules}
 use Rattle.std.proofs.lemmas.Int.{to_z-of_z}
 use Rattle.note_voice.specs.Note.{after_block}
-use Rattle.note_voice.proofs.Blocks.{audible_is, passed_none, passed_next, passed_all, audible_none, audible_next, audible_all, gains_none, gains_next, gains_all}
+use Rattle.note_voice.proofs.Blocks.{audible_is, passed_none, passed_next, passed_all, audible_none, audible_next, audible_all, gains_none, gains_next}
+use Rattle.note_voice.proofs.Blocks.{gains_all}
 use Rattle.note_voice.proofs.operators.pass_all.Goals as goal
 
 pub loop-k-init : goal.loop-k-init
@@ -23,8 +24,11 @@ loop-k-preserved c =
       len = simp length-set v.len;
       ops_len = simp length-set v.ops_len;
       gains = gains_next k _ _ v.ops_len lt v.gains c.if_on.ensures.gains;
-      states = λ n m shift h o. passed_next k shift shift n (after_block n m) _ _ v.len lt (v.states n m shift h o) (c.pass-op.ensures.passed n m shift (k + 1) ((v.states n m shift h o).rest k _ (omega arith) lt) h.shift_is h.lfo_is h.lfo_depth_is);
-      blocks = λ n m shift h o. audible_next k (after_block n m) _ _ _ v.ops_len lt (v.blocks n m shift h o) (audible_is _ _ _ _ _ n m _ _ h c.if_on.ensures.value (c.pass-op.ensures.block n m shift (k + 1) ((v.states n m shift h o).rest k _ (omega arith) lt) h.shift_is h.lfo_is h.lfo_depth_is));
+      states = λ n m shift h o. passed_next k shift shift n (after_block n m) _ _ v.len lt (v.states n m shift h o)
+          (c.pass-op.ensures.passed n m shift (k + 1) ((v.states n m shift h o).rest k _ (omega arith) lt) h.shift_is h.lfo_is h.lfo_depth_is);
+      blocks = λ n m shift h o. audible_next k (after_block n m) _ _ _ v.ops_len lt (v.blocks n m shift h o)
+          (audible_is _ _ _ _ _ n m _ _ h c.if_on.ensures.value (c.pass-op.ensures.block n m shift (k + 1) ((v.states n m shift h o).rest k _ (omega arith) lt)
+          h.shift_is h.lfo_is h.lfo_depth_is));
     }
 
 pub returns-clause-gains : goal.returns-clause-gains

@@ -10,6 +10,8 @@ invariant-loop-k l = record {
   len : length l.operators ≡ 6;
   ops_len : length l.ops ≡ 6;
   gains : HaveGainsUpTo l.k l.ops;
-  states : (n : NoteData) (m : Modulation) (shift : ℤ) → IsModulated l.switch shift l.lfo l.lfo_depth n m → AreOperators l.fn.operators shift n → ArePassedUpTo l.k shift shift n (after_block n m) l.operators;
-  blocks : (n : NoteData) (m : Modulation) (shift : ℤ) → IsModulated l.switch shift l.lfo l.lfo_depth n m → AreOperators l.fn.operators shift n → AreAudibleUpTo l.k (after_block n m) (length n.past) l.ops;
+  states : (n : NoteData) (m : Modulation) (shift : ℤ) → IsModulated l.switch shift l.lfo l.lfo_depth n m → AreOperators l.fn.operators shift n
+      → ArePassedUpTo l.k shift shift n (after_block n m) l.operators;
+  blocks : (n : NoteData) (m : Modulation) (shift : ℤ) → IsModulated l.switch shift l.lfo l.lfo_depth n m → AreOperators l.fn.operators shift n
+      → AreAudibleUpTo l.k (after_block n m) (length n.past) l.ops;
 }

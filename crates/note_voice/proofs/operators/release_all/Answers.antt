@@ -13,7 +13,8 @@ loop-k-preserved c =
     let lt = c.loop-k-test.true in
     record {
       len = simp length-set v.len;
-      states = λ n shift h. passed_next k shift shift n (note_released n) _ _ v.len lt (v.states n shift h) (c.release.ensures n shift (k + 1) ((v.states n shift h).rest k _ (omega arith) lt));
+      states = λ n shift h. passed_next k shift shift n (note_released n) _ _ v.len lt (v.states n shift h)
+          (c.release.ensures n shift (k + 1) ((v.states n shift h).rest k _ (omega arith) lt));
     }
 
 pub returns : goal.returns

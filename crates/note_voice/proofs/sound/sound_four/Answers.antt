@@ -15,7 +15,9 @@ pub add-requires-4 : goal.add-requires-4
 add-requires-4 c = IsSmall-more _ _ _ (omega arith) (c.add-3.ensures.small _ (c.add-2.ensures.small _ (c.add.ensures.small _ c.requires.mix)))
 
 pub returns-clause-samples : goal.returns-clause-samples
-returns-clause-samples c = four_added _ _ _ _ _ _ _ _ _ _ _ _ _ c.run_four.ensures.out0 c.run_four.ensures.out1 c.run_four.ensures.out2 c.run_four.ensures.out3 c.add.ensures.samples c.add-2.ensures.samples c.add-3.ensures.samples c.add-4.ensures.samples
+returns-clause-samples c = four_added _ _ _ _ _ _ _ _ _ _ _ _ _ c.run_four.ensures.out0 c.run_four.ensures.out1 c.run_four.ensures.out2 c.run_four.ensures.out3
+    c.add.ensures.samples c.add-2.ensures.samples c.add-3.ensures.samples c.add-4.ensures.samples
 
 pub returns-clause-small : goal.returns-clause-small
-returns-clause-small c = λ b s. IsSmall-more _ _ _ (omega arith) (c.add-4.ensures.small _ (c.add-3.ensures.small _ (c.add-2.ensures.small _ (c.add.ensures.small b s))))
+returns-clause-small c = λ b s. IsSmall-more _ _ _ (omega arith) (c.add-4.ensures.small _
+    (c.add-3.ensures.small _ (c.add-2.ensures.small _ (c.add.ensures.small b s))))

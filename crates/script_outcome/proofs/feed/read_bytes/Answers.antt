@@ -1,8 +1,8 @@
 use Rattle.std.proofs.Common.{◌++◌, ℕ, List, [], ◌∷◌, take, get_or, refl, ap, sym, subst, ◌∙◌, append_assoc, append-nil}
-use Rattle.midi_stream.specs.Reading.{Reads}
+use Rattle.midi_stream.specs.FedStream.{Reads}
 use Rattle.velocity_map.specs.Map.{curve_of}
 use Rattle.script_outcome.specs.Outcomes.{Outcome}
-use Rattle.script_outcome.specs.Reading.{all_given}
+use Rattle.script_outcome.specs.ReaderAnswer.{all_given}
 use Rattle.script_outcome.proofs.EndedMessages.{take_next}
 use Rattle.script_outcome.proofs.FedBytes.{fed_none, fed_step, fed_stopped}
 use Rattle.script_outcome.proofs.feed.read_bytes.Goals as goal

@@ -1,9 +1,9 @@
 use Rattle.std.proofs.Common.{◌≡◌, ◌≤◌, ◌++◌, ℕ, List, take, length}
-use Rattle.midi_stream.specs.Reading.{Reads}
+use Rattle.midi_stream.specs.FedStream.{Reads}
 use Rattle.velocity_map.specs.Map.{curve_of}
 use Rattle.script_plan.specs.Plan.{last_due}
 use Rattle.script_outcome.specs.Outcomes.{fed_outcomes}
-use Rattle.script_outcome.specs.Reading.{all_given}
+use Rattle.script_outcome.specs.ReaderAnswer.{all_given}
 use Rattle.script_outcome.proofs.feed.read_bytes.Given as goal
 
 abbrev pub invariant-loop-byte : goal.invariant-loop-byte

@@ -1,8 +1,8 @@
 use Rattle.std.proofs.Common.{◌≡◌, ◌++◌, ◌∷◌, [], List, ℕ, subst, arith}
 use Rattle.script_read.specs.EditLines.{parsed_edit}
 use Rattle.script_read.specs.Edits.{edits_after}
-use Rattle.script_read.specs.EditReading.{IsEditing}
-use Rattle.script_outcome.specs.Reading.{Stops}
+use Rattle.script_read.specs.EditsSoFar.{IsEditing}
+use Rattle.script_outcome.specs.ReaderAnswer.{Stops}
 use Rattle.script_read.proofs.EditOutcomes.{within_none, within_more, stopped_at_line, stopped_at_last, settled_at_end}
 use Rattle.script_read.proofs.edit_lines.read_edit_lines.Goals as goal
 

@@ -1,5 +1,5 @@
 use Rattle.std.proofs.Common.{◌≤◌, ◌+◌, length}
-use Rattle.script_read.specs.EditReading.{HasEditOrder, IsWithinEdits}
+use Rattle.script_read.specs.EditsSoFar.{HasEditOrder, IsWithinEdits}
 use Rattle.script_read.proofs.edit_lines.read_edit_lines.Given as goal
 
 abbrev pub invariant-loop-line : goal.invariant-loop-line

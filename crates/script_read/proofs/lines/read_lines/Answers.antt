@@ -1,8 +1,8 @@
 use Rattle.std.proofs.Common.{◌≡◌, ◌++◌, ◌∷◌, [], List, ℕ, subst, arith}
 use Rattle.script_read.specs.Lines.{ParsedLine, parsed}
 use Rattle.script_read.specs.Outcomes.{outcomes_after, stream_of}
-use Rattle.script_outcome.specs.Reading.{Stops}
-use Rattle.script_read.specs.Reading.{IsAfter}
+use Rattle.script_outcome.specs.ReaderAnswer.{Stops}
+use Rattle.script_read.specs.TextSoFar.{IsAfter}
 use Rattle.script_read.proofs.LineOutcomes.{within_none, within_more, stopped_at_line, stopped_at_last, settled_at_end}
 use Rattle.script_outcome.proofs.Plans.{on_ok_more, on_err_more}
 use Rattle.script_read.proofs.lines.read_lines.Goals as goal

@@ -1,5 +1,5 @@
 use Rattle.std.proofs.Common.{◌≤◌, ◌+◌, length}
-use Rattle.script_read.specs.Reading.{HasOrder, IsWithin}
+use Rattle.script_read.specs.TextSoFar.{HasOrder, IsWithin}
 use Rattle.script_read.proofs.lines.read_lines.Given as goal
 
 abbrev pub invariant-loop-line : goal.invariant-loop-line

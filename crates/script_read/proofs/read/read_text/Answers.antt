@@ -1,7 +1,7 @@
 use Rattle.std.proofs.Common.{List, ℕ, ◌∷◌, ap, sym, subst, ◌∙◌}
 use Rattle.script_read.specs.Words.{lines_of}
 use Rattle.script_read.specs.Plan.{lines_outcomes}
-use Rattle.script_outcome.specs.Reading.{Settles}
+use Rattle.script_outcome.specs.ReaderAnswer.{Settles}
 use Rattle.script_read.proofs.LineOutcomes.{lines_first, lines_last}
 use Rattle.script_read.proofs.read.read_text.Goals as goal
 

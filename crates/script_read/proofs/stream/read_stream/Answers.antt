@@ -1,13 +1,13 @@
 use Rattle.std.proofs.Common.{◌≡◌, ◌+◌, ℕ, List, [], ◌++◌, take, get_or, ap, sym, subst, ◌∙◌, refl}
 use Rattle.std.proofs.lemmas.List.{take_all}
-use Rattle.midi_stream.specs.Reading.{Reads}
+use Rattle.midi_stream.specs.FedStream.{Reads}
 use Rattle.velocity_map.specs.Map.{curve_of}
 use Rattle.velocity_map.specs.declared.curve.Curve.TheVariants.{Linear}
 use Rattle.script_outcome.specs.declared.fault.Place.TheVariants as place
 use Rattle.script_outcome.specs.Stream.{begun_at}
 use Rattle.midi_stream.specs.Ended.{ended_message}
 use Rattle.script_outcome.specs.Outcomes.{Outcome, fed_outcomes}
-use Rattle.script_outcome.specs.Reading.{Stops, all_given}
+use Rattle.script_outcome.specs.ReaderAnswer.{Stops, all_given}
 use Rattle.script_outcome.proofs.EndedMessages.{take_next}
 use Rattle.script_read.proofs.StreamOutcomes.{fed_next, ended_same, nothing_fed, none_begun, start_next, stopped_within, stream_settled}
 use Rattle.script_outcome.proofs.Plans.{on_ok_more, on_err_more, few_of_none, due_of_none}

@@ -1,11 +1,11 @@
 use Rattle.std.proofs.Common.{◌≡◌, ◌≤◌, [], take, length}
-use Rattle.midi_stream.specs.Reading.{Reads}
+use Rattle.midi_stream.specs.FedStream.{Reads}
 use Rattle.velocity_map.specs.declared.curve.Curve.TheVariants.{Linear}
 use Rattle.script_plan.specs.Plan.{last_due}
 use Rattle.script_outcome.specs.declared.fault.Place.TheVariants as place
 use Rattle.script_outcome.specs.Stream.{begun_at}
 use Rattle.script_outcome.specs.Outcomes.{fed_outcomes}
-use Rattle.script_outcome.specs.Reading.{all_given}
+use Rattle.script_outcome.specs.ReaderAnswer.{all_given}
 use Rattle.script_read.proofs.stream.read_stream.Given as goal
 
 abbrev pub invariant-loop-at : goal.invariant-loop-at

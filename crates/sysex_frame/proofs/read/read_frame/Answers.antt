@@ -30,7 +30,8 @@ returns-clause-fault c =
 
 pub returns-clause-faultless : goal.returns-clause-faultless
 returns-clause-faultless c =
-    answer_faultless c.args.bytes.now c.read_kind.result (late_answers c.args.bytes.now c.read_kind.result c.in_ok-check_framing.ensures.good c.read_kind.ensures)
+    answer_faultless c.args.bytes.now c.read_kind.result (late_answers c.args.bytes.now c.read_kind.result c.in_ok-check_framing.ensures.good
+        c.read_kind.ensures)
 
 pub returns-clause-frame : goal.returns-clause-frame
 returns-clause-frame c =

@@ -1,7 +1,7 @@
 use Rattle.std.proofs.Common.{◌∷◌, ◌++◌, ◌∙◌, Err, ap, refl}
 use Rattle.command_set.specs.Entries.{logged_data}
 use Rattle.take_files.specs.Chunks.{IsSeen}
-use Rattle.take_files.specs.Reading.{listed, text_of}
+use Rattle.take_files.specs.OrderSoFar.{listed, text_of}
 use Rattle.take_files.specs.declared.read.OrderKind.TheVariants.{Line}
 use Rattle.take_files.proofs.Results.{answered}
 use Rattle.take_files.proofs.Standings.{begins, entry_more, line_seen, other_line}

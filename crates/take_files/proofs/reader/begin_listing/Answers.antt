@@ -1,6 +1,6 @@
 use Rattle.std.proofs.Common.{◌∷◌, ◌++◌, ◌∙◌, ap, refl}
 use Rattle.take_files.specs.Chunks.{IsSeen}
-use Rattle.take_files.specs.Reading.{text_of}
+use Rattle.take_files.specs.OrderSoFar.{text_of}
 use Rattle.take_files.specs.declared.read.OrderKind.TheVariants.{Line}
 use Rattle.take_files.proofs.Results.{answered}
 use Rattle.take_files.proofs.Standings.{first_text, header_seen}

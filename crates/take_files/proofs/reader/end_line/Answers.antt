@@ -2,7 +2,7 @@ use Rattle.std.proofs.Common.{◌∷◌, ◌++◌, ◌∙◌, List, ℕ, subst, 
 use Rattle.std.proofs.lemmas.List.{append-nil}
 use Rattle.std.proofs.lemmas.Result.{err_from_is_err_and}
 use Rattle.take_files.specs.Chunks.{IsSeen}
-use Rattle.take_files.specs.Reading.{lines_read}
+use Rattle.take_files.specs.OrderSoFar.{lines_read}
 use Rattle.take_files.proofs.Standings.{no_bytes, parted}
 use Rattle.take_files.proofs.reader.end_line.Goals as goal
 

@@ -1,6 +1,6 @@
 use Rattle.std.proofs.Common.{◌++◌, refl, subst, Option}
 use Rattle.take_files.specs.Orders.{IsRefused}
-use Rattle.take_files.specs.Reading.{AreRead, lines_read}
+use Rattle.take_files.specs.OrderSoFar.{AreRead, lines_read}
 use Rattle.take_files.specs.declared.listing.Listing.{Listing}
 use Rattle.take_files.specs.declared.read.OrderKind.TheVariants.{Line}
 use Rattle.take_files.proofs.Results.{answered}

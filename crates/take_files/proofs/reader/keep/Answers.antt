@@ -1,6 +1,6 @@
 use Rattle.std.proofs.Common.{◌++◌}
 use Rattle.take_files.specs.Chunks.{IsSeen}
-use Rattle.take_files.specs.Reading.{lines_read}
+use Rattle.take_files.specs.OrderSoFar.{lines_read}
 use Rattle.take_files.specs.declared.read.OrderKind.TheVariants.{Line}
 use Rattle.take_files.proofs.Results.{answered}
 use Rattle.take_files.proofs.Standings.{part_seen}

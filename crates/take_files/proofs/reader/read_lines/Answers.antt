@@ -2,7 +2,7 @@ use Rattle.std.proofs.Common.{◌++◌, ◌∙◌, [], List, ℕ, sym, subst, ap
 use Rattle.std.proofs.lemmas.List.{append-nil}
 use Rattle.std.proofs.lemmas.Result.{err_from_is_err_and, IfOk-weaker}
 use Rattle.take_files.specs.Chunks.{IsSeen, line_feeds}
-use Rattle.take_files.specs.Reading.{lines_read}
+use Rattle.take_files.specs.OrderSoFar.{lines_read}
 use Rattle.take_files.proofs.Feeding.{cut_feeds, feeds_append, uncut_feeds}
 use Rattle.take_files.proofs.Lines.{cut_text}
 use Rattle.take_files.proofs.Standings.{ended}

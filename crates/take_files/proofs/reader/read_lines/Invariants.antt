@@ -1,6 +1,6 @@
 use Rattle.std.proofs.Common.{◌≡◌, ◌++◌, length}
 use Rattle.take_files.specs.Chunks.{line_feeds}
-use Rattle.take_files.specs.Reading.{AreRead, lines_read}
+use Rattle.take_files.specs.OrderSoFar.{AreRead, lines_read}
 use Rattle.take_files.proofs.reader.read_lines.Given as goal
 
 abbrev pub invariant-loop-end : goal.invariant-loop-end

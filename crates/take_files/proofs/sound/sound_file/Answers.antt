@@ -9,7 +9,8 @@ use Rattle.take_files.proofs.sound.sound_file.Goals as goal
 
 pub playing-init : goal.playing-init
 playing-init c = record {
-  sound = c.in_ok-extend_from_slice.ensures.items ∙ rw (c.in_ok-sound.ensures.items, c.wav_header.ensures, no_blocks (journal_data c.args.journal.now)) (sym (append-nil _));
+  sound = c.in_ok-extend_from_slice.ensures.items ∙ rw (c.in_ok-sound.ensures.items, c.wav_header.ensures, no_blocks (journal_data c.args.journal.now))
+      (sym (append-nil _));
   playback = c.in_ok-playback.ensures;
 }
 

@@ -10,5 +10,6 @@ invariant-loop-logged g l = record {
   files : g.S.Shelf.files l.shelf ≡ option_map (appended l.order (order_lines (journal_data (take l.logged-index l.entries)))) (g.S.Shelf.files l.fn.shelf);
   writing : g.S.Shelf.writing l.shelf ≡ g.S.Shelf.writing l.fn.shelf;
   reading : g.S.Shelf.reading l.shelf ≡ g.S.Shelf.reading l.fn.shelf;
+  failed : g.S.Shelf.failed l.shelf ≡ g.S.Shelf.failed l.fn.shelf;
   reads : g.S.Shelf.reads l.shelf ≡ g.S.Shelf.reads l.fn.shelf;
 }

@@ -8,17 +8,18 @@ loop-field-init c = filled_none c.args.fields.now _ refl (zeros_at 128)
 
 pub with_bits-requires-clause-low : goal.with_bits-requires-clause-low
 with_bits-requires-clause-low c =
-    rw (c.place_of-place.ensures.byte, c.place_of-place.ensures.shift) (room c.args.fields.now c.loop-field.bytes c.loop-field.field c.loop-field.invariant (omega arith))
+    rw (c.bit_field_of-bits.ensures.byte, c.bit_field_of-bits.ensures.shift)
+    (room c.args.fields.now c.loop-field.bytes c.loop-field.field c.loop-field.invariant (omega arith))
 
 pub with_bits-requires-clause-fits : goal.with_bits-requires-clause-fits
 with_bits-requires-clause-fits c =
-    rw (c.place_of-place.ensures.shift) (fits_byte c.args.fields.now c.loop-field.field c.requires (omega arith))
+    rw (c.bit_field_of-bits.ensures.shift) (fits_byte c.args.fields.now c.loop-field.field c.requires (omega arith))
 
 pub loop-field-preserved : goal.loop-field-preserved
 loop-field-preserved c =
-    rw (c.place_of-place.ensures.byte, add-one)
+    rw (c.bit_field_of-bits.ensures.byte, add-one)
     (filled_more c.args.fields.now c.loop-field.bytes c.loop-field.field c.with_bits.result c.requires (omega arith) c.loop-field.invariant
-    (rw (c.place_of-place.ensures.byte, c.place_of-place.ensures.shift) at c.with_bits.ensures))
+    (rw (c.bit_field_of-bits.ensures.byte, c.bit_field_of-bits.ensures.shift) at c.with_bits.ensures))
 
 pub returns : goal.returns
 returns c =

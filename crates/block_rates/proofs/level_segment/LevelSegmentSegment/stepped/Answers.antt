@@ -7,7 +7,7 @@ use Rattle.block_rates.proofs.level_segment.LevelSegmentSegment.stepped.Goals as
 pub returns-then-self-level-clause-value : goal.returns-then-self-level-clause-value
 returns-then-self-level-clause-value c = c.max.ensures ∙ ap (max c.args.self.target) c.saturating_sub.ensures ∙ sym (falling_one _ _ c.if-self-level.true)
 
-rise_is : (s : LevelSegment) (x y r : ℕ) → x < s.target → y ≡ max x 112459776 → r ≡ min s.target (y + (285212672 - y) / 16777216 * s.step) → r ≡ go s x 1
+rise_is : (s : LevelSegment) (x y r : ℕ) → x < s.target → y ≡ max x 112459776 → r ≡ min s.target (y + (285212672 - y) / 16777216 * s.increment) → r ≡ go s x 1
 rise_is s x y r lt e f = f ∙ rw e (sym (rising_one s x lt))
 
 pub returns-else-self-level-clause-value : goal.returns-else-self-level-clause-value

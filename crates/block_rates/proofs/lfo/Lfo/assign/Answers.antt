@@ -1,15 +1,16 @@
 use Rattle.std.proofs.Common.{ℕ, ◌≤◌, ap, sym, ◌∙◌, ◌==◌}
 use Rattle.voice_record.specs.Voice.{greatest_value}
+use Rattle.voice_record.specs.declared.parameter.TheConstants.{LFO_SPEED, LFO_DELAY}
 use Rattle.block_rates.specs.Waves.{wave_of}
 use Rattle.block_rates.specs.Lfos.{lfo_settings, assigned}
 use Rattle.block_rates.proofs.LfoSteps.{phase_small, phase_begins, random_begins, delay_begins}
 use Rattle.block_rates.proofs.lfo.Lfo.assign.Goals as goal
 
-speed_within : (n : ℕ) → n ≤ greatest_value 137 → n ≤ 99
+speed_within : (n : ℕ) → n ≤ greatest_value LFO_SPEED → n ≤ 99
 unfolding greatest_value
 speed_within n h = h
 
-delay_within : (n : ℕ) → n ≤ greatest_value 138 → n ≤ 99
+delay_within : (n : ℕ) → n ≤ greatest_value LFO_DELAY → n ≤ 99
 unfolding greatest_value
 delay_within n h = h
 

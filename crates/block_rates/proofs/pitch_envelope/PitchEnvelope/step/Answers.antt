@@ -1,4 +1,4 @@
-use Rattle.std.proofs.Common.{ℕ, ◌≡◌, Option, w32, SFits, pos, neg_ℤ, ◌≤ℤ◌, ℤ, lit<}
+use Rattle.std.proofs.Common.{ℕ, ◌^◌, ◌≡◌, Option, w32, SFits, pos, neg_ℤ, ◌≤ℤ◌, ℤ, lit<}
 use Rattle.dx_tables.proofs.Ranges.{fits_from_Within}
 use Rattle.std.specs.Prelude.{slice_index}
 use Rattle.std.proofs.lemmas.Int.{to_z-of_z}
@@ -9,8 +9,8 @@ use Rattle.block_rates.proofs.StageTurns.{value_is}
 use Rattle.block_rates.proofs.PitchSteps.{pitch_runs}
 use Rattle.block_rates.proofs.pitch_envelope.PitchEnvelope.step.Goals as goal
 
-fits : (z : ℤ) → neg_ℤ (pos 67108864) ≤ℤ z → z ≤ℤ pos 67108864 → SFits w32 z
-fits z low high = fits_from_Within w32 67108864 z (record { low = low; high = high }) (lit< tt)
+fits : (z : ℤ) → neg_ℤ (pos (2 ^ 26)) ≤ℤ z → z ≤ℤ pos (2 ^ 26) → SFits w32 z
+fits z low high = fits_from_Within w32 (2 ^ 26) z (record { low = low; high = high }) (lit< tt)
 
 pub returns-clause-stands : goal.returns-clause-stands
 returns-clause-stands c =

@@ -19,15 +19,18 @@ loop-slot-preserved c =
 
 pub invariant_of-result : goal.invariant_of-result
 invariant_of-result c =
-    let all = all_one c.loop-slot.packed.items c.pack-voice.result opening_voice c.loop-slot.invariant.size (rw (c.init.ensures.value) at c.pack-voice.ensures.packed) (λ k l. c.loop-slot.invariant.filled k (omega arith)) in
+    let all = all_one c.loop-slot.packed.items c.pack-voice.result opening_voice c.loop-slot.invariant.size
+        (rw (c.init.ensures.value) at c.pack-voice.ensures.packed) (λ k l. c.loop-slot.invariant.filled k (omega arith)) in
     packs_own _ _ all
 
 pub returns-clause-voices : goal.returns-clause-voices
 returns-clause-voices c =
-    let all = all_one c.loop-slot.packed.items c.pack-voice.result opening_voice c.loop-slot.invariant.size (rw (c.init.ensures.value) at c.pack-voice.ensures.packed) (λ k l. c.loop-slot.invariant.filled k (omega arith)) in
+    let all = all_one c.loop-slot.packed.items c.pack-voice.result opening_voice c.loop-slot.invariant.size
+        (rw (c.init.ensures.value) at c.pack-voice.ensures.packed) (λ k l. c.loop-slot.invariant.filled k (omega arith)) in
     voices_are _ _ all
 
 pub returns-clause-cartridge : goal.returns-clause-cartridge
 returns-clause-cartridge c =
-    let all = all_one c.loop-slot.packed.items c.pack-voice.result opening_voice c.loop-slot.invariant.size (rw (c.init.ensures.value) at c.pack-voice.ensures.packed) (λ k l. c.loop-slot.invariant.filled k (omega arith)) in
+    let all = all_one c.loop-slot.packed.items c.pack-voice.result opening_voice c.loop-slot.invariant.size
+        (rw (c.init.ensures.value) at c.pack-voice.ensures.packed) (λ k l. c.loop-slot.invariant.filled k (omega arith)) in
     subst IsCartridge (sym (voices_are _ _ all)) (is_cartridge _ _ all)

@@ -18,18 +18,21 @@ after old read new bytes slot p same l packed size own others =
 
 pub invariant_of-self : goal.invariant_of-self
 invariant_of-self c =
-    let all = after c.self.inside.packed.items c.deref_mut.result.now c.write.new.packed c.args.bytes.now c.args.slot c.self.invariant c.deref_mut.ensures.value c.requires.slot c.requires.packed (omega arith) c.write.ensures.own c.write.ensures.others in
+    let all = after c.self.inside.packed.items c.deref_mut.result.now c.write.new.packed c.args.bytes.now c.args.slot c.self.invariant c.deref_mut.ensures.value
+        c.requires.slot c.requires.packed (omega arith) c.write.ensures.own c.write.ensures.others in
     let whole = with_items_is c.self.inside.packed c.write.new.packed (omega arith) in
     rw whole (packs_own _ _ all)
 
 pub returns-clause-voices : goal.returns-clause-voices
 returns-clause-voices c =
-    let all = after c.self.inside.packed.items c.deref_mut.result.now c.write.new.packed c.args.bytes.now c.args.slot c.self.invariant c.deref_mut.ensures.value c.requires.slot c.requires.packed (omega arith) c.write.ensures.own c.write.ensures.others in
+    let all = after c.self.inside.packed.items c.deref_mut.result.now c.write.new.packed c.args.bytes.now c.args.slot c.self.invariant c.deref_mut.ensures.value
+        c.requires.slot c.requires.packed (omega arith) c.write.ensures.own c.write.ensures.others in
     let whole = with_items_is c.self.inside.packed c.write.new.packed (omega arith) in
     ap voices_of whole ∙ (voices_are _ _ all ∙ ap (λ vs. set vs c.args.slot (unpacked c.args.bytes.now)) c.self.view_is)
 
 pub returns-clause-cartridge : goal.returns-clause-cartridge
 returns-clause-cartridge c =
-    let all = after c.self.inside.packed.items c.deref_mut.result.now c.write.new.packed c.args.bytes.now c.args.slot c.self.invariant c.deref_mut.ensures.value c.requires.slot c.requires.packed (omega arith) c.write.ensures.own c.write.ensures.others in
+    let all = after c.self.inside.packed.items c.deref_mut.result.now c.write.new.packed c.args.bytes.now c.args.slot c.self.invariant c.deref_mut.ensures.value
+        c.requires.slot c.requires.packed (omega arith) c.write.ensures.own c.write.ensures.others in
     let whole = with_items_is c.self.inside.packed c.write.new.packed (omega arith) in
     subst IsCartridge (sym (ap voices_of whole ∙ voices_are _ _ all)) (is_cartridge _ _ all)

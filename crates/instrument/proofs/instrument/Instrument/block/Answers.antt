@@ -1,4 +1,5 @@
-use Rattle.std.proofs.Common.{◌∙◌, ◌≢◌, ◌<◌, length, pos, get_or, ap, subst, SFits, w16, w64, below_more, length-set, get_or-set_other, get_or-set_same, arith, rules}
+use Rattle.std.proofs.Common.{◌∙◌, ◌≢◌, ◌<◌, length, pos, get_or, ap, subst, SFits, w16, w64, below_more, length-set, get_or-set_other, get_or-set_same, arith}
+use Rattle.std.proofs.Common.{rules}
 use Rattle.std.proofs.lemmas.Int.{to_z-of_z}
 use Rattle.std.proofs.lemmas.List.FromFn.{fill_by_all}
 use Rattle.instrument.specs.Running.{AreSlots}
@@ -28,7 +29,8 @@ returns-clause-samples c = λ s h.
     let stepped = c.next_modulation-modulation.ensures.stepped s h in
     let moved = c.next_modulation-modulation.ensures.value s h in
     fill_by_all _ c.loop-j.out 64 (pos 0) v.len (λ k lt.
-    v.done k (omega arith) ∙ ap output_of (sum_is _ _ _ c.empty_mix-mix.ensures (c.sound_all.ensures.samples s.slots stepped.slots) k lt ∙ ap (λ m. mix_of m s.slots 16 k) moved))
+    v.done k (omega arith) ∙ ap output_of (sum_is _ _ _ c.empty_mix-mix.ensures (c.sound_all.ensures.samples s.slots stepped.slots) k lt
+    ∙ ap (λ m. mix_of m s.slots 16 k) moved))
 
 pub returns-clause-passed : goal.returns-clause-passed
 unfolding passed
@@ -43,5 +45,6 @@ returns-clause-passed c = λ s h.
       pedal = t.pedal;
       next = t.next;
       lfo = t.lfo;
-      slots = subst (λ m. AreSlots c.sound_all.new.slots (λ i. slot_later m (s.slots i))) (c.next_modulation-modulation.ensures.value s h) (c.sound_all.ensures.passed s.slots t.slots);
+      slots = subst (λ m. AreSlots c.sound_all.new.slots (λ i. slot_later m (s.slots i))) (c.next_modulation-modulation.ensures.value s h)
+          (c.sound_all.ensures.passed s.slots t.slots);
     }

@@ -7,4 +7,15 @@ returns-in-1 c = λ s h. rw c.in-1.is
 
 pub returns-in-123 : goal.returns-in-123
 returns-in-123 c = λ s h. rw c.in-123.is
-    (record { bank = h.bank; voice = h.voice; switch = h.switch; bend = h.bend; wheel = h.wheel; pedal = h.pedal; next = h.next; lfo = h.lfo; slots = c.silence_all.ensures s.slots h.slots })
+    (record {
+      bank = h.bank;
+      voice = h.voice;
+      switch = h.switch;
+      bend = h.bend;
+      wheel = h.wheel;
+      pedal = h.pedal;
+      next = h.next;
+      lfo = h.lfo;
+      slots =
+          c.all_notes_off.ensures s.slots h.slots;
+    })

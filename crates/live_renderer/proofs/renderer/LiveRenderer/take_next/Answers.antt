@@ -16,7 +16,8 @@ invariant_of-self-then-is_taken g c =
     let script : x.0.script < length w.taker.line.quotas = rw (ap (λ (v : RendererView). length v.taker.line.quotas) c.self.view_is, c.requires) x.4 in (
       live_took v _ _ _ x.0 c.self.invariant.0 x.1 log script x.5,
       in_logged w.instrument _ (journal_data w.journal.items) _ w.blocks x.0 c.self.invariant.1 log x.6,
-      omega (arith, x.3, c.self.invariant.2, c.in_ok-reserve.ensures.len, c.in_ok-reserve.ensures.ok, c.in_ok-reserve.ensures.capacity, c.saturating_sub-self-inside.ensures, c.log_next-is_taken.ensures.capacity),
+      omega (arith, x.3, c.self.invariant.2, c.in_ok-reserve.ensures.len, c.in_ok-reserve.ensures.ok, c.in_ok-reserve.ensures.capacity,
+          c.saturating_sub-self-inside.ensures, c.log_next-is_taken.ensures.capacity),
     )
 
 pub returns-then-is_taken-clause-kept : goal.returns-then-is_taken-clause-kept

@@ -1,7 +1,7 @@
 use Rattle.std.proofs.Common.{◌∙◌}
 use Rattle.midi_stream.specs.Segments.{clean, segments}
 use Rattle.midi_stream.specs.Messages.{is_unfinished}
-use Rattle.midi_stream.specs.Reading.{Reads}
+use Rattle.midi_stream.specs.FedStream.{Reads}
 use Rattle.midi_stream.proofs.Rests.{rests_is}
 use Rattle.midi_stream.proofs.reader.MidiReader.at_rest.Goals as goal
 

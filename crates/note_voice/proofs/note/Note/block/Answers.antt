@@ -25,4 +25,5 @@ returns-in-Some-clause-passed c =
     let begun = simp to_z-of_z at c.begin_block-block.ensures.begun in
     λ n r.
     let h = rw c.in-Some.is at r in
-    c.end_block.ensures (after_block n m) (begun n h) (state_after_block n m _ c.sound_alone.new.block.feedback_state (made n h) c.sound_alone.ensures.feedback_state)
+    c.end_block.ensures (after_block n m) (begun n h) (state_after_block n m _ c.sound_alone.new.block.feedback_state (made n h)
+    c.sound_alone.ensures.feedback_state)

@@ -16,7 +16,8 @@ returns-clause-block c =
     let e = simp to_z-of_z at c.moved-self.ensures in
     let d = simp to_z-of_z at c.attenuation_of-attenuation.ensures.value in
     λ n m shift operator r s l y. simp to_z-of_z (operator_is _ _ _ _ _ _ _ _ operator n m r (increment_is _ _ _ _ _ _ _ operator n m r s)
-    (gain_is n m operator _ _ _ e (c.step-level.ensures.value (envelope_settings n operator) (length n.past) n.off r.envelope_is) (attenuation_is _ _ _ operator n m _ r.weight_is l y d)))
+    (gain_is n m operator _ _ _ e (c.step-level.ensures.value (envelope_settings n operator) (length n.past) n.off r.envelope_is)
+    (attenuation_is _ _ _ operator n m _ r.amp_mod_depth_is l y d)))
 
 pub returns-clause-passed : goal.returns-clause-passed
 returns-clause-passed c =
@@ -28,6 +29,8 @@ returns-clause-passed c =
     let fl : SFits w32 c.step-level.result = record { sfits = c.step-level.type_inv } in
     let e = simp to_z-of_z at c.moved-self.ensures in
     let d = simp to_z-of_z at c.attenuation_of-attenuation.ensures.value in
-    λ n m shift operator r s l y. running_after_block _ _ _ _ _ _ _ _ _ _ operator n m r (increment_is _ _ _ _ _ _ _ operator n m r s) (simp to_z-of_z (phase_bits _ _ fp fs))
-    (simp to_z-of_z (gain_is n m operator _ _ _ e (c.step-level.ensures.value (envelope_settings n operator) (length n.past) n.off r.envelope_is) (attenuation_is _ _ _ operator n m _ r.weight_is l y d)))
+    λ n m shift operator r s l y. running_after_block _ _ _ _ _ _ _ _ _ _ operator n m r (increment_is _ _ _ _ _ _ _ operator n m r s)
+    (simp to_z-of_z (phase_bits _ _ fp fs))
+    (simp to_z-of_z (gain_is n m operator _ _ _ e (c.step-level.ensures.value (envelope_settings n operator) (length n.past) n.off r.envelope_is)
+    (attenuation_is _ _ _ operator n m _ r.amp_mod_depth_is l y d)))
     (c.step-level.ensures.stands (envelope_settings n operator) (length n.past) n.off r.envelope_is)

@@ -8,11 +8,11 @@ returns c = λ n r. record {
   set = record {
     algorithm_is = r.set.algorithm_is;
     feedback_is = r.set.feedback_is;
-    depth_is = r.set.depth_is;
-    sensitivity_is = r.set.sensitivity_is;
+    pitch_mod_depth_is = r.set.pitch_mod_depth_is;
+    pitch_mod_sensitivity_is = r.set.pitch_mod_sensitivity_is;
     switch_is = r.set.switch_is;
     operators_are = c.release_all.ensures n _ r.set.operators_are;
-    pitch_is = c.release.ensures (pitch_settings n.voice) (length n.past) n.off r.set.pitch_is;
+    pitch_envelope_is = c.release.ensures (pitch_settings n.voice) (length n.past) n.off r.set.pitch_envelope_is;
   };
   feedback_state_is = state_released n c.args.self.now.feedback_state r.feedback_state_is;
 }

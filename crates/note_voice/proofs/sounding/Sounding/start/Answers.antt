@@ -10,11 +10,11 @@ returns c =
       set = record {
         algorithm_is = c.algorithm.ensures.value;
         feedback_is = c.feedback.ensures.value;
-        depth_is = c.pitch_depth.ensures.value;
-        sensitivity_is = c.pitch_sensitivity.ensures.value;
+        pitch_mod_depth_is = c.pitch_depth.ensures.value;
+        pitch_mod_sensitivity_is = c.pitch_sensitivity.ensures.value;
         switch_is = refl;
         operators_are = c.start_all.ensures c.args.switch c.args.key (simp to_z-of_z c.played_note-note.ensures.value);
-        pitch_is = pitch_begun _ _ _ _ c.pitch_rates.ensures.value c.pitch_levels.ensures.value c.new.ensures;
+        pitch_envelope_is = pitch_begun _ _ _ _ c.pitch_rates.ensures.value c.pitch_levels.ensures.value c.new.ensures;
       };
       feedback_state_is = state_at_start _;
     }

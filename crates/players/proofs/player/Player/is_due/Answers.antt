@@ -8,5 +8,6 @@ use Rattle.players.proofs.player.Player.is_due.Goals as goal
 pub returns-in-Some : goal.returns-in-Some
 returns-in-Some c =
     let w = c.self.inside in
-    subst (λ (v : PlayerView). MatchBool (leb c.in-Some.due c.args.turn) (FirstBelow (c.args.turn + 1) (due_blocks v.left)) (AllFrom (c.args.turn + 1) (due_blocks v.left))) c.self.view_is
+    subst (λ (v : PlayerView). MatchBool (leb c.in-Some.due c.args.turn) (FirstBelow (c.args.turn + 1) (due_blocks v.left))
+        (AllFrom (c.args.turn + 1) (due_blocks v.left))) c.self.view_is
     (due_first (left_of w.refused w.script) c.in-Some.due c.args.turn (c.next_due.ensures.plan c.self.invariant) c.in-Some.ensures.due _ refl)

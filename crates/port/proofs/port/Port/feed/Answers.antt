@@ -24,7 +24,8 @@ loop-byte-preserved g c =
       c.use_byte.ensures.curve ∙ before.0,
       reached_more _ _ _ _ _ _ _ _ _ c.args.bytes.now c.loop-byte.byte-index _ _ _ _ _ c.use_byte.result c.and-fed.result before.2.stop before.1
           (take_more c.args.bytes.now c.loop-byte.byte-index 0 inside) c.use_byte.ensures.one c.use_byte.ensures.received c.and-fed.ensures,
-      goes_on _ _ (let P : PortStop → Type 0 = λ s. KeepsAt s c.use_byte.new.self.kept in subst P (sym (ap (λ (f : Fed). f.stop) c.and-fed.ensures)) c.use_byte.ensures.keeps) all,
+      goes_on _ _ (let P : PortStop → Type 0 = λ s. KeepsAt s c.use_byte.new.self.kept in
+          subst P (sym (ap (λ (f : Fed). f.stop) c.and-fed.ensures)) c.use_byte.ensures.keeps) all,
       sends_more _ _ _ before.3 c.use_byte.ensures.ranges,
     )
 

@@ -16,4 +16,5 @@ pub returns-clause-sound : goal.returns-clause-sound
 returns-clause-sound c =
     let w = c.self.inside in
     let v : Core = core_of w.places w.waiting.items w.journal.items w.blocks w.marks.items in
-    c.block.ensures.samples (state_at v.journal v.blocks) c.self.invariant.1.playing ∙ sound_is v.journal v.blocks ∙ ap (λ (d : Core). sound d.journal d.blocks) c.self.view_is
+    c.block.ensures.samples (state_at v.journal v.blocks) c.self.invariant.1.playing ∙ sound_is v.journal v.blocks
+    ∙ ap (λ (d : Core). sound d.journal d.blocks) c.self.view_is

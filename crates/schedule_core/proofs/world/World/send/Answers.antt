@@ -3,7 +3,7 @@ use Rattle.std.specs.Prelude.{Ok, Err}
 use Rattle.std.proofs.lemmas.List.Elements.{All-push}
 use Rattle.command_set.specs.declared.entry.Entry.{Entry}
 use Rattle.command_set.specs.Command.{IsInRange, content}
-use Rattle.schedule_core.specs.declared.refusal.WorldRefusal.TheVariants.{Full}
+use Rattle.schedule_core.specs.declared.world_refusal.WorldRefusal.TheVariants.{Full}
 use Rattle.schedule_core.specs.Core.{Core, Send, step}
 use Rattle.schedule_core.specs.Fields.{core_of}
 use Rattle.schedule_core.specs.World.{HasSent}
@@ -15,8 +15,16 @@ invariant_of-self c =
     let w = c.self.inside in
     let v : Core = core_of w.places w.waiting.items w.journal.items w.blocks w.marks.items in
     let full : length w.waiting.items ≡ w.places = omega (arith, w.waiting.ok, c.len.ensures, c.if-len-self.true) in
-    let below : c.args.script < length w.marks.items = omega (arith, w.marks.ok, c.requires.script, c.self.invariant.1.ends, ap (λ (d : Core). length d.scripts) c.self.view_is) in
-    let t = turned_away w.places w.waiting.items _ _ w.marks.items _ v c.args.script c.args.sent_at c.args.command c.index-mark.result.now c.self.invariant.1 full below c.index-mark.ensures in
+    let below : c.args.script < length w.marks.items = omega (
+      arith,
+      w.marks.ok,
+      c.requires.script,
+      c.self.invariant.1.ends,
+      ap (λ (d : Core).
+          length d.scripts) c.self.view_is,
+    ) in
+    let t = turned_away w.places w.waiting.items _ _ w.marks.items _ v c.args.script c.args.sent_at c.args.command c.index-mark.result.now c.self.invariant.1
+    full below c.index-mark.ensures in
     (c.self.invariant.0, rw c.refuse.ensures (stands_for _ _ _ _ _ _ _ t.1), c.self.invariant.2)
 
 pub returns-then-len-self-clause-sent : goal.returns-then-len-self-clause-sent
@@ -24,11 +32,21 @@ returns-then-len-self-clause-sent c =
     let w = c.self.inside in
     let v : Core = core_of w.places w.waiting.items w.journal.items w.blocks w.marks.items in
     let full : length w.waiting.items ≡ w.places = omega (arith, w.waiting.ok, c.len.ensures, c.if-len-self.true) in
-    let below : c.args.script < length w.marks.items = omega (arith, w.marks.ok, c.requires.script, c.self.invariant.1.ends, ap (λ (d : Core). length d.scripts) c.self.view_is) in
-    let t = turned_away w.places w.waiting.items _ _ w.marks.items _ v c.args.script c.args.sent_at c.args.command c.index-mark.result.now c.self.invariant.1 full below c.index-mark.ensures in
-    let now : core_of w.places w.waiting.items w.journal.items w.blocks (set w.marks.items c.args.script c.refuse.result) ≡ step v (Send c.args.script c.args.sent_at (content c.args.command)) =
+    let below : c.args.script < length w.marks.items = omega (
+      arith,
+      w.marks.ok,
+      c.requires.script,
+      c.self.invariant.1.ends,
+      ap (λ (d : Core).
+          length d.scripts) c.self.view_is,
+    ) in
+    let t = turned_away w.places w.waiting.items _ _ w.marks.items _ v c.args.script c.args.sent_at c.args.command c.index-mark.result.now c.self.invariant.1
+    full below c.index-mark.ensures in
+    let now : core_of w.places w.waiting.items w.journal.items w.blocks (set w.marks.items c.args.script c.refuse.result) ≡ step v
+    (Send c.args.script c.args.sent_at (content c.args.command)) =
     rw c.refuse.ensures (determined _ _ _ _ _ _ _ t.1) in
-    subst (λ (d : Core). HasSent d c.args.script c.args.sent_at c.args.command (Err (Full c.args.command)) (core_of w.places w.waiting.items w.journal.items w.blocks (set w.marks.items c.args.script c.refuse.result)))
+    subst (λ (d : Core). HasSent d c.args.script c.args.sent_at c.args.command (Err (Full c.args.command))
+    (core_of w.places w.waiting.items w.journal.items w.blocks (set w.marks.items c.args.script c.refuse.result)))
     c.self.view_is (t.0, refl, now)
 
 pub returns-then-len-self-clause-legal : goal.returns-then-len-self-clause-legal
@@ -38,9 +56,24 @@ pub invariant_of-self-in-Ok : goal.invariant_of-self-in-Ok
 invariant_of-self-in-Ok c =
     let w = c.self.inside in
     let v : Core = core_of w.places w.waiting.items w.journal.items w.blocks w.marks.items in
-    let room : length w.waiting.items < w.places = omega (arith, w.waiting.ok, c.self.invariant.1.legal.queued.room, how_many c.self.invariant.1, c.len.ensures, c.if-len-self.false) in
-    let below : c.args.script < length w.marks.items = omega (arith, w.marks.ok, c.requires.script, c.self.invariant.1.ends, ap (λ (d : Core). length d.scripts) c.self.view_is) in
-    let a = accepted w.places w.waiting.items _ _ w.marks.items _ v c.args.script c.args.sent_at c.args.command c.index-mark.result.now c.self.invariant.1 room below c.index-mark.ensures in
+    let room : length w.waiting.items < w.places = omega (
+      arith,
+      w.waiting.ok,
+      c.self.invariant.1.legal.queued.room,
+      how_many c.self.invariant.1,
+      c.len.ensures,
+      c.if-len-self.false,
+    ) in
+    let below : c.args.script < length w.marks.items = omega (
+      arith,
+      w.marks.ok,
+      c.requires.script,
+      c.self.invariant.1.ends,
+      ap (λ (d : Core).
+          length d.scripts) c.self.view_is,
+    ) in
+    let a = accepted w.places w.waiting.items _ _ w.marks.items _ v c.args.script c.args.sent_at c.args.command c.index-mark.result.now c.self.invariant.1 room
+    below c.index-mark.ensures in
     rw (c.in-Ok.ensures.items, c.accept.ensures) (
       c.self.invariant.0,
       stands_for _ _ _ _ _ _ _ a.2,
@@ -51,12 +84,29 @@ pub returns-in-Ok-clause-sent : goal.returns-in-Ok-clause-sent
 returns-in-Ok-clause-sent c =
     let w = c.self.inside in
     let v : Core = core_of w.places w.waiting.items w.journal.items w.blocks w.marks.items in
-    let room : length w.waiting.items < w.places = omega (arith, w.waiting.ok, c.self.invariant.1.legal.queued.room, how_many c.self.invariant.1, c.len.ensures, c.if-len-self.false) in
-    let below : c.args.script < length w.marks.items = omega (arith, w.marks.ok, c.requires.script, c.self.invariant.1.ends, ap (λ (d : Core). length d.scripts) c.self.view_is) in
-    let a = accepted w.places w.waiting.items _ _ w.marks.items _ v c.args.script c.args.sent_at c.args.command c.index-mark.result.now c.self.invariant.1 room below c.index-mark.ensures in
-    let now : core_of w.places c.push_back.new.self.items w.journal.items w.blocks (set w.marks.items c.args.script c.accept.result) ≡ step v (Send c.args.script c.args.sent_at (content c.args.command)) =
+    let room : length w.waiting.items < w.places = omega (
+      arith,
+      w.waiting.ok,
+      c.self.invariant.1.legal.queued.room,
+      how_many c.self.invariant.1,
+      c.len.ensures,
+      c.if-len-self.false,
+    ) in
+    let below : c.args.script < length w.marks.items = omega (
+      arith,
+      w.marks.ok,
+      c.requires.script,
+      c.self.invariant.1.ends,
+      ap (λ (d : Core).
+          length d.scripts) c.self.view_is,
+    ) in
+    let a = accepted w.places w.waiting.items _ _ w.marks.items _ v c.args.script c.args.sent_at c.args.command c.index-mark.result.now c.self.invariant.1 room
+    below c.index-mark.ensures in
+    let now : core_of w.places c.push_back.new.self.items w.journal.items w.blocks (set w.marks.items c.args.script c.accept.result) ≡ step v
+    (Send c.args.script c.args.sent_at (content c.args.command)) =
     rw (c.in-Ok.ensures.items, c.accept.ensures) (determined _ _ _ _ _ _ _ a.2) in
-    subst (λ (d : Core). HasSent d c.args.script c.args.sent_at c.args.command (Ok c.index-mark.result.now.accepted) (core_of w.places c.push_back.new.self.items w.journal.items w.blocks (set w.marks.items c.args.script c.accept.result)))
+    subst (λ (d : Core). HasSent d c.args.script c.args.sent_at c.args.command (Ok c.index-mark.result.now.accepted)
+    (core_of w.places c.push_back.new.self.items w.journal.items w.blocks (set w.marks.items c.args.script c.accept.result)))
     c.self.view_is (a.0, a.1, now)
 
 pub returns-in-Ok-clause-legal : goal.returns-in-Ok-clause-legal

@@ -11,7 +11,8 @@ invariant_of-self-in-Some c =
     rw (c.push_reserved.ensures.items, c.in_ok-reserve.ensures.items) (
       c.self.invariant.0,
       stands_for _ _ _ _ _ _ _ (takes _ _ _ _ _ _ _ c.apply.new.self _ c.in-Some.entry c.in-Some.ensures.items c.self.invariant.1 c.apply.ensures),
-      All-tail (λ (e : Entry). IsInRange (content e.command)) c.in-Some.entry _ (subst (All (λ (e : Entry). IsInRange (content e.command))) c.in-Some.ensures.items c.self.invariant.2),
+      All-tail (λ (e : Entry). IsInRange (content e.command)) c.in-Some.entry _
+          (subst (All (λ (e : Entry). IsInRange (content e.command))) c.in-Some.ensures.items c.self.invariant.2),
     )
 
 pub returns-in-Some-clause-legal : goal.returns-in-Some-clause-legal

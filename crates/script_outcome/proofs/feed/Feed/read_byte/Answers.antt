@@ -1,6 +1,6 @@
 use Rattle.std.proofs.Common.{ap, sym, subst, ◌∙◌, ◌++◌, append-nil, List}
 use Rattle.script_outcome.specs.Outcomes.{Outcome}
-use Rattle.script_outcome.specs.Reading.{Stops, all_given}
+use Rattle.script_outcome.specs.ReaderAnswer.{Stops, all_given}
 use Rattle.script_outcome.proofs.Plans.{on_ok_more, if_err_more}
 use Rattle.script_outcome.proofs.EndedMessages.{none_ended, message_is_ended}
 use Rattle.velocity_map.specs.Map.{curve_of}

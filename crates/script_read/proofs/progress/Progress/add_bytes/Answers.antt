@@ -5,7 +5,7 @@ use Rattle.script_outcome.specs.declared.fault.ScriptFault.{ScriptFault}
 use Rattle.script_outcome.specs.Outcomes.{Outcome, fed_outcomes}
 use Rattle.script_read.specs.Outcomes.{outcomes_after, line_after, stream_of}
 use Rattle.script_read.specs.Lines.{Feeds}
-use Rattle.script_outcome.specs.Reading.{Stops, all_given}
+use Rattle.script_outcome.specs.ReaderAnswer.{Stops, all_given}
 use Rattle.script_read.proofs.LineOutcomes.{after_more, stops_line, stops_in_line, feed_outcomes, timed_some, timed_none}
 use Rattle.script_read.proofs.progress.Progress.add_bytes.Goals as goal
 

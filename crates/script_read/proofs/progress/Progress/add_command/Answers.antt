@@ -6,7 +6,7 @@ use Rattle.script_outcome.specs.declared.fault.ScriptFault.{ScriptFault}
 use Rattle.script_outcome.specs.Outcomes.{Outcome, Gives}
 use Rattle.script_read.specs.Outcomes.{curved, outcomes_after, line_after}
 use Rattle.script_read.specs.Lines.{Orders}
-use Rattle.script_outcome.specs.Reading.{Stops, all_given}
+use Rattle.script_outcome.specs.ReaderAnswer.{Stops, all_given}
 use Rattle.script_read.proofs.LineOutcomes.{after_more, stops_line, stops_in_line, order_outcomes, timed_some, timed_none}
 use Rattle.script_read.proofs.progress.Progress.add_command.Goals as goal
 

@@ -1,7 +1,7 @@
 use Rattle.std.proofs.Common.{◌++◌, List, refl, ap, sym, ◌∙◌, append-nil}
 use Rattle.script_outcome.specs.Outcomes.{Outcome}
 use Rattle.script_read.specs.Lines.{Blank}
-use Rattle.script_outcome.specs.Reading.{all_given}
+use Rattle.script_outcome.specs.ReaderAnswer.{all_given}
 use Rattle.script_read.proofs.LineOutcomes.{after_more, blank_outcomes}
 use Rattle.script_read.proofs.progress.Progress.pass_over.Goals as goal
 

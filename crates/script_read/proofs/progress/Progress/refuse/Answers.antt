@@ -3,7 +3,7 @@ use Rattle.script_outcome.specs.declared.fault.ScriptFault.{ScriptFault}
 use Rattle.script_outcome.specs.declared.fault.ScriptKind.TheVariants as kind
 use Rattle.script_read.specs.Lines.{Wrong}
 use Rattle.script_read.specs.Outcomes.{outcomes_after}
-use Rattle.script_outcome.specs.Reading.{Stops}
+use Rattle.script_outcome.specs.ReaderAnswer.{Stops}
 use Rattle.script_read.proofs.LineOutcomes.{stops_line, wrong_outcomes}
 use Rattle.script_read.proofs.progress.Progress.refuse.Goals as goal
 

@@ -2,7 +2,7 @@ use Rattle.std.proofs.Common.{List, ◌≡◌, ◌≤◌, ◌+◌, ◌++◌, [],
 use Rattle.std.proofs.Math.ListN.{set}
 use Rattle.command_set.specs.Entries.{LoggedData, journal_data, logged_data}
 use Rattle.take_files.specs.Orders.{IsOrdered}
-use Rattle.take_files.specs.Reading.{IsTally}
+use Rattle.take_files.specs.OrderSoFar.{IsTally}
 use Rattle.take_files.proofs.Growing.{counted_few, journal_more, ordered_more, tally_read}
 use Rattle.take_files.proofs.listing.Listing.push.Goals as goal
 
@@ -10,7 +10,8 @@ pub overflow_add-index_mut : goal.overflow_add-index_mut
 overflow_add-index_mut c =
     let s = c.args.self.now in
     let few : c.index_mut.result.now ≤ length (journal_data s.entries.items) =
-    counted_few (journal_data s.entries.items) s.scripts s.last c.args.logged.entry.script c.index_mut.result.now s.counts.items c.requires.listing.tally c.requires.follows.script
+    counted_few (journal_data s.entries.items) s.scripts s.last c.args.logged.entry.script c.index_mut.result.now s.counts.items c.requires.listing.tally
+        c.requires.follows.script
     c.index_mut.ensures.value in
     omega (arith, c.requires.room)
 

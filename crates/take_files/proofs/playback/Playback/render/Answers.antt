@@ -28,10 +28,12 @@ returns-clause-samples c =
     let journal : List LoggedData = journal_data c.self.inside.journal.now in
     let waiting : List Logged = drop c.self.inside.next c.self.inside.journal.now in
     let count : c.count_at-count.result ≡ count_at b waiting =
-    count_is b c.count_at-count.result waiting (c.count_at-count.ensures.count ∙ ap (λ (l : List Logged). length (take_while (is_at b) l)) c.split_at.ensures.back) in
+    count_is b c.count_at-count.result waiting (c.count_at-count.ensures.count
+        ∙ ap (λ (l : List Logged). length (take_while (is_at b) l)) c.split_at.ensures.back) in
     let here : IsIn c.apply_all.new.instrument (state_at journal b) =
     subst (λ (s : State). IsIn c.apply_all.new.instrument s)
-    (ap (λ (l : List Logged). applied (state_before journal b) (map command_in l)) (c.split_at-2.ensures.front ∙ ap (take c.count_at-count.result) c.split_at.ensures.back)
+    (ap (λ (l : List Logged). applied (state_before journal b) (map command_in l)) (c.split_at-2.ensures.front
+        ∙ ap (take c.count_at-count.result) c.split_at.ensures.back)
     ∙ plays journal waiting b c.count_at-count.result count h.ordered h.rest)
     (c.apply_all.ensures (state_before journal b) h.playing) in
     c.block.ensures.samples (state_at journal b) here ∙ sounds journal b ∙ ap (λ (p : PlaybackView). sound p.journal p.block) c.self.view_is
@@ -43,10 +45,12 @@ invariant_of-self c =
     let journal : List LoggedData = journal_data c.self.inside.journal.now in
     let waiting : List Logged = drop c.self.inside.next c.self.inside.journal.now in
     let count : c.count_at-count.result ≡ count_at b waiting =
-    count_is b c.count_at-count.result waiting (c.count_at-count.ensures.count ∙ ap (λ (l : List Logged). length (take_while (is_at b) l)) c.split_at.ensures.back) in
+    count_is b c.count_at-count.result waiting (c.count_at-count.ensures.count
+        ∙ ap (λ (l : List Logged). length (take_while (is_at b) l)) c.split_at.ensures.back) in
     let here : IsIn c.apply_all.new.instrument (state_at journal b) =
     subst (λ (s : State). IsIn c.apply_all.new.instrument s)
-    (ap (λ (l : List Logged). applied (state_before journal b) (map command_in l)) (c.split_at-2.ensures.front ∙ ap (take c.count_at-count.result) c.split_at.ensures.back)
+    (ap (λ (l : List Logged). applied (state_before journal b) (map command_in l)) (c.split_at-2.ensures.front
+        ∙ ap (take c.count_at-count.result) c.split_at.ensures.back)
     ∙ plays journal waiting b c.count_at-count.result count h.ordered h.rest)
     (c.apply_all.ensures (state_before journal b) h.playing) in
     let size = ap length c.split_at.ensures.back ∙ length-drop c.self.inside.next c.self.inside.journal.now in (

@@ -1,6 +1,6 @@
 use Rattle.std.proofs.Common.{◌≡◌, ◌++◌, ◌∙◌, List, ℕ, Option, None, rules, sym, subst, ap}
 use Rattle.take_files.specs.Chunks.{HasFed, Standing}
-use Rattle.take_files.specs.Reading.{lines_read, standing}
+use Rattle.take_files.specs.OrderSoFar.{lines_read, standing}
 use Rattle.take_files.specs.declared.read.OrderFault.{OrderFault}
 use Rattle.take_files.proofs.Standings.{clean_fed, stopped_fed}
 use Rattle.take_files.proofs.reader.OrderReader.feed.Goals as goal
