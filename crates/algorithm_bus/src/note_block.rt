@@ -50,6 +50,8 @@ impl NoteBlock {
     /// Whether a carrier sounds, that is, isn't silent. Where none does all samples are 0.
     pub fn is_audible(&self) -> bool
         ensures silent { result ≡ false → (j : ℕ) → note_output (block_input self.now) j ≡ pos 0 }
+        ensures whatever_state { result ≡ false → (p : BlockInput) → p.algorithm ≡ self.now.algorithm → p.op ≡ op_of self.now.ops
+            → (j : ℕ) → note_output p j ≡ pos 0 }
         ensures sounding { result ≡ true → HasSoundingCarrier self.now }
     {
         has_audible_carrier(self.algorithm, &self.ops)
