@@ -11,7 +11,7 @@ use Rattle.note_voice.specs.Note.{NoteData, after_block, feedback_state_before}
 use Rattle.note_voice.specs.Running.{IsNote, IsNoteBegun}
 use Rattle.note_voice.proofs.Blocks.{state_after_block, sample_is}
 use Rattle.dx_tables.proofs.Loops.{set_more, set_rest}
-use Rattle.instrument.specs.Groups.{AreOutputs, sum_to}
+use Rattle.instrument.specs.Blocks.{AreOutputs, sum_to}
 use Rattle.instrument.specs.declared.slot.Slot.{Slot}
 use Rattle.instrument.specs.State.{SlotData, mix_of, slot_later, slot_sample}
 use Rattle.instrument.specs.declared.slot.Key.TheVariants.{Up}

@@ -4,5 +4,4 @@ pub mod Rounds
 pub mod States
 pub mod Journals
 pub mod Following
-pub mod Marks
 pub mod Begun

@@ -5,6 +5,7 @@ use Rattle.note_voice.specs.Modulation.{Modulation}
 use Rattle.note_voice.specs.Mix.{IsAdded, IsSmall}
 use Rattle.note_voice.proofs.Sums.{IsAdded-same}
 use Rattle.instrument.specs.Mix.{AreZeros}
+use Rattle.instrument.specs.Blocks.{sum_to}
 use Rattle.instrument.specs.State.{SlotData, mix_of, slot_sample}
 
 add_zero_z : (z : ℤ) → z ≡ z +ℤ pos 0
@@ -17,7 +18,7 @@ add_zero_left : (z : ℤ) → pos 0 +ℤ z ≡ z
 add_zero_left z = omega (arith, ints)
 
 -- one sum after the other
-IsAdded-then : (y y' : ℕ → ℤ) (a b c : List ℤ) → IsAdded y a b → IsAdded y' b c → IsAdded (λ j. y j +ℤ y' j) a c
+pub IsAdded-then : (y y' : ℕ → ℤ) (a b c : List ℤ) → IsAdded y a b → IsAdded y' b c → IsAdded (λ j. y j +ℤ y' j) a c
 IsAdded-then y y' a b c m n = record {
   len = n.len;
   sample = λ j lt. n.sample j lt ∙ ap (λ z. z +ℤ y' j) (m.sample j lt)
@@ -49,3 +50,16 @@ IsSmall-zeros xs h = λ j lt. rw (h j lt) (omega arith)
 -- what was added to the sum of no notes is the sum
 pub sum_is : (y : ℕ → ℤ) (old new : List ℤ) → AreZeros old → IsAdded y old new → (j : ℕ) → j < 64 → get_or new j (pos 0) ≡ y j
 sum_is y old new z m j lt = m.sample j lt ∙ ap (λ x. x +ℤ y j) (z j lt) ∙ add_zero_left (y j)
+
+-- the sum of no blocks, and of one more
+pub sum_none : (y : ℕ → ℕ → ℤ) (xs : List ℤ) → length xs ≡ 64 → IsAdded (sum_to y 0) xs xs
+unfolding sum_to
+sum_none y xs e = record { len = e; sample = λ j lt. add_zero_z (get_or xs j (pos 0)) }
+
+sum_more : (y : ℕ → ℕ → ℤ) (k j : ℕ) → sum_to y k j +ℤ y k j ≡ sum_to y (k + 1) j
+unfolding sum_to
+sum_more y k j = rw add-one refl
+
+pub sum_next : (y : ℕ → ℕ → ℤ) (k : ℕ) (o : ℕ → ℤ) (a b c : List ℤ) → IsAdded (sum_to y k) a b → IsAdded o b c → ((j : ℕ) → o j ≡ y k j)
+    → IsAdded (sum_to y (k + 1)) a c
+sum_next y k o a b c m n e = IsAdded-same _ _ _ _ (IsAdded-then _ _ _ _ _ m n) (λ j lt. ap (λ z. sum_to y k j +ℤ z) (e j) ∙ sum_more y k j)

@@ -1,6 +1,6 @@
 pub mod Mix
 pub mod State
-pub mod Groups
+pub mod Blocks
 pub mod Journal
 pub mod Logging
 pub mod Running

@@ -2,7 +2,7 @@
 #![tactic(auto)]
 
 mod editor_law;
-mod groups;
+mod blocks;
 mod instrument;
 mod mix;
 mod modulation;

@@ -7,11 +7,11 @@ ghost use Rattle.note_voice.specs.Note.{begun};
 ghost use Rattle.note_voice.specs.Mix.{IsAdded};
 ghost use Rattle.instrument.specs.Mix.{AreZeros};
 ghost use Rattle.instrument.specs.Running.{AreSlots, AreSlotsBegun, modulation_of};
-ghost use Rattle.instrument.specs.Groups.{AreLeft};
+ghost use Rattle.instrument.specs.Blocks.{AreLeft};
 ghost use Rattle.instrument.specs.State.{SlotData, key_up, mix_of, released_if_sounding, slot_later, pedal_up};
 ghost use Rattle.instrument.specs.declared.slot.Key.TheVariants.{Down};
 
-use crate::groups::run_all;
+use crate::blocks::run_all;
 use crate::modulation::BlockModulation;
 use crate::slot::Slot;
 use algorithm_bus::NoteBlock;

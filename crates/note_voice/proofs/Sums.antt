@@ -40,26 +40,16 @@ IsAdded-small y old new b m f s = λ j lt. rw (m.sample j lt) (Within_abs _ _
 pub IsAdded-same : (y y' : ℕ → ℤ) (old new : List ℤ) → IsAdded y old new → ((j : ℕ) → j < 64 → y j ≡ y' j) → IsAdded y' old new
 IsAdded-same y y' old new m e = record { len = m.len; sample = λ j lt. m.sample j lt ∙ ap (λ z. get_or old j (pos 0) +ℤ z) (e j lt) }
 
--- four notes after one another
-four_sums : (m0 m1 m2 m3 m4 b0 b1 b2 b3 y0 y1 y2 y3 : ℤ) → m1 ≡ m0 +ℤ b0 → m2 ≡ m1 +ℤ b1 → m3 ≡ m2 +ℤ b2 → m4 ≡ m3 +ℤ b3 → b0 ≡ y0 → b1 ≡ y1 → b2 ≡ y2 → b3 ≡ y3
-    → m4 ≡ m0 +ℤ (y0 +ℤ y1 +ℤ y2 +ℤ y3)
-four_sums m0 m1 m2 m3 m4 b0 b1 b2 b3 y0 y1 y2 y3 a b c d e f g h = omega (arith, ints)
+-- silence adds nothing
+add_zero_z : (z y : ℤ) → y ≡ pos 0 → z ≡ z +ℤ y
+add_zero_z z y e = omega (arith, ints, e)
 
-pub four_added : (y0 y1 y2 y3 : ℕ → ℤ) (b0 b1 b2 b3 m0 m1 m2 m3 m4 : List ℤ) → IsBus y0 b0 → IsBus y1 b1 → IsBus y2 b2 → IsBus y3 b3
-    → IsAdded (λ j. get_or b0 j (pos 0)) m0 m1 → IsAdded (λ j. get_or b1 j (pos 0)) m1 m2 → IsAdded (λ j. get_or b2 j (pos 0)) m2 m3
-    → IsAdded (λ j. get_or b3 j (pos 0)) m3 m4 → IsAdded (λ j. y0 j +ℤ y1 j +ℤ y2 j +ℤ y3 j) m0 m4
-four_added y0 y1 y2 y3 b0 b1 b2 b3 m0 m1 m2 m3 m4 p q r s a b c d = record {
-  len = d.len;
-  sample = λ j lt. four_sums _ _ _ _ _ _ _ _ _ _ _ _ _ (a.sample j lt) (b.sample j lt) (c.sample j lt) (d.sample j lt) (p.sample j lt) (q.sample j lt)
-      (r.sample j lt) (s.sample j lt);
-}
+pub IsAdded-silence : (y : ℕ → ℤ) (xs : List ℤ) → length xs ≡ 64 → ((j : ℕ) → y j ≡ pos 0) → IsAdded y xs xs
+IsAdded-silence y xs e h = record { len = e; sample = λ j lt. add_zero_z (get_or xs j (pos 0)) (y j) (h j) }
 
--- eight notes after one another
-sums_joined : (m0 m4 m8 a b : ℤ) → m4 ≡ m0 +ℤ a → m8 ≡ m4 +ℤ b → m8 ≡ m0 +ℤ (a +ℤ b)
-sums_joined m0 m4 m8 a b e f = omega (arith, ints)
-
-pub IsAdded-joined : (y z : ℕ → ℤ) (a b c : List ℤ) → IsAdded y a b → IsAdded z b c → IsAdded (λ j. y j +ℤ z j) a c
-IsAdded-joined y z a b c m n = record { len = n.len; sample = λ j lt. sums_joined _ _ _ _ _ (m.sample j lt) (n.sample j lt) }
+-- the samples of a bus
+pub IsAdded-bus : (y : ℕ → ℤ) (bus old new : List ℤ) → IsBus y bus → IsAdded (λ j. get_or bus j (pos 0)) old new → IsAdded y old new
+IsAdded-bus y bus old new b m = IsAdded-same _ _ _ _ m (λ j lt. b.sample j lt)
 
 -- a bound that is no less
 pub IsSmall-more : (a b : ℕ) (xs : List ℤ) → a ≤ b → IsSmall a xs → IsSmall b xs

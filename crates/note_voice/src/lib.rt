@@ -14,7 +14,7 @@ mod sounding;
 
 pub use note::Note;
 pub use opening::opening_is_plain;
-pub use sound::{sound_alone, sound_eight, sound_four};
+pub use sound::{sound_alone, sound_routed};
 
 #[cfg(test)]
 mod reference;

@@ -12,7 +12,9 @@ use Rattle.operator_kernel.specs.declared.quartet.Quartet.{Quartet}
 use Rattle.operator_kernel.specs.Operator.{silent, phase_at, gain_at, sample_at, HasGains, FeedbackState, feedback_of, feedback_state_after, feedback_sample}
 use Rattle.operator_kernel.specs.Lanes.{phase_of}
 use Rattle.operator_kernel.specs.Indices.{sine_past}
-use Rattle.operator_kernel.specs.Quartets.{Four, IsSmallState, IsLive, AreLive, AreAt, AreBounded}
+use Rattle.operator_kernel.specs.declared.FeedbackPath.{FeedbackPath}
+use Rattle.operator_kernel.specs.Paths.{path_at, path_sample, path_state}
+use Rattle.operator_kernel.specs.Quartets.{IsSmallState, IsLive, AreLive, AreAt, AreBounded}
 use Rattle.operator_kernel.proofs.Gains.{gain_fits}
 use Rattle.operator_kernel.proofs.Fours.{four_is, lanes_read}
 use Rattle.operator_kernel.proofs.LaneSteps.{sine_read, sine_bound, sine_Within, sample_lane}
@@ -63,24 +65,21 @@ pub state_next : (op : OpBlock) (f : ℕ) (m : FeedbackState) (j : ℕ) → feed
 unfolding feedback_state_after
 state_next op f m j = rw add-one
 
-pub state_small : (op : OpBlock) (f : ℕ) (m : FeedbackState) (j : ℕ) → IsLive op m → j ≤ 64 → IsSmallState (feedback_state_after op f m j)
+pub state_small : (p : FeedbackPath) (j : ℕ) → IsLive p → j ≤ 64 → IsSmallState (path_state p j)
 unfolding feedback_state_after
-state_small op f m zero v le = v.small
-state_small op f m (suc j) v le =
-    let s = state_small op f m j v (omega (arith, le)) in
-    record { before_last = s.last; last = sample_small op j _ v.gains (omega (arith, le)) }
+state_small p zero v le = v.small
+state_small p (suc j) v le =
+    let s = state_small p j v (omega (arith, le)) in
+    record { before_last = s.last; last = sample_small p.op j _ v.gains (omega (arith, le)) }
 
-pub last_read : (op : OpBlock) (f : ℕ) (m : FeedbackState) (j : ℕ) → IsLive op m → j ≤ 64
-    → to_z w32 (of_z w32 (feedback_state_after op f m j).last) ≡ (feedback_state_after op f m j).last
-last_read op f m j v le = to_z-of_z w32 _ (small_fits (2 ^ 29) _ (omega arith) (state_small op f m j v le).last)
+pub last_read : (p : FeedbackPath) (j : ℕ) → IsLive p → j ≤ 64 → to_z w32 (of_z w32 (path_state p j).last) ≡ (path_state p j).last
+last_read p j v le = to_z-of_z w32 _ (small_fits (2 ^ 29) _ (omega arith) (state_small p j v le).last)
 
-pub before_read : (op : OpBlock) (f : ℕ) (m : FeedbackState) (j : ℕ) → IsLive op m → j ≤ 64
-    → to_z w32 (of_z w32 (feedback_state_after op f m j).before_last) ≡ (feedback_state_after op f m j).before_last
-before_read op f m j v le = to_z-of_z w32 _ (small_fits (2 ^ 29) _ (omega arith) (state_small op f m j v le).before_last)
+pub before_read : (p : FeedbackPath) (j : ℕ) → IsLive p → j ≤ 64 → to_z w32 (of_z w32 (path_state p j).before_last) ≡ (path_state p j).before_last
+before_read p j v le = to_z-of_z w32 _ (small_fits (2 ^ 29) _ (omega arith) (state_small p j v le).before_last)
 
-pub sample_read : (op : OpBlock) (f : ℕ) (m : FeedbackState) (j : ℕ) → IsLive op m → j < 64
-    → to_z w32 (of_z w32 (feedback_sample op f m j)) ≡ feedback_sample op f m j
-sample_read op f m j v lt = to_z-of_z w32 _ (small_fits (2 ^ 29) _ (omega arith) (sample_small op j _ v.gains lt))
+pub sample_read : (p : FeedbackPath) (j : ℕ) → IsLive p → j < 64 → to_z w32 (of_z w32 (path_sample p j)) ≡ path_sample p j
+sample_read p j v lt = to_z-of_z w32 _ (small_fits (2 ^ 29) _ (omega arith) (sample_small p.op j _ v.gains lt))
 
 -- a lane that was read twice
 pub twice : (z : ℤ) → to_z w32 (of_z w32 z) ≡ z → to_z w32 (of_z w32 (to_z w32 (of_z w32 z))) ≡ z
@@ -93,15 +92,15 @@ pub same_state : (m : FeedbackState) (x y : ℤ) → x ≡ m.before_last → y �
 same_state m x y p q = rw (p, q)
 
 -- the sample of a lane, by what was read of its phase and its last two samples
-pub fed_lane : (op : OpBlock) (f : ℕ) (m : FeedbackState) (j : ℕ) (p x y q : ℤ) → IsLive op m → j < 64 → p ≡ phase_of op j
-    → x ≡ (feedback_state_after op f m j).before_last → y ≡ (feedback_state_after op f m j).last
-    → q ≡ wrap (p +ℤ feedback_of f (record { before_last = x; last = y }))
-    → to_z w32 (of_z w32 (wrap (int_shr (to_z w64 (of_z w64 (sine q)) *ℤ to_z w64 (of_z w64 (gain_at op j))) 24))) ≡ feedback_sample op f m j
+pub fed_lane : (w : FeedbackPath) (j : ℕ) (p x y q : ℤ) → IsLive w → j < 64 → p ≡ phase_of w.op j
+    → x ≡ (path_state w j).before_last → y ≡ (path_state w j).last
+    → q ≡ wrap (p +ℤ feedback_of w.feedback (record { before_last = x; last = y }))
+    → to_z w32 (of_z w32 (wrap (int_shr (to_z w64 (of_z w64 (sine q)) *ℤ to_z w64 (of_z w64 (gain_at w.op j))) 24))) ≡ path_sample w j
 unfolding sine
-fed_lane op f m j p x y q v lt ep ex ey e =
-    let here : q ≡ phase_at op j (feedback_of f (feedback_state_after op f m j)) =
-    phase_here op p q _ j ep e ∙ ap (λ s. phase_at op j (feedback_of f s)) (same_state (feedback_state_after op f m j) x y ex ey) in
-    rw here (sample_lane op j (feedback_of f (feedback_state_after op f m j)) v.gains lt v.sounds)
+fed_lane w j p x y q v lt ep ex ey e =
+    let here : q ≡ phase_at w.op j (feedback_of w.feedback (path_state w j)) =
+    phase_here w.op p q _ j ep e ∙ ap (λ s. phase_at w.op j (feedback_of w.feedback s)) (same_state (path_state w j) x y ex ey) in
+    rw here (sample_lane w.op j (feedback_of w.feedback (path_state w j)) v.gains lt v.sounds)
 
 feedback_heard : (f : ℕ) (x y : ℤ) → 1 ≤ f → feedback_of f (record { before_last = x; last = y }) ≡ int_shr (x +ℤ y) (9 - f)
 feedback_heard f x y le = search (rules, arith)
@@ -121,27 +120,25 @@ fed_phase_lane f p x y k hears ex ey fp e =
     let heard : feedback_of f (record { before_last = x; last = y }) ≡ int_shr (x +ℤ y) (9 - f) = feedback_heard f x y hears.0 in
     rw (sum, e, heard) (wrapping_add_is w32 p _ fp fh)
 
-pub gain_small : (op : OpBlock) (m : FeedbackState) (j : ℕ) → IsLive op m → j ≤ 64 → unsigned_abs (gain_at op j) ≤ 2 ^ 28
-gain_small op m j v le = (gain_fits op j v.gains (omega (arith, le))).small
+pub gain_small : (p : FeedbackPath) (j : ℕ) → IsLive p → j ≤ 64 → unsigned_abs (gain_at p.op j) ≤ 2 ^ 28
+gain_small p j v le = (gain_fits p.op j v.gains (omega (arith, le))).small
 
 -- the vectors at a sample are bounded
-pub bounded : (v : Four) (j : ℕ) (q : Quartet) → AreLive v → j ≤ 64 → AreAt v j q → AreBounded q
-bounded v j q live le at =
-    let g0 = gain_small v.op0 v.state0 j live.live0 le in
-    let s0 = state_small v.op0 v.feedback v.state0 j live.live0 le in
-    let g1 = gain_small v.op1 v.state1 j live.live1 le in
-    let s1 = state_small v.op1 v.feedback v.state1 j live.live1 le in
-    let g2 = gain_small v.op2 v.state2 j live.live2 le in
-    let s2 = state_small v.op2 v.feedback v.state2 j live.live2 le in
-    let g3 = gain_small v.op3 v.state3 j live.live3 le in
-    let s3 = state_small v.op3 v.feedback v.state3 j live.live3 le in
+pub bounded : (ps : List FeedbackPath) (j : ℕ) (q : Quartet) → AreLive ps → j ≤ 64 → AreAt ps j q → AreBounded q
+bounded ps j q live le at =
+    let g = λ (k : ℕ) (lt : k < 4). gain_small (path_at ps k) j (live.live k lt) le in
+    let s = λ (k : ℕ) (lt : k < 4). state_small (path_at ps k) j (live.live k lt) le in
+    let s0 = s 0 (omega arith) in
+    let s1 = s 1 (omega arith) in
+    let s2 = s 2 (omega arith) in
+    let s3 = s 3 (omega arith) in
     record {
       four_phases = ap length at.phases;
       four_gains = ap length at.gains;
       four_before = ap length at.before_last;
       four_last = ap length at.last;
       phases = rw at.phases (SFits-int_wrap w32 _, (SFits-int_wrap w32 _, (SFits-int_wrap w32 _, (SFits-int_wrap w32 _, tt))));
-      gains = rw at.gains (g0, (g1, (g2, (g3, tt))));
+      gains = rw at.gains (g 0 (omega arith), (g 1 (omega arith), (g 2 (omega arith), (g 3 (omega arith), tt))));
       before_last = rw at.before_last (s0.before_last, (s1.before_last, (s2.before_last, (s3.before_last, tt))));
       last = rw at.last (s0.last, (s1.last, (s2.last, (s3.last, tt))));
     }

@@ -1,16 +1,13 @@
-//! Four operators that sound, with feedback above 0, side by side: each is a lane of the vectors.
+//! Four feedback paths side by side, each a lane of the vectors.
 ghost use Rattle.std.specs.Prelude.{ℕ, [], ◌≡◌, ◌+◌, ◌<◌, ◌≤◌, length, map, FitsSigned};
 ghost use Rattle.std.specs.Int.{w32};
 ghost use Rattle.std.specs.Simd.Lanes.{Each1};
 ghost use Rattle.dx_tables.specs.Numbers.{residue};
 ghost use Rattle.dx_tables.specs.Sine.{sine, sine_pair};
 ghost use Rattle.dx_tables.specs.Table.{IsTable};
-ghost use Rattle.operator_kernel.specs.Operator.{HasGains};
-ghost use Rattle.operator_kernel.specs.Quartets.{Four, four_of, AreLive, AreAt, AreBounded, phases_with_feedback, fed_samples};
-ghost use Rattle.operator_kernel.specs.Lanes.{gains_of_four};
+ghost use Rattle.operator_kernel.specs.Quartets.{AreLive, AreAt, AreBounded, gains_of_four, phase_lanes, phases_with_feedback, fed_samples, shift_lanes};
 
-use crate::OpBlock;
-use crate::four::{first_phases, next_phases};
+use crate::FeedbackPath;
 use crate::lanes::{four_products, four_sines};
 use crate::operator::{gain, growth};
 use std::simd::prelude::*;
@@ -24,34 +21,85 @@ pub(crate) struct Quartet {
     pub(crate) last: i32x4,
 }
 
-/// The gains of four operators at their first sample.
+/// The phases of the first sample, without feedback.
 #[inline(always)]
-fn first_gains(op0: &OpBlock, op1: &OpBlock, op2: &OpBlock, op3: &OpBlock) -> i64x4
-    requires gains { HasGains op0.now × HasGains op1.now × HasGains op2.now × HasGains op3.now }
-    ensures { result ≡ gains_of_four op0.now op1.now op2.now op3.now 0 }
+fn first_phases(paths: &[FeedbackPath; 4]) -> i32x4
+    ensures { result ≡ phase_lanes paths.now 0 }
 {
-    i32x4::from_array([gain(op0, 0), gain(op1, 0), gain(op2, 0), gain(op3, 0)]).cast::<i64>()
+    i32x4::from_array([
+        paths[0].op.phase,
+        paths[1].op.phase,
+        paths[2].op.phase,
+        paths[3].op.phase,
+    ])
 }
 
 /// The same one sample later.
 #[inline(always)]
-fn later_gains(op0: &OpBlock, op1: &OpBlock, op2: &OpBlock, op3: &OpBlock, gains: i64x4) -> i64x4
-    requires gains { HasGains op0.now × HasGains op1.now × HasGains op2.now × HasGains op3.now }
-    ensures { (j : ℕ) → j < 64 → gains ≡ gains_of_four op0.now op1.now op2.now op3.now j
-        → result ≡ gains_of_four op0.now op1.now op2.now op3.now (j + 1) }
+fn later_phases(paths: &[FeedbackPath; 4], phases: i32x4) -> i32x4
+    ensures { (j : ℕ) → phases ≡ phase_lanes paths.now j → result ≡ phase_lanes paths.now (j + 1) }
 {
-    let steps = i32x4::from_array([growth(op0), growth(op1), growth(op2), growth(op3)]);
+    phases
+        + i32x4::from_array([
+            paths[0].op.freq,
+            paths[1].op.freq,
+            paths[2].op.freq,
+            paths[3].op.freq,
+        ])
+}
+
+/// The gains of the first sample.
+#[inline(always)]
+fn first_gains(paths: &[FeedbackPath; 4]) -> i64x4
+    requires live { AreLive paths.now }
+    ensures { result ≡ gains_of_four paths.now 0 }
+{
+    i32x4::from_array([
+        gain(&paths[0].op, 0),
+        gain(&paths[1].op, 0),
+        gain(&paths[2].op, 0),
+        gain(&paths[3].op, 0),
+    ])
+    .cast::<i64>()
+}
+
+/// The same one sample later.
+#[inline(always)]
+fn later_gains(paths: &[FeedbackPath; 4], gains: i64x4) -> i64x4
+    requires live { AreLive paths.now }
+    ensures { (j : ℕ) → j < 64 → gains ≡ gains_of_four paths.now j → result ≡ gains_of_four paths.now (j + 1) }
+{
+    let steps = i32x4::from_array([
+        growth(&paths[0].op),
+        growth(&paths[1].op),
+        growth(&paths[2].op),
+        growth(&paths[3].op),
+    ]);
     gains + steps.cast::<i64>()
 }
 
-/// The phases of four operators with their feedback, where it isn't 0 and their last samples are small.
+/// How far each lane's sum of its last two samples is shifted.
 #[inline(always)]
-fn fed_phases(feedback: u8, at: Quartet) -> i32x4
-    requires feedback { (1 ≤ feedback) × (feedback ≤ 7) }
-    requires bounded { AreBounded at }
-    ensures { result ≡ phases_with_feedback feedback at }
+fn shifts(paths: &[FeedbackPath; 4]) -> i32x4
+    requires live { AreLive paths.now }
+    ensures { result ≡ shift_lanes paths.now }
 {
-    at.phases + ((at.before_last + at.last) >> i32x4::splat(i32::from(9 - feedback)))
+    i32x4::from_array([
+        i32::from(9 - paths[0].feedback),
+        i32::from(9 - paths[1].feedback),
+        i32::from(9 - paths[2].feedback),
+        i32::from(9 - paths[3].feedback),
+    ])
+}
+
+/// The phases with the feedback of each lane.
+#[inline(always)]
+fn fed_phases(paths: &[FeedbackPath; 4], at: Quartet) -> i32x4
+    requires live { AreLive paths.now }
+    requires bounded { AreBounded at }
+    ensures { result ≡ phases_with_feedback paths.now at }
+{
+    at.phases + ((at.before_last + at.last) >> shifts(paths))
 }
 
 /// The bits of four numbers.
@@ -77,58 +125,46 @@ fn sines_of(pairs: &[i32x2], phases: i32x4) -> i64x4
     four_sines(pairs, p0, p1, p2, p3, bits % u32x4::splat(16384))
 }
 
-/// The next sample of each of four operators.
+/// The next sample of each lane.
 #[inline(always)]
-pub(crate) fn samples(pairs: &[i32x2], feedback: u8, at: Quartet) -> i32x4
+pub(crate) fn samples(pairs: &[i32x2], paths: &[FeedbackPath; 4], at: Quartet) -> i32x4
     requires table { IsTable [] sine_pair 1024 pairs.now }
-    requires feedback { (1 ≤ feedback) × (feedback ≤ 7) }
+    requires live { AreLive paths.now }
     requires bounded { AreBounded at }
-    ensures { (v : Four) (j : ℕ) → j < 64 → v.feedback ≡ feedback → AreLive v → AreAt v j at → result ≡ fed_samples v j }
+    ensures { (j : ℕ) → j < 64 → AreAt paths.now j at → result ≡ fed_samples paths.now j }
 {
-    let sines = sines_of(pairs, fed_phases(feedback, at));
+    let sines = sines_of(pairs, fed_phases(paths, at));
     four_products(sines, at.gains)
 }
 
-/// The vectors of four operators at their first sample.
+/// The vectors at the first sample.
 #[inline(always)]
-pub(crate) fn begin(
-    op0: &OpBlock,
-    op1: &OpBlock,
-    op2: &OpBlock,
-    op3: &OpBlock,
-    m0: &[i32; 2],
-    m1: &[i32; 2],
-    m2: &[i32; 2],
-    m3: &[i32; 2],
-) -> Quartet
-    requires gains { HasGains op0.now × HasGains op1.now × HasGains op2.now × HasGains op3.now }
-    ensures { (f : ℕ) → AreAt (four_of f op0.now op1.now op2.now op3.now m0.now m1.now m2.now m3.now) 0 result }
+pub(crate) fn begin(paths: &[FeedbackPath; 4]) -> Quartet
+    requires live { AreLive paths.now }
+    ensures { AreAt paths.now 0 result }
 {
     Quartet {
-        phases: first_phases(op0, op1, op2, op3),
-        gains: first_gains(op0, op1, op2, op3),
-        before_last: i32x4::from_array([m0[0], m1[0], m2[0], m3[0]]),
-        last: i32x4::from_array([m0[1], m1[1], m2[1], m3[1]]),
+        phases: first_phases(paths),
+        gains: first_gains(paths),
+        before_last: i32x4::from_array([
+            paths[0].before_last,
+            paths[1].before_last,
+            paths[2].before_last,
+            paths[3].before_last,
+        ]),
+        last: i32x4::from_array([paths[0].last, paths[1].last, paths[2].last, paths[3].last]),
     }
 }
 
 /// The same one sample later, where these are the samples.
 #[inline(always)]
-pub(crate) fn later(
-    op0: &OpBlock,
-    op1: &OpBlock,
-    op2: &OpBlock,
-    op3: &OpBlock,
-    at: Quartet,
-    y: i32x4,
-) -> Quartet
-    requires gains { HasGains op0.now × HasGains op1.now × HasGains op2.now × HasGains op3.now }
-    ensures { (v : Four) (j : ℕ) → j < 64 → (v.op0 ≡ op0.now) × (v.op1 ≡ op1.now) × (v.op2 ≡ op2.now) × (v.op3 ≡ op3.now) → AreLive v →
-        AreAt v j at → y ≡ fed_samples v j → AreAt v (j + 1) result }
+pub(crate) fn later(paths: &[FeedbackPath; 4], at: Quartet, y: i32x4) -> Quartet
+    requires live { AreLive paths.now }
+    ensures { (j : ℕ) → j < 64 → AreAt paths.now j at → y ≡ fed_samples paths.now j → AreAt paths.now (j + 1) result }
 {
     Quartet {
-        phases: next_phases(op0, op1, op2, op3, at.phases),
-        gains: later_gains(op0, op1, op2, op3, at.gains),
+        phases: later_phases(paths, at.phases),
+        gains: later_gains(paths, at.gains),
         before_last: at.last,
         last: y,
     }

@@ -1,7 +1,7 @@
 use Rattle.std.proofs.Common.{◌≡◌, ℕ, List, Option, length}
 use Rattle.algorithm_bus.specs.declared.note_block.NoteBlock.{NoteBlock}
 use Rattle.note_voice.specs.Modulation.{Modulation}
-use Rattle.instrument.specs.Groups.{AreLeft}
+use Rattle.instrument.specs.Blocks.{AreLeft}
 use Rattle.instrument.specs.State.{SlotData}
 use Rattle.instrument.specs.Running.{AreSlotsBegun}
 use Rattle.instrument.proofs.Begun.{AreEndedUpTo}

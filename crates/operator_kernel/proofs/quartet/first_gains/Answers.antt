@@ -5,9 +5,13 @@ use Rattle.operator_kernel.proofs.quartet.first_gains.Goals as goal
 
 pub returns : goal.returns
 returns c =
-    let h = c.requires.gains in
+    let l = c.requires.live.live in
+    let h0 = (l 0 (omega arith)).gains in
+    let h1 = (l 1 (omega arith)).gains in
+    let h2 = (l 2 (omega arith)).gains in
+    let h3 = (l 3 (omega arith)).gains in
     four_same
-    (gain_wide _ 0 _ h.0 (omega arith) (gain_read_32 _ 0 _ h.0 (omega arith) c.gain.ensures.value))
-    (gain_wide _ 0 _ h.1 (omega arith) (gain_read_32 _ 0 _ h.1 (omega arith) c.gain-2.ensures.value))
-    (gain_wide _ 0 _ h.2 (omega arith) (gain_read_32 _ 0 _ h.2 (omega arith) c.gain-3.ensures.value))
-    (gain_wide _ 0 _ h.3 (omega arith) (gain_read_32 _ 0 _ h.3 (omega arith) c.gain-4.ensures.value))
+    (gain_wide _ 0 _ h0 (omega arith) (gain_read_32 _ 0 _ h0 (omega arith) c.gain.ensures.value))
+    (gain_wide _ 0 _ h1 (omega arith) (gain_read_32 _ 0 _ h1 (omega arith) c.gain-2.ensures.value))
+    (gain_wide _ 0 _ h2 (omega arith) (gain_read_32 _ 0 _ h2 (omega arith) c.gain-3.ensures.value))
+    (gain_wide _ 0 _ h3 (omega arith) (gain_read_32 _ 0 _ h3 (omega arith) c.gain-4.ensures.value))
