@@ -103,7 +103,7 @@ fed_none tick at before = refl
 
 fed_more : (tick at : ℕ) (before bytes : List ℕ) (k byte : ℕ) → k < length bytes → get_or bytes k 0 ≡ byte
     → bytes_outcomes tick at before (take (k + 1) bytes) ≡ bytes_outcomes tick at before (take k bytes)
-        ++ ended_outcomes tick at (ended_message (before ++ take k bytes) byte)
+    ++ ended_outcomes tick at (ended_message (before ++ take k bytes) byte)
 fed_more tick at before bytes k byte below is =
     ap (bytes_outcomes tick at before) (take_next bytes k byte below is)
     ∙ fed_append tick at before (take k bytes) (byte ∷ [])
@@ -124,7 +124,7 @@ pub fed_faults : (tick at : ℕ) (before bytes : List ℕ) (k byte : ℕ) (why :
     → Faults why (all_come old ++ bytes_outcomes tick at before bytes)
 fed_faults tick at before bytes k byte why old now below is was fault =
     let front : all_come now ++ ended_outcomes tick at (ended_message (before ++ take k bytes) byte) ≡ all_come old
-        ++ bytes_outcomes tick at before (take (k + 1) bytes) =
+    ++ bytes_outcomes tick at before (take (k + 1) bytes) =
     ap (λ (hs : List TrackOutcome). hs ++ ended_outcomes tick at (ended_message (before ++ take k bytes) byte)) was
     ∙ append_assoc (all_come old) _ _
     ∙ ap (λ (hs : List TrackOutcome). all_come old ++ hs) (sym (fed_more tick at before bytes k byte below is)) in
@@ -132,6 +132,6 @@ fed_faults tick at before bytes k byte why old now below is was fault =
     ≡ all_come old ++ bytes_outcomes tick at before bytes =
     append_assoc (all_come old) _ _
     ∙ ap (λ (hs : List TrackOutcome). all_come old ++ hs) (sym (fed_append tick at before (take (k + 1) bytes) (drop (k + 1) bytes))
-        ∙ ap (bytes_outcomes tick at before) (take-append-drop (k + 1) bytes)) in
+    ∙ ap (bytes_outcomes tick at before) (take-append-drop (k + 1) bytes)) in
     subst (λ (hs : List TrackOutcome). Faults why hs) all
     (faults_more why _ _ (subst (λ (hs : List TrackOutcome). Faults why hs) front fault))

@@ -41,17 +41,17 @@ cut_within why size wanted at rest acts all w some is refused =
     let chunks : tracks_in w.more size wanted rest ≡ CutAt at ∷ [] = first.2 ∙ rw is refl in
     let same : all_come acts ++ Breaks at kind.Cut ∷ [] ≡ all = ap (λ (cs : List Chunk). all_come acts ++ flat_map chunk_outcomes cs) (sym chunks) ∙ w.left in
     subst (λ (f : ScriptFault). Faults f all) (sym refused) (subst (λ (hs : List TrackOutcome).
-        Faults (faults.Refused (place.Byte at) kind.Cut) hs) same (fault_here acts at kind.Cut))
+    Faults (faults.Refused (place.Byte at) kind.Cut) hs) same (fault_here acts at kind.Cut))
 
 -- a track
 track_within : (size wanted : ℕ) (rest : List ℕ) (acts : List TimedData) (all : List TrackOutcome) → (w : IsWithinFile size wanted rest acts all)
     → 0 < wanted → chunk_cut size rest ≡ None → is_track rest ≡ true
     → (m : ℕ) × (w.more ≡ m + 1) × ((all_come acts ++ track_outcomes (size - length (after_chunk rest)) (chunk_bytes rest))
-        ++ tracks_outcomes m size (wanted - 1) (after_chunk rest) ≡ all)
+    ++ tracks_outcomes m size (wanted - 1) (after_chunk rest) ≡ all)
 track_within size wanted rest acts all w some whole track =
     let first = tracks_first w.more size wanted rest some w.enough in
     let chunks : tracks_in w.more size wanted rest ≡ Track (size - length (after_chunk rest)) (chunk_bytes rest)
-        ∷ tracks_in first.0 size (wanted - 1) (after_chunk rest) =
+    ∷ tracks_in first.0 size (wanted - 1) (after_chunk rest) =
     first.2 ∙ rw (whole, track) refl in
     (first.0, first.1, append_assoc (all_come acts) _ _ ∙ ap (λ (cs : List Chunk). all_come acts ++ flat_map chunk_outcomes cs) (sym chunks) ∙ w.left)
 
@@ -73,7 +73,7 @@ fault_in_track size wanted rest bytes after acts all why w some whole track is_b
 pub after_track : (size wanted wanted' : ℕ) (rest bytes after : List ℕ) (acts acts' : List TimedData) (all : List TrackOutcome)
     → IsWithinFile size wanted rest acts all
     → 0 < wanted → chunk_cut size rest ≡ None → is_track rest ≡ true → bytes ≡ chunk_bytes rest → after ≡ after_chunk rest → length after < length rest
-        → wanted' ≡ wanted - 1
+    → wanted' ≡ wanted - 1
     → all_come acts' ≡ all_come acts ++ track_outcomes (size - length after) bytes
     → IsWithinFile size wanted' after acts' all
 after_track size wanted wanted' rest bytes after acts acts' all w some whole track is_bytes is_after shorter one come =
@@ -85,7 +85,7 @@ after_track size wanted wanted' rest bytes after acts acts' all w some whole tra
           ∙ ap (λ (hs : List TrackOutcome). all_come acts ++ hs) (same_bytes size bytes after rest is_bytes is_after))
           ∙ ap (λ (n : ℕ). (all_come acts ++ track_outcomes (size - length (after_chunk rest)) (chunk_bytes rest)) ++ tracks_outcomes by.0 size n after) one
           ∙ ap (λ (bs : List ℕ). (all_come acts ++ track_outcomes (size - length (after_chunk rest)) (chunk_bytes rest))
-              ++ tracks_outcomes by.0 size (wanted - 1) bs) is_after
+          ++ tracks_outcomes by.0 size (wanted - 1) bs) is_after
           ∙ by.2;
     }
 
@@ -133,7 +133,7 @@ unfolding file_outcomes
 bad_first bytes at why bad =
     let is : breaks (header_fault bytes) ≡ Breaks at why ∷ [] = ap breaks bad in
     faults_more (faults.Refused (place.Byte at) why) (breaks (header_fault bytes))
-        (tracks_outcomes (length bytes) (length bytes) (track_count bytes) (after_chunk bytes))
+    (tracks_outcomes (length bytes) (length bytes) (track_count bytes) (after_chunk bytes))
     (subst (λ (hs : List TrackOutcome). Faults (faults.Refused (place.Byte at) why) hs) (sym is) (fault_here [] at why))
 
 pub bad_header : (fault : ScriptFault) (bytes : List ℕ) (at : ℕ) (why : ScriptKind) → header_fault bytes ≡ Some (at, why)

@@ -76,11 +76,11 @@ next_time clock blocks division changes e later given all p =
 times_on : (clock : Clock) (changes : List Change) (e : TimedData) (later : List TimedData) → IsInTime clock.tick (e ∷ later)
     → ((tick : ℕ) → clock.tick ≤ tick → time_of changes tick ≡ clock.time + time_between clock.tempo clock.tick (changes_in (e ∷ later)) tick)
     → (tick : ℕ) → e.tick ≤ tick → time_of changes tick ≡ (clock.time + (e.tick - clock.tick) * clock.tempo) + time_between clock.tempo e.tick
-        (changes_in (e ∷ later)) tick
+    (changes_in (e ∷ later)) tick
 times_on clock changes e later order times tick le =
     times tick (let low : clock.tick ≤ e.tick = order.0 in omega arith)
     ∙ ap (λ (n : ℕ). clock.time + n) (time_on clock.tempo clock.tick e.tick tick (changes_in (e ∷ later)) order.0 le
-        (changes_after e.tick (e ∷ later) (omega arith, order.1)))
+    (changes_after e.tick (e ∷ later) (omega arith, order.1)))
     ∙ sym (add_assoc clock.time ((e.tick - clock.tick) * clock.tempo) _)
 
 -- after a new tempo
@@ -94,18 +94,18 @@ planned_tempo clock next blocks division changes e later given all tempo p is ti
   times = λ t le.
       let low : e.tick ≤ t = omega (arith, tick) in
       let first : changes_in (e ∷ later) ≡ record { tick = e.tick; tempo = tempo } ∷ changes_in later = changes_first e later
-          ∙ ap (λ (a : ActData). change_at e.tick a ++ changes_in later) is in
+      ∙ ap (λ (a : ActData). change_at e.tick a ++ changes_in later) is in
       times_on clock changes e later p.order p.times t low
       ∙ ap (λ (cs : List Change). (clock.time + (e.tick - clock.tick) * clock.tempo) + time_between clock.tempo e.tick cs t) first
       ∙ ap (λ (n : ℕ). (clock.time + (e.tick - clock.tick) * clock.tempo) + n)
-          (time_changed clock.tempo tempo e.tick t (changes_in later) low (changes_after e.tick later p.order.1))
+      (time_changed clock.tempo tempo e.tick t (changes_in later) low (changes_after e.tick later p.order.1))
       ∙ ap (λ (n : ℕ). n + time_between tempo e.tick (changes_in later) t) (sym time)
       ∙ ap (λ (n : ℕ). next.time + time_between n e.tick (changes_in later) t) (sym new)
       ∙ ap (λ (n : ℕ). next.time + time_between next.tempo n (changes_in later) t) (sym tick);
   left = ap (λ (os : List Outcome). all_given given ++ os)
       (sym (outcomes_first blocks division changes e later
       ∙ ap (λ (a : ActData). act_outcomes blocks e.place (block_of division (time_of changes e.tick)) a ++ ordered_outcomes blocks division changes later) is))
-          ∙ p.left;
+      ∙ p.left;
 }
 
 -- what comes of a command, and of the acts after it
@@ -168,7 +168,7 @@ pub planned_command_at : (clock next : Clock) (blocks : Option ℕ) (division : 
 planned_command_at clock next blocks division changes events e later given given' all tick place block command p split is time on same at come =
     planned_command clock next blocks division changes (timed_at tick place (Plays command)) later given given' all (Plays command)
     (subst (λ (es : List TimedData). IsPlanned clock blocks division changes es given all) (split ∙ ap (λ (x : TimedData). x ∷ later) is) p) refl refl time on
-        same
+    same
     (come ∙ ap (λ (n : ℕ). all_given given ++ act_outcomes blocks place n (Plays command)) at)
 
 pub stopped_command_at : (clock next : Clock) (blocks : Option ℕ) (division room : ℕ) (changes : List Change) (events : List TimedData) (e : TimedData)
@@ -244,4 +244,4 @@ pub stops_late : (why : ScriptFault) (room at : ℕ) (given : List PlannedData) 
     → Stops why room (all_given given ++ cond late (Fails (place.Byte at) kind.Late ∷ []) os)
 stops_late why room at given late os e few refused =
     subst (λ (f : ScriptFault). Stops f room (all_given given ++ cond late (Fails (place.Byte at) kind.Late ∷ []) os)) (sym refused)
-        (late_stops room at given late os e few)
+    (late_stops room at given late os e few)

@@ -62,7 +62,7 @@ broken_within fault reader end tick running rest acts all why w some is refused 
 events_then : (tick place : ℕ) (stream : List ℕ) (later : ℕ → List ℕ → List Found) (e : EventData)
     → events_outcomes tick stream (found_at place later (Event e))
     ≡ event_outcomes (tick + e.delta) place stream e.kind ++ events_outcomes (tick + e.delta) (stream
-        ++ fed_by e.kind) (cond (ends_track e.kind) [] (later e.running e.rest))
+    ++ fed_by e.kind) (cond (ends_track e.kind) [] (later e.running e.rest))
 unfolding events_outcomes
 events_then tick place stream later e = refl
 
@@ -93,7 +93,7 @@ fault_within reader end tick tick' running rest acts all e why w some is on faul
 pub within_more : (reader reader' : MidiReader) (end tick tick' running : ℕ) (rest : List ℕ) (acts acts' : List TimedData) (all : List TrackOutcome)
     (e : EventData)
     → (w : IsWithinTrack reader end tick running rest acts all) → 0 < length rest → event_at running rest ≡ Event e → length e.rest < length rest
-        → tick' ≡ tick + e.delta
+    → tick' ≡ tick + e.delta
     → Reads reader' (w.stream ++ fed_by e.kind) → all_come acts' ≡ all_come acts ++ event_outcomes tick' (end - length rest) w.stream e.kind
     → ends_track e.kind ≡ false → IsWithinTrack reader' end tick' e.running e.rest acts' all
 within_more reader reader' end tick tick' running rest acts acts' all e w some is shorter on reads come goes =

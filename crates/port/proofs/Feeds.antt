@@ -89,7 +89,7 @@ pub reached_first :
     (was reader : MidiReader) (was_curve curve : Curve) (was_kept keeps : Option Kept) (bytes : List ℕ) (old new : SendView) (fed : Fed)
     → OneMore old new 0 fed
     → ((done : List MessageOutcome) (stream : List ℕ) → HasUsed was was_curve was_kept done stream → (now : List MessageOutcome)
-        × (HasUsed reader curve keeps (done ++ now) stream × Handles now old new fed))
+    × (HasUsed reader curve keeps (done ++ now) stream × Handles now old new fed))
     → Reached was reader was_curve curve was_kept keeps bytes 0 old new fed
 reached_first was reader was_curve curve was_kept keeps bytes old new fed one received = record {
   used = one.used_is;
@@ -104,41 +104,47 @@ reached_first was reader was_curve curve was_kept keeps bytes old new fed one re
 -- one byte later
 pub reached_more :
     (was reader later : MidiReader) (was_curve curve later_curve : Curve) (was_kept keeps later_kept : Option Kept) (bytes : List ℕ) (index byte : ℕ)
-        (old new last : SendView) (fed two both : Fed)
+    (old new last : SendView) (fed two both : Fed)
     → fed.stop ≡ All → Reached was reader was_curve curve was_kept keeps bytes index old new fed
     → take (index + 1) bytes ≡ take index bytes ++ byte ∷ []
     → OneMore new last 1 two
     → ((done : List MessageOutcome) (stream : List ℕ) → HasUsed reader curve keeps done stream → (now : List MessageOutcome)
-        × (HasUsed later later_curve later_kept (done ++ now) (stream ++ byte ∷ []) × Handles now new last two))
-    → both ≡ record { used = fed.used + two.used; sent = fed.sent + two.sent; passed_over = fed.passed_over + two.passed_over; refused =
-        fed.refused + two.refused; stop = two.stop }
+    × (HasUsed later later_curve later_kept (done ++ now) (stream ++ byte ∷ []) × Handles now new last two))
+    → both ≡ record {
+      used = fed.used + two.used;
+      sent = fed.sent + two.sent;
+      passed_over = fed.passed_over + two.passed_over;
+      refused =
+          fed.refused + two.refused;
+      stop = two.stop;
+    }
     → Reached was later was_curve later_curve was_kept later_kept bytes (index + 1) old last both
 reached_more was reader later was_curve curve later_curve was_kept keeps later_kept bytes index byte old new last fed two both stop r taken one received b =
     record {
-  used = (let u : both.used ≡ fed.used + two.used = ap (λ (f : Fed). f.used) b in omega (arith, u, r.used, one.used_is));
-  line = one.line ∙ r.line;
-  number = one.number ∙ r.number;
-  count = (let s : both.sent ≡ fed.sent + two.sent = ap (λ (f : Fed). f.sent) b in omega (arith, s, r.count, one.count));
-  few = (
-      let s : both.sent ≡ fed.sent + two.sent = ap (λ (f : Fed). f.sent) b in
-      let p : both.passed_over ≡ fed.passed_over + two.passed_over = ap (λ (f : Fed). f.passed_over) b in
-      let q : both.refused ≡ fed.refused + two.refused = ap (λ (f : Fed). f.refused) b in omega (arith, s, p, q, r.few, one.few));
-  refusals = (
-      let calm : new.refusals ≡ old.refusals = rw stop at r.refusals in
-      one.refusals ∙ ap (refusals_after two.stop) calm ∙ ap (λ (s : PortStop). refusals_after s old.refusals) (sym (ap (λ (f : Fed). f.stop) b)));
-  received = λ done stream u.
-      (let h = r.received done stream u in
-      let k = received (done ++ h.0) (stream ++ take index bytes) h.1.0 in
-      let bytes_so_far : (stream ++ take index bytes) ++ byte ∷ [] ≡ stream ++ take (index + 1) bytes = append_assoc stream (take index bytes) (byte ∷ [])
+      used = (let u : both.used ≡ fed.used + two.used = ap (λ (f : Fed). f.used) b in omega (arith, u, r.used, one.used_is));
+      line = one.line ∙ r.line;
+      number = one.number ∙ r.number;
+      count = (let s : both.sent ≡ fed.sent + two.sent = ap (λ (f : Fed). f.sent) b in omega (arith, s, r.count, one.count));
+      few = (
+          let s : both.sent ≡ fed.sent + two.sent = ap (λ (f : Fed). f.sent) b in
+          let p : both.passed_over ≡ fed.passed_over + two.passed_over = ap (λ (f : Fed). f.passed_over) b in
+          let q : both.refused ≡ fed.refused + two.refused = ap (λ (f : Fed). f.refused) b in omega (arith, s, p, q, r.few, one.few));
+      refusals = (
+          let calm : new.refusals ≡ old.refusals = rw stop at r.refusals in
+          one.refusals ∙ ap (refusals_after two.stop) calm ∙ ap (λ (s : PortStop). refusals_after s old.refusals) (sym (ap (λ (f : Fed). f.stop) b)));
+      received = λ done stream u.
+          (let h = r.received done stream u in
+          let k = received (done ++ h.0) (stream ++ take index bytes) h.1.0 in
+          let bytes_so_far : (stream ++ take index bytes) ++ byte ∷ [] ≡ stream ++ take (index + 1) bytes = append_assoc stream (take index bytes) (byte ∷ [])
           ∙ ap (λ (bs : List ℕ). stream ++ bs) (sym taken) in (
-        h.0 ++ k.0,
-        (
-          rw (← append_assoc done h.0 k.0, ← bytes_so_far) k.1.0,
-          handles_more h.0 k.0 old new last fed two both stop h.1.1 k.1.1 (ap (λ (f : Fed). f.stop) b) (ap (λ (f : Fed). f.sent) b)
-              (ap (λ (f : Fed). f.passed_over) b) (ap (λ (f : Fed). f.refused) b),
-        ),
-      ));
-}
+            h.0 ++ k.0,
+            (
+              rw (← append_assoc done h.0 k.0, ← bytes_so_far) k.1.0,
+              handles_more h.0 k.0 old new last fed two both stop h.1.1 k.1.1 (ap (λ (f : Fed). f.stop) b) (ap (λ (f : Fed). f.sent) b)
+                  (ap (λ (f : Fed). f.passed_over) b) (ap (λ (f : Fed). f.refused) b),
+            ),
+          ));
+    }
 
 -- what was received, by the count of bytes
 pub received_to :

@@ -13,7 +13,7 @@ use Rattle.port.specs.Handling.{IsDoneOrKept, KeepsThis, KeepsNoMessage}
 
 pub sent_done :
     (curve : Curve) (bytes : List ℕ) (command : CommandData) (keeps : Option Kept) (old new : SendView) → keeps ≡ None
-        → new ≡ accepted old (entry_of old 0 command)
+    → new ≡ accepted old (entry_of old 0 command)
     → IsDoneOrKept curve bytes (Yields command) keeps old new (record { used = 0; sent = 1; passed_over = 0; refused = 0; stop = All })
 sent_done curve bytes command keeps old new e n = rw e (record {
   now = Yields command ∷ [];
@@ -44,7 +44,7 @@ overlong_done curve bytes outcome keeps end count e t = rw (e, t) (record {
 
 pub faulty_done :
     (curve : Curve) (bytes : List ℕ) (outcome : MessageOutcome) (keeps : Option Kept) (end : SendView) (fault : FrameFault) → keeps ≡ None
-        → outcome ≡ Faulty fault
+    → outcome ≡ Faulty fault
     → IsDoneOrKept curve bytes outcome keeps end end (record { used = 0; sent = 0; passed_over = 0; refused = 1; stop = All })
 faulty_done curve bytes outcome keeps end fault e t = rw (e, t) (record {
   now = Faulty fault ∷ [];

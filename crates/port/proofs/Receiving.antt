@@ -105,7 +105,7 @@ none_last (Some (kept.Message held)) stream k = absurd k
 -- what comes of what is told last
 received_by :
     (reader : MidiReader) (curve : Curve) (keeps : Option Kept) (done : List MessageOutcome) (stream sysex : List ℕ) (t : MessageOutcome) (old new : SendView)
-        (fed : Fed)
+    (fed : Fed)
     → Reads reader stream → map (λ h. h.message) (ended_messages stream) ≡ messages stream
     → outcomes curve stream ≡ done ++ t ∷ [] → IsDoneOrKept curve sysex t keeps old new fed
     → kept_outcomes curve sysex keeps ≡ kept_outcomes curve (exclusive_of stream) keeps → KeepsLast keeps stream
@@ -126,7 +126,7 @@ received_by reader curve keeps done stream sysex t old new fed r ms e s same l =
 -- a byte that ends a message
 pub byte_told :
     (was reader : MidiReader) (curve : Curve) (keeps : Option Kept) (done : List MessageOutcome) (stream sysex : List ℕ) (byte : ℕ) (m : MidiMessage)
-        (old new : SendView) (fed : Fed)
+    (old new : SendView) (fed : Fed)
     → HasUsed was curve None done stream → Reads reader (stream ++ byte ∷ [])
     → Answers (Some m) (messages stream) (messages (stream ++ byte ∷ [])) → InRange m → HasBytes m (last_sysex (stream ++ byte ∷ []))
     → IfSome (last_sysex (stream ++ byte ∷ [])) (λ bytes. length bytes ≤ 5000 → sysex ≡ bytes)
@@ -136,10 +136,10 @@ byte_told was reader curve keeps done stream sysex byte m old new fed u r a rang
     let same = told_same m (last_sysex (stream ++ byte ∷ [])) sysex curve range has text in
     let tells : outcomes curve (stream ++ byte ∷ []) ≡ done ++ command_of m sysex curve ∷ [] =
     outcomes_more curve (Some m) stream byte a ∙ ap (λ (ts : List MessageOutcome). ts ++ command_of m (exclusive_of (stream ++ byte ∷ [])) curve ∷ []) (u.tells
-        ∙ append-nil done)
+    ∙ append-nil done)
     ∙ ap (λ (t : MessageOutcome). done ++ t ∷ []) (sym same) in
     received_by reader curve keeps done (stream ++ byte ∷ []) sysex (command_of m sysex curve) old new fed r (received_still (Some m) stream byte a u.received)
-        tells s (kept_same curve keeps m sysex _ k same)
+    tells s (kept_same curve keeps m sysex _ k same)
     (keeps_last keeps m (stream ++ byte ∷ []) k (record { earlier = messages stream; last = a; bytes = has }))
 
 -- a byte that ends no message
@@ -147,13 +147,23 @@ pub byte_silent :
     (was reader : MidiReader) (curve : Curve) (keeps : Option Kept) (done : List MessageOutcome) (stream : List ℕ) (byte used : ℕ) (end : SendView)
     → keeps ≡ None → HasUsed was curve keeps done stream → Reads reader (stream ++ byte ∷ []) → Answers None (messages stream) (messages (stream ++ byte ∷ []))
     → (now : List MessageOutcome) × (HasUsed reader curve keeps (done ++ now) (stream ++ byte ∷ [])
-        × Handles now end end (record { used = used; sent = 0; passed_over = 0; refused = 0; stop = All }))
+    × Handles now end end (record { used = used; sent = 0; passed_over = 0; refused = 0; stop = All }))
 byte_silent was reader curve keeps done stream byte used end e u r a =
     let clear : HasUsed was curve None done stream = rw (← e) u in
     let more : outcomes curve (stream ++ byte ∷ []) ≡ (done ++ []) ++ [] =
-    outcomes_more curve None stream byte a ∙ ap (λ (ts : List MessageOutcome). ts ++ []) clear.tells in
-    ([], (rw e (record { reads = r; received = received_still None stream byte a clear.received; tells = more; last = tt }), record { end_is = refl; sent_is =
-        refl; passed_over_is = refl; refused_is = refl }))
+    outcomes_more curve None stream byte a ∙ ap (λ (ts : List MessageOutcome). ts ++ []) clear.tells in (
+      [],
+      (
+        rw e (record { reads = r; received = received_still None stream byte a clear.received; tells = more; last = tt }),
+        record {
+          end_is = refl;
+          sent_is =
+              refl;
+          passed_over_is = refl;
+          refused_is = refl;
+        },
+      ),
+    )
 
 -- the same, with another count of bytes
 pub with_used : (now : List MessageOutcome) (old new : SendView) (fed : Fed) (used : ℕ) → Handles now old new fed
@@ -163,7 +173,7 @@ with_used now old new fed used h = record { end_is = h.end_is; sent_is = h.sent_
 -- a command that was kept
 pub kept_command_told :
     (reader : MidiReader) (curve : Curve) (was keeps : Option Kept) (done : List MessageOutcome) (stream : List ℕ) (held : Kept) (waiting command : CommandData)
-        (old new : SendView) (fed : Fed)
+    (old new : SendView) (fed : Fed)
     → HasUsed reader curve was done stream → Some held ≡ was → held ≡ kept.Command waiting → command ≡ waiting
     → ((c : Curve) (bytes : List ℕ) → IsDoneOrKept c bytes (Yields command) keeps old new fed) → KeepsNoMessage keeps
     → (now : List MessageOutcome) × (HasUsed reader curve keeps (done ++ now) stream × Handles now old new fed)
@@ -171,12 +181,12 @@ kept_command_told reader curve was keeps done stream held waiting command old ne
     let is : was ≡ Some (kept.Command command) = sym w ∙ ap (λ (x : Kept). Some x) (h ∙ ap (λ (d : CommandData). kept.Command d) (sym e)) in
     let v : HasUsed reader curve (Some (kept.Command command)) done stream = rw (← is) u in
     received_by reader curve keeps done stream (exclusive_of stream) (Yields command) old new fed v.reads v.received v.tells (s curve (exclusive_of stream))
-        refl (none_last keeps stream k)
+    refl (none_last keeps stream k)
 
 -- a message that was kept
 pub kept_message_told :
     (reader : MidiReader) (curve : Curve) (was keeps : Option Kept) (done : List MessageOutcome) (stream sysex : List ℕ) (held : Kept) (ended m : MidiMessage)
-        (old new : SendView) (fed : Fed)
+    (old new : SendView) (fed : Fed)
     → HasUsed reader curve was done stream → Some held ≡ was → held ≡ kept.Message ended → m ≡ ended → InRange m
     → IfSome (last_sysex stream) (λ bytes. length bytes ≤ 5000 → sysex ≡ bytes)
     → IsDoneOrKept curve sysex (command_of m sysex curve) keeps old new fed → KeepsThis keeps m
@@ -186,5 +196,5 @@ kept_message_told reader curve was keeps done stream sysex held ended m old new 
     let v : HasUsed reader curve (Some (kept.Message m)) done stream = rw (← is) u in
     let same = told_same m (last_sysex stream) sysex curve range v.last.bytes text in
     received_by reader curve keeps done stream sysex (command_of m sysex curve) old new fed v.reads v.received (v.tells
-        ∙ ap (λ (t : MessageOutcome). done ++ t ∷ []) (sym same)) s
+    ∙ ap (λ (t : MessageOutcome). done ++ t ∷ []) (sym same)) s
     (kept_same curve keeps m sysex _ k same) (keeps_last keeps m stream k v.last)

@@ -11,7 +11,7 @@ ghost use Rattle.port.specs.Ranges.{SendsInRange};
 ghost use Rattle.port.specs.Handling.{IsDoneOrKept, KeepsThis, KeepsNoMessage, OneMore};
 
 use crate::fed::Fed;
-use crate::kept::{KeptMessage, Kept, Waiting};
+use crate::kept::{Kept, KeptMessage, Waiting};
 use command_queue::{Line, SendEnd};
 use command_set::{Command, CommandFault, from_message};
 use midi_stream::MidiMessage;

@@ -37,7 +37,7 @@ fed_early blocks block place_of curve before [] below = tt
 fed_early blocks block place_of curve before (byte ∷ bytes) below =
     both_early blocks (ended_outcomes (place_of before) block curve (ended_message before byte)) (fed_outcomes place_of block curve (before ++ byte ∷ []) bytes)
     (ended_early blocks block (place_of before) curve (ended_message before byte) below)
-        (fed_early blocks block place_of curve (before ++ byte ∷ []) bytes below)
+    (fed_early blocks block place_of curve (before ++ byte ∷ []) bytes below)
 
 pub below_all : (blocks block : ℕ) → nat_le blocks block ≡ false → block < blocks
 below_all blocks block e = leb-false blocks block e

@@ -40,7 +40,7 @@ fed_more place_of block curve before (x ∷ xs) byte =
     let later = fed_more place_of block curve (before ++ x ∷ []) xs byte in
     let join : (before ++ x ∷ []) ++ xs ≡ before ++ x ∷ xs = append_assoc before (x ∷ []) xs in
     ap (λ (os : List Outcome). first ++ os) (later ∙ ap (λ (s : List ℕ). fed_outcomes place_of block curve (before ++ x ∷ []) xs
-        ++ ended_outcomes (place_of s) block curve (ended_message s byte)) join)
+    ++ ended_outcomes (place_of s) block curve (ended_message s byte)) join)
     ∙ sym (append_assoc first _ _)
 
 begun_more_after : (before xs : List ℕ) (start byte : ℕ)

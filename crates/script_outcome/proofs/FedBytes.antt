@@ -34,7 +34,7 @@ fed_front : (place_of : List ℕ → Place) (block : ℕ) (curve : Curve) (befor
     → get_or bytes at 0 ≡ byte
     → first ++ fed_outcomes place_of block curve before (take (at + 1) bytes)
     ≡ first ++ fed_outcomes place_of block curve before (take at bytes) ++ ended_outcomes (place_of (before ++ take at bytes)) block curve
-        (ended_message (before ++ take at bytes) byte)
+    (ended_message (before ++ take at bytes) byte)
 fed_front place_of block curve before bytes at byte first below is =
     ap (λ (s : List ℕ). first ++ fed_outcomes place_of block curve before s) (take_next bytes at byte below is)
     ∙ ap (λ (os : List Outcome). first ++ os) (fed_more place_of block curve before (take at bytes) byte)
@@ -58,7 +58,7 @@ pub fed_stopped : (place_of : List ℕ → Place) (block : ℕ) (curve : Curve) 
 fed_stopped place_of block curve before bytes at byte why room old now below is was stops =
     let parts : all_given old ++ fed_outcomes place_of block curve before bytes
     ≡ all_given old ++ fed_outcomes place_of block curve before (take (at + 1) bytes)
-        ++ fed_outcomes place_of block curve (before ++ take (at + 1) bytes) (drop (at + 1) bytes) =
+    ++ fed_outcomes place_of block curve (before ++ take (at + 1) bytes) (drop (at + 1) bytes) =
     ap (λ (s : List ℕ). all_given old ++ fed_outcomes place_of block curve before s) (sym (take-append-drop (at + 1) bytes))
     ∙ ap (λ (os : List Outcome). all_given old ++ os) (fed_append place_of block curve before (take (at + 1) bytes) (drop (at + 1) bytes))
     ∙ sym (append_assoc (all_given old) _ _) in

@@ -99,14 +99,14 @@ pub stops_overlong : (room : ℕ) (cs : List PlannedData) (at : Place) (block co
     → plan_of room (all_given cs ++ message_outcomes at block told ++ more) ≡ Refused at kind.Long
 stops_overlong room cs at block count told more few is =
     subst (λ (t : MessageOutcome). plan_of room (all_given cs ++ message_outcomes at block t ++ more) ≡ Refused at kind.Long) (sym is)
-        (fails room cs at kind.Long more few)
+    (fails room cs at kind.Long more few)
 
 pub stops_faulty : (room : ℕ) (cs : List PlannedData) (at : Place) (block : ℕ) (fault : FrameFault) (told : MessageOutcome) (more : List Outcome)
     → length cs ≤ room → told ≡ Faulty fault
     → plan_of room (all_given cs ++ message_outcomes at block told ++ more) ≡ Refused at (kind.Message fault)
 stops_faulty room cs at block fault told more few is =
     subst (λ (t : MessageOutcome). plan_of room (all_given cs ++ message_outcomes at block t ++ more) ≡ Refused at (kind.Message fault)) (sym is)
-        (fails room cs at (kind.Message fault) more few)
+    (fails room cs at (kind.Message fault) more few)
 
 -- what an answer says, handed on
 pub on_ok_more : {T E : Type 0} {P Q : Type 0} (r : Result T E) → OnOk r P → (P → Q) → OnOk r Q

@@ -85,7 +85,7 @@ cartridge_found word d parsed =
     let own = as_cartridge word d parsed.0 parsed.1 in
     let bytes : List ℕ = flat_map packed own.0 in
     let decoded : decode_of word ≡ Ok bytes = subst (λ (w : List ℕ). decode_of w ≡ Ok bytes) own.3 (decode_of-encode_lower bytes (cartridge_bytes own.0 own.2))
-        in
+    in
     ap (option_and_then if_cartridge) (lower_own word bytes decoded own.3) ∙ cartridge_own own.0 own.2 ∙ ap Some (sym own.1)
 
 is_payload : (bytes : List ℕ) (d : CommandData) → if_cartridge bytes ≡ Some d → flat_map packed (voices_of bytes) ≡ bytes
@@ -105,7 +105,7 @@ cartridge_missed word none = by_bytes (lower_bytes word) refl
     by_cartridge bytes is (Some d) e =
         let same : flat_map packed (voices_of bytes) ≡ bytes = is_payload bytes d e in
         absurd (none (LoadsCartridge (voices_of bytes)) (voices_cartridge bytes) (ap (λ (xs : List ℕ). codes "cartridge" ∷ encode_lower xs ∷ []) same
-            ∙ ap (λ (w : List ℕ). codes "cartridge" ∷ w ∷ []) is))
+        ∙ ap (λ (w : List ℕ). codes "cartridge" ∷ w ∷ []) is))
 
     by_bytes : (o : Option (List ℕ)) → lower_bytes word ≡ o → option_and_then if_cartridge o ≡ None
     by_bytes None e = refl

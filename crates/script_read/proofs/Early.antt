@@ -36,7 +36,7 @@ line_early blocks lines (Orders block command) = timed_early blocks (nat_lt bloc
     (Gives (planned_at block (curved (curve_after Linear lines) command)) ∷ []) (λ e. (below_all blocks block e, tt))
 line_early blocks lines (Feeds block bytes) =
     timed_early blocks (nat_lt block (block_after 0 lines)) (nat_le blocks block) (line_after lines)
-        (fed_outcomes (λ stream. line_after lines) block (curve_after Linear lines) (stream_of lines) bytes)
+    (fed_outcomes (λ stream. line_after lines) block (curve_after Linear lines) (stream_of lines) bytes)
     (λ e. fed_early blocks block (λ stream. line_after lines) (curve_after Linear lines) (stream_of lines) bytes (below_all blocks block e))
 line_early blocks lines Wrong = tt
 
@@ -82,8 +82,8 @@ stream_early : (blocks : ℕ) (bytes : List ℕ) → 0 < blocks → AllEarly blo
 unfolding stream_outcomes
 stream_early blocks bytes some =
     both_early blocks (fed_outcomes (λ before. place.Byte (begun_at before)) 0 Linear [] bytes) (stream_end bytes)
-        (fed_early blocks 0 (λ before. place.Byte (begun_at before)) Linear [] bytes some)
-        (end_early blocks (is_unfinished bytes) (place.Byte (begun_at bytes)) kind.Cut)
+    (fed_early blocks 0 (λ before. place.Byte (begun_at before)) Linear [] bytes some)
+    (end_early blocks (is_unfinished bytes) (place.Byte (begun_at bytes)) kind.Cut)
 
 either_early : (blocks : ℕ) (t : Bool) (xs ys : List Outcome) → AllEarly blocks xs → AllEarly blocks ys → AllEarly blocks (cond t xs ys)
 either_early blocks true xs ys a b = a
@@ -96,12 +96,12 @@ by_lines blocks (first ∷ lines) =
     (if bytes_eq first (codes "edit 1") then edit_text_outcomes (Some blocks) (parsed_edits lines) else at_first kind.Kind)
     (text_early blocks (parsed_lines lines))
     (either_early blocks (bytes_eq first (codes "edit 1")) (edit_text_outcomes (Some blocks) (parsed_edits lines)) (at_first kind.Kind)
-        (edits_early blocks [] (parsed_edits lines)) tt)
+    (edits_early blocks [] (parsed_edits lines)) tt)
 
 pub all_early : (blocks : ℕ) (bytes : List ℕ) → 0 < blocks → AllEarly blocks (outcomes (Some blocks) bytes)
 unfolding outcomes
 all_early blocks bytes some =
     either_early blocks (is_stream bytes) (stream_outcomes bytes) (if is_midi_file bytes then midi_outcomes (Some blocks) bytes else lines_outcomes
-        (Some blocks) (lines_of bytes))
+    (Some blocks) (lines_of bytes))
     (stream_early blocks bytes some) (either_early blocks (is_midi_file bytes) (midi_outcomes (Some blocks) bytes)
-        (lines_outcomes (Some blocks) (lines_of bytes)) (midi_early blocks bytes) (by_lines blocks (lines_of bytes)))
+    (lines_outcomes (Some blocks) (lines_of bytes)) (midi_early blocks bytes) (by_lines blocks (lines_of bytes)))

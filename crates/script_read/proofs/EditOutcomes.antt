@@ -118,13 +118,13 @@ stops_bad p blocks room lines fault b few is =
 
 request_outcomes : (p : Editing) (blocks : Option ℕ) (lines : List ParsedEdit) (block : ℕ) (what : EditRequestData) → IsEditing p blocks lines
     → edit_outcomes blocks lines (Requests block what) ≡ timed (time_fault blocks p.least block) (edit_place lines)
-        (answer_outcomes (edit_place lines) block (answered p.editor what))
+    (answer_outcomes (edit_place lines) block (answered p.editor what))
 unfolding edit_outcomes
 request_outcomes p blocks lines block what b =
     ap (λ (n : ℕ). timed (time_fault blocks n block) (edit_place lines) (answer_outcomes (edit_place lines) block (answered (history_after opened lines) what)))
-        (sym b.least)
+    (sym b.least)
     ∙ ap (λ (h : History). timed (time_fault blocks p.least block) (edit_place lines) (answer_outcomes (edit_place lines) block (answered h what)))
-        (sym b.history)
+    (sym b.history)
 
 -- a line whose block is wrong
 pub stops_time : (p : Editing) (blocks : Option ℕ) (room : ℕ) (lines : List ParsedEdit) (block : ℕ) (what : EditRequestData) (why : ScriptKind)
@@ -147,7 +147,7 @@ answer_comes p blocks lines block what answer b time is =
 -- the editor refuses
 pub stops_answer : (p : Editing) (blocks : Option ℕ) (room : ℕ) (lines : List ParsedEdit) (block : ℕ) (what : EditRequestData) (fault : ScriptFault)
     → IsEditing p blocks lines → length p.script ≤ room → time_fault blocks p.least block ≡ None
-        → IsRefusal fault (place.Line p.number) (answered p.editor what)
+    → IsRefusal fault (place.Line p.number) (answered p.editor what)
     → Stops fault room (edits_after blocks [] (lines ++ Requests block what ∷ []))
 stops_answer p blocks room lines block what (faults.Refused at why) b few time is =
     subst (λ (x : Place). Stops (faults.Refused x why) room (edits_after blocks [] (lines ++ Requests block what ∷ []))) (sym is.0)
@@ -173,7 +173,7 @@ pub stops_give : (p : Editing) (blocks : Option ℕ) (room : ℕ) (lines : List 
 stops_give p blocks room lines block what next command fault b time is stops =
     stops_in_line p blocks room lines (Requests block what) fault b
     (subst (λ (os : List Outcome). Stops fault room (all_given p.script ++ os)) (sym (answer_comes p blocks lines block what (Becomes next command) b time is))
-        stops)
+    stops)
 
 -- ---- whole texts
 
@@ -183,7 +183,7 @@ within_none p blocks text b = record { lines = []; split = refl; after = b }
 -- one more line of a text was read
 pub within_more : (p : Editing) (blocks : Option ℕ) (lines : List ParsedEdit) (rest line after text : List ℕ) → split 10 rest ≡ line ∷ split 10 after
     → lines ++ parsed_edits (lines_of rest) ≡ parsed_edits (lines_of text) → IsEditing p blocks (lines ++ parsed_edit (without_return line) ∷ [])
-        → IsWithinEdits p blocks after text
+    → IsWithinEdits p blocks after text
 within_more p blocks lines rest line after text e split b = record {
   lines = lines ++ parsed_edit (without_return line) ∷ [];
   split = append_assoc lines (parsed_edit (without_return line) ∷ []) (parsed_edits (lines_of after))
@@ -201,7 +201,7 @@ stopped_in_text why room blocks lines later all e stops =
 pub stopped_at_line : (why : ScriptFault) (room : ℕ) (blocks : Option ℕ) (lines : List ParsedEdit) (rest line after text : List ℕ) → split 10 rest ≡ line
     ∷ split 10 after
     → lines ++ parsed_edits (lines_of rest) ≡ parsed_edits (lines_of text)
-        → Stops why room (edits_after blocks [] (lines ++ parsed_edit (without_return line) ∷ []))
+    → Stops why room (edits_after blocks [] (lines ++ parsed_edit (without_return line) ∷ []))
     → Stops why room (edit_text_outcomes blocks (parsed_edits (lines_of text)))
 stopped_at_line why room blocks lines rest line after text e split stops =
     stopped_in_text why room blocks (lines ++ parsed_edit (without_return line) ∷ []) (parsed_edits (lines_of after)) (parsed_edits (lines_of text))

@@ -172,7 +172,7 @@ pub stops_line : (p : Progress) (blocks : Option ℕ) (room : ℕ) (lines : List
     → Stops (faults.Refused (place.Line p.number) why) room (outcomes_after blocks [] (lines ++ s ∷ []))
 stops_line p blocks room lines s why b few is = λ more.
     ap (λ (os : List Outcome). plan_of room (os ++ more)) (outcomes_more blocks lines s ∙ ap (λ (os : List Outcome). os ++ line_outcomes blocks lines s) b.given
-        ∙ ap (λ (os : List Outcome). all_given p.feed.script ++ os) is)
+    ∙ ap (λ (os : List Outcome). all_given p.feed.script ++ os) is)
     ∙ fails room p.feed.script (line_after lines) why more few
     ∙ ap (λ (n : ℕ). Refused (place.Line n) why) (sym b.number)
 
@@ -198,24 +198,24 @@ wrong_outcomes blocks lines = refl
 
 pub order_outcomes : (p : Progress) (blocks : Option ℕ) (lines : List ParsedLine) (block : ℕ) (command : CommandData) → IsAfter p blocks lines
     → line_outcomes blocks lines (Orders block command) ≡ timed (time_fault blocks p.least block) (line_after lines)
-        (Gives (planned_at block (curved p.curve command)) ∷ [])
+    (Gives (planned_at block (curved p.curve command)) ∷ [])
 unfolding line_outcomes
 order_outcomes p blocks lines block command b =
     ap (λ (n : ℕ). timed (time_fault blocks n block) (line_after lines) (Gives (planned_at block (curved (curve_after Linear lines) command)) ∷ []))
-        (sym b.least)
+    (sym b.least)
     ∙ ap (λ (c : Curve). timed (time_fault blocks p.least block) (line_after lines) (Gives (planned_at block (curved c command)) ∷ [])) (sym b.curve)
 
 pub feed_outcomes : (p : Progress) (blocks : Option ℕ) (lines : List ParsedLine) (block : ℕ) (bytes : List ℕ) → IsAfter p blocks lines
     → line_outcomes blocks lines (Feeds block bytes) ≡ timed (time_fault blocks p.least block) (line_after lines)
-        (fed_outcomes (λ stream. place.Line p.number) block p.curve (stream_of lines) bytes)
+    (fed_outcomes (λ stream. place.Line p.number) block p.curve (stream_of lines) bytes)
 unfolding line_outcomes
 feed_outcomes p blocks lines block bytes b =
     ap (λ (n : ℕ). timed (time_fault blocks n block) (line_after lines) (fed_outcomes (λ stream.
-        line_after lines) block (curve_after Linear lines) (stream_of lines) bytes)) (sym b.least)
+    line_after lines) block (curve_after Linear lines) (stream_of lines) bytes)) (sym b.least)
     ∙ ap (λ (c : Curve). timed (time_fault blocks p.least block) (line_after lines) (fed_outcomes (λ stream. line_after lines) block c (stream_of lines) bytes))
-        (sym b.curve)
+    (sym b.curve)
     ∙ ap (λ (n : ℕ). timed (time_fault blocks p.least block) (line_after lines) (fed_outcomes (λ stream. place.Line n) block p.curve (stream_of lines) bytes))
-        (sym b.number)
+    (sym b.number)
 
 pub timed_some : (fault : Option ScriptKind) (at : Place) (outcomes : List Outcome) (why : ScriptKind) → fault ≡ Some why
     → timed fault at outcomes ≡ Fails at why ∷ []
@@ -254,7 +254,7 @@ lines_last text e = ap ended e
 -- one more line of a text was read
 pub within_more : (p : Progress) (blocks : Option ℕ) (lines : List ParsedLine) (rest line after text : List ℕ) → split 10 rest ≡ line ∷ split 10 after
     → lines ++ parsed_lines (lines_of rest) ≡ parsed_lines (lines_of text) → IsAfter p blocks (lines ++ parsed (without_return line) ∷ [])
-        → IsWithin p blocks after text
+    → IsWithin p blocks after text
 within_more p blocks lines rest line after text e split b = record {
   lines = lines ++ parsed (without_return line) ∷ [];
   split = append_assoc lines (parsed (without_return line) ∷ []) (parsed_lines (lines_of after))
@@ -277,7 +277,7 @@ stopped_in_text why room blocks lines later all e stops =
 pub stopped_at_line : (why : ScriptFault) (room : ℕ) (blocks : Option ℕ) (lines : List ParsedLine) (rest line after text : List ℕ) → split 10 rest ≡ line
     ∷ split 10 after
     → lines ++ parsed_lines (lines_of rest) ≡ parsed_lines (lines_of text)
-        → Stops why room (outcomes_after blocks [] (lines ++ parsed (without_return line) ∷ []))
+    → Stops why room (outcomes_after blocks [] (lines ++ parsed (without_return line) ∷ []))
     → Stops why room (text_outcomes blocks (parsed_lines (lines_of text)))
 stopped_at_line why room blocks lines rest line after text e split stops =
     stopped_in_text why room blocks (lines ++ parsed (without_return line) ∷ []) (parsed_lines (lines_of after)) (parsed_lines (lines_of text))

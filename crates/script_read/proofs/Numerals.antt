@@ -54,4 +54,4 @@ unfolding number_to
 number_read most value word some short digits is small =
     rw is (passed (all_ascii_digits word) (nat_lt 0 (length word)) (nat_le (length word) 10) (nat_le (digits_value 10 word) most) _
     (own.from word (own_by_index.to word digits)) (lt-ltb 0 (length word) some) (le-leb (length word) 10 short)
-        (le-leb (digits_value 10 word) most (omega arith)))
+    (le-leb (digits_value 10 word) most (omega arith)))

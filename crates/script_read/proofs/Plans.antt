@@ -102,9 +102,11 @@ neither false false xs ys zs x y either = absurd (cc)
 pub nothing_alone : (blocks : Option ℕ) (room : ℕ) (first : List ℕ) (script : List PlannedData)
     → (bytes_eq first (codes "midi 1") || bytes_eq first (codes "edit 1")) ≡ true → script ≡ []
     → (lines_outcomes blocks (first ∷ []) ≡ all_given script) × (length script ≤ room)
-nothing_alone blocks room first script known none =
-    (neither (bytes_eq first (codes "midi 1")) (bytes_eq first (codes "edit 1")) (text_outcomes blocks []) (edit_text_outcomes blocks []) (at_first kind.Kind)
-        (nothing_comes blocks) (no_edits blocks) known ∙ ap all_given (sym none), rw none (omega arith))
+nothing_alone blocks room first script known none = (
+  neither (bytes_eq first (codes "midi 1")) (bytes_eq first (codes "edit 1")) (text_outcomes blocks []) (edit_text_outcomes blocks []) (at_first kind.Kind)
+      (nothing_comes blocks) (no_edits blocks) known ∙ ap all_given (sym none),
+  rw none (omega arith),
+)
 
 unknown : (a b : Bool) (xs ys zs : List Outcome) → (a || b) ≡ false → cond a xs (cond b ys zs) ≡ zs
 unknown true b xs ys zs e = absurd (cc)
@@ -116,7 +118,7 @@ pub unknown_refused : (fault : ScriptFault) (room : ℕ) (blocks : Option ℕ) (
     → fault ≡ faults.Refused (place.Line 1) kind.Kind → Stops fault room (lines_outcomes blocks (first ∷ []))
 unknown_refused fault room blocks first e is =
     refused_with fault room kind.Kind _ (unknown (bytes_eq first (codes "midi 1")) (bytes_eq first (codes "edit 1")) (text_outcomes blocks [])
-        (edit_text_outcomes blocks []) (at_first kind.Kind) e) is
+    (edit_text_outcomes blocks []) (at_first kind.Kind) e) is
 
 -- a MIDI file
 pub midi_settled : (result : Result (List PlannedData) ScriptFault) (room : ℕ) (blocks : Option ℕ) (bytes : List ℕ) → is_stream bytes ≡ false

@@ -42,7 +42,7 @@ pub stopped_within : (why : ScriptFault) (room at : ℕ) (bytes : List ℕ) → 
 unfolding stream_outcomes
 stopped_within why room at bytes stops =
     let parts : fed_outcomes place_in 0 Linear [] bytes ≡ fed_outcomes place_in 0 Linear [] (take at bytes)
-        ++ fed_outcomes place_in 0 Linear (take at bytes) (drop at bytes) =
+    ++ fed_outcomes place_in 0 Linear (take at bytes) (drop at bytes) =
     ap (fed_outcomes place_in 0 Linear []) (sym (take-append-drop at bytes)) ∙ fed_append place_in 0 Linear [] (take at bytes) (drop at bytes) in
     subst (λ (os : List Outcome). Stops why room (os ++ stream_end bytes)) (sym parts)
     (stops_more why room _ (stream_end bytes) (stops_more why room _ _ stops))

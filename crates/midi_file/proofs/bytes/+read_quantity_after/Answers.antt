@@ -18,7 +18,7 @@ pub returns-else-byte-lt128-clause-ok : goal.returns-else-byte-lt128-clause-ok
 returns-else-byte-lt128-clause-ok t c =
     let fits : c.in-Some.byte.now < 256 = Fits-lt-pow (subst (λ (bs : List ℕ). Fits w8 (get_or bs 0 0)) c.in-Some.ensures.cases.0 (c.type_inv.bytes 0)) in
     let next : quantity_after c.args.more c.args.so_far c.args.bytes.now ≡ quantity_after (c.args.more - 1) (c.args.so_far * 128 + c.from.result)
-        c.in-Some.rest.now =
+    c.in-Some.rest.now =
     more_bytes c.args.more c.args.so_far c.args.bytes.now c.in-Some.byte.now c.in-Some.rest.now (omega arith) c.in-Some.ensures.cases.0 (omega arith) fits
     ∙ ap (λ (n : ℕ). quantity_after (c.args.more - 1) (c.args.so_far * 128 + n) c.in-Some.rest.now) (sym c.from.ensures) in
     if_ok_more c.read_quantity_after.result c.read_quantity_after.ensures.ok (λ r is. next ∙ is)
@@ -27,7 +27,7 @@ pub returns-else-byte-lt128-clause-err : goal.returns-else-byte-lt128-clause-err
 returns-else-byte-lt128-clause-err t c =
     let fits : c.in-Some.byte.now < 256 = Fits-lt-pow (subst (λ (bs : List ℕ). Fits w8 (get_or bs 0 0)) c.in-Some.ensures.cases.0 (c.type_inv.bytes 0)) in
     let next : quantity_after c.args.more c.args.so_far c.args.bytes.now ≡ quantity_after (c.args.more - 1) (c.args.so_far * 128 + c.from.result)
-        c.in-Some.rest.now =
+    c.in-Some.rest.now =
     more_bytes c.args.more c.args.so_far c.args.bytes.now c.in-Some.byte.now c.in-Some.rest.now (omega arith) c.in-Some.ensures.cases.0 (omega arith) fits
     ∙ ap (λ (n : ℕ). quantity_after (c.args.more - 1) (c.args.so_far * 128 + n) c.in-Some.rest.now) (sym c.from.ensures) in
     if_err_more c.read_quantity_after.result c.read_quantity_after.ensures.err (λ why is. next ∙ is)

@@ -23,7 +23,7 @@ loop-timed-preserved c = record {
       c.in-Some.timed c.next.new.self.rest.items
       c.loop-timed.script c.give_at.new.script _ c.into_parts-tick.result.0 c.into_parts-tick.result.1 c.block.result (content c.in-Command.command)
       c.loop-timed.invariant.planned c.in-Some.ensures.steps.0 (rw c.in-Command.is at c.into_parts-tick.ensures.parts) c.advance.ensures.time
-          c.advance.ensures.tick c.advance.ensures.tempo
+      c.advance.ensures.tick c.advance.ensures.tempo
       c.block.ensures c.in-Ok.ensures.given;
   few = c.in-Ok.ensures.few;
   due = omega (arith, c.in-Ok.ensures.due);
@@ -32,13 +32,13 @@ loop-timed-preserved c = record {
 pub returns-in-Err : goal.returns-in-Err
 returns-in-Err c =
     stopped_command_at c.loop-timed.clock c.advance.new.self c.args.bounds.blocks c.args.division c.args.bounds.room _ c.loop-timed.timed-iterator.rest.items
-        c.in-Some.timed c.next.new.self.rest.items
+    c.in-Some.timed c.next.new.self.rest.items
     c.loop-timed.script _ c.in-Err.fault c.into_parts-tick.result.0 c.into_parts-tick.result.1 c.block.result (content c.in-Command.command)
     c.loop-timed.invariant.planned c.in-Some.ensures.steps.0 (rw c.in-Command.is at c.into_parts-tick.ensures.parts) c.advance.ensures.time c.block.ensures
-        c.in-Err.ensures.stops
+    c.in-Err.ensures.stops
 
 pub returns : goal.returns
 returns c =
     all_planned c.loop-timed.clock c.args.bounds.blocks c.args.division c.args.bounds.room _ c.loop-timed.timed-iterator.rest.items c.loop-timed.script _
-        c.loop-timed.invariant.planned
+    c.loop-timed.invariant.planned
     (omega (arith, c.loop-timed.timed-iterator.rest.ok.0, c.in-None.ensures.steps.0)) c.loop-timed.invariant.few

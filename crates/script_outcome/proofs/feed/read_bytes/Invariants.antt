@@ -11,7 +11,7 @@ invariant-loop-byte g l = record {
   reads : (stream : List ℕ) → Reads l.initial.feed.reader stream → Reads l.feed.reader (stream ++ take l.byte-index l.bytes);
   given : (stream : List ℕ) → Reads l.initial.feed.reader stream
       → all_given l.feed.script ≡ all_given l.initial.feed.script ++ fed_outcomes (λ before.
-          l.spot.place) l.spot.block (curve_of l.map) stream (take l.byte-index l.bytes);
+      l.spot.place) l.spot.block (curve_of l.map) stream (take l.byte-index l.bytes);
   few : length l.feed.script ≤ l.room;
   due : last_due l.feed.script ≤ l.spot.block;
 }

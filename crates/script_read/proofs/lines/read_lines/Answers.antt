@@ -23,17 +23,17 @@ loop-line-preserved g c =
       within = within_more c.apply_line.new.progress c.args.bounds.blocks w.lines c.loop-line.rest.now c.in-Some.line.now c.in-Some.after.now c.args.text.now
           c.in-Some.ensures.cut w.split
           (subst (λ (l : List ℕ). IsAfter c.apply_line.new.progress c.args.bounds.blocks (w.lines ++ parsed l ∷ [])) c.without_return.ensures
-              (c.in-Ok-apply_line.ensures.after w.lines w.after));
+          (c.in-Ok-apply_line.ensures.after w.lines w.after));
     }
 
 pub returns-in-Err-apply_line : goal.returns-in-Err-apply_line
 returns-in-Err-apply_line g c =
     let w = c.loop-line.invariant.within in
     stopped_at_line c.in-Err-apply_line.fault c.args.bounds.room c.args.bounds.blocks w.lines c.loop-line.rest.now c.in-Some.line.now c.in-Some.after.now
-        c.args.text.now
+    c.args.text.now
     c.in-Some.ensures.cut w.split
     (subst (λ (l : List ℕ). Stops c.in-Err-apply_line.fault c.args.bounds.room (outcomes_after c.args.bounds.blocks [] (w.lines ++ parsed l ∷ [])))
-        c.without_return.ensures
+    c.without_return.ensures
     (c.in-Err-apply_line.ensures.stops w.lines w.after))
 
 pub returns-in-Ok-apply_line-2 : goal.returns-in-Ok-apply_line-2
@@ -50,5 +50,5 @@ pub returns-in-Err-apply_line-2 : goal.returns-in-Err-apply_line-2
 returns-in-Err-apply_line-2 g c =
     let w = c.loop-line.invariant.within in
     stopped_at_last c.in-Err-apply_line-2.fault c.args.bounds.room c.args.bounds.blocks w.lines c.loop-line.rest.now c.args.text.now c.in_default.ensures.whole
-        w.split
+    w.split
     (c.in-Err-apply_line-2.ensures.stops w.lines w.after)

@@ -9,7 +9,7 @@ pub returns-in-Some : goal.returns-in-Some
 returns-in-Some g c =
     subst (λ (ls : List (List ℕ)). Settles c.read_kind.result c.args.bounds.room (lines_outcomes c.args.bounds.blocks ls))
     (ap (λ (l : List ℕ). l ∷ lines_of c.in-Some.rest.now) c.without_return.ensures
-        ∙ sym (lines_first c.args.text.now c.in-Some.first.now c.in-Some.rest.now c.in-Some.ensures.cut))
+    ∙ sym (lines_first c.args.text.now c.in-Some.first.now c.in-Some.rest.now c.in-Some.ensures.cut))
     c.read_kind.ensures
 
 pub returns-in-None : goal.returns-in-None

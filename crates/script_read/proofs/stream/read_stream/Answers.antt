@@ -33,7 +33,7 @@ returns-in-Err-read_byte g c =
     stopped_within c.in-Err-read_byte.fault c.args.room (at + 1) bytes
     (subst (λ (os : List Outcome). Stops c.in-Err-read_byte.fault c.args.room os)
     (ap (λ (os : List Outcome). all_given c.loop-at.feed.script ++ os) (ended_same c.loop-at.start (begun_at (take at bytes)) (curve_of c.args.map.now)
-        (ended_message (take at bytes) byte) i.start c.requires.linear)
+    (ended_message (take at bytes) byte) i.start c.requires.linear)
     ∙ sym (fed_next bytes at byte c.loop-at.feed.script c.loop-at-test.true refl i.given))
     (c.in-Err-read_byte.ensures.stops (take at bytes) i.reads))
 
@@ -51,7 +51,7 @@ loop-at-preserved g c =
       given = fed_next bytes at byte c.loop-at.feed.script c.loop-at-test.true refl i.given
           ∙ sym (c.in-Ok-read_byte.ensures.given (take at bytes) i.reads
           ∙ ap (λ (os : List Outcome). all_given c.loop-at.feed.script ++ os)
-              (ended_same c.loop-at.start (begun_at (take at bytes)) (curve_of c.args.map.now) (ended_message (take at bytes) byte) i.start c.requires.linear));
+          (ended_same c.loop-at.start (begun_at (take at bytes)) (curve_of c.args.map.now) (ended_message (take at bytes) byte) i.start c.requires.linear));
       few = c.in-Ok-read_byte.ensures.few;
       due = c.in-Ok-read_byte.ensures.due;
     }
@@ -63,6 +63,6 @@ returns g c =
     stream_settled c.end.result c.args.bytes.now c.args.room c.loop-at.start c.loop-at.feed.script
     (ap (fed_outcomes (λ before. place.Byte (begun_at before)) 0 Linear []) (sym all) ∙ i.given) i.few (i.start ∙ ap begun_at all)
     c.end.ensures.given (on_ok_more c.end.result c.end.ensures.whole (λ h.
-        h c.args.bytes.now (subst (λ (s : List ℕ). Reads c.loop-at.feed.reader s) all i.reads)))
+    h c.args.bytes.now (subst (λ (s : List ℕ). Reads c.loop-at.feed.reader s) all i.reads)))
     c.end.ensures.cut (on_err_more c.end.result c.end.ensures.unfinished (λ h.
-        h c.args.bytes.now (subst (λ (s : List ℕ). Reads c.loop-at.feed.reader s) all i.reads)))
+    h c.args.bytes.now (subst (λ (s : List ℕ). Reads c.loop-at.feed.reader s) all i.reads)))

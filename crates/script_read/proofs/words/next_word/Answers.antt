@@ -6,7 +6,7 @@ pub returns-then-not-is_empty-clause-after : goal.returns-then-not-is_empty-clau
 returns-then-not-is_empty-clause-after c =
     sym c.loop-word.invariant.text
     ∙ text_first c.loop-word.rest.now c.in-Some.word.now c.in-Some.after.now c.in-Some.ensures.cut
-        (is_some _ c.is_empty.result c.is_empty.ensures c.if-not-is_empty.true)
+    (is_some _ c.is_empty.result c.is_empty.ensures c.if-not-is_empty.true)
 
 pub loop-word-preserved : goal.loop-word-preserved
 loop-word-preserved c = record {

@@ -15,7 +15,7 @@ returns-in-Some-Command-clause-keeps g c = (c.send.ensures.done (port_curve c.ar
 pub returns-in-Some-Message-clause-received : goal.returns-in-Some-Message-clause-received
 returns-in-Some-Message-clause-received g c = λ done stream u.
     kept_message_told c.args.self.now.reader _ c.args.self.now.kept c.handle.new.kept done stream c.sysex.result.now _ _ _ c.args.end.now c.handle.new.end
-        c.handle.result u
+    c.handle.result u
     c.in-Some-Message.ensures.value c.in-Some-Message.field-0-is c.into_message.ensures.message c.into_message.ensures.range
     (c.sysex.ensures.bytes stream u.reads) c.handle.ensures.done c.handle.ensures.message
 

@@ -14,7 +14,7 @@ returns-in-Some-clause-received g c = λ done stream u.
     let reads = c.in-Some.ensures.stands stream u.reads in
     let told =
     byte_told c.args.self.now.reader c.feed.new.self _ c.handle-fed.new.kept done stream c.sysex.result.now c.args.byte m c.args.end.now c.handle-fed.new.end
-        c.handle-fed.result
+    c.handle-fed.result
     (rw c.requires.clear at u) reads (c.in-Some.ensures.answer stream u.reads) c.in-Some.ensures.range (c.in-Some.ensures.bytes stream u.reads)
     (c.sysex.ensures.bytes _ reads) c.handle-fed.ensures.done c.handle-fed.ensures.message in
     (told.0, (told.1.0, with_used _ _ _ _ 1 told.1.1))

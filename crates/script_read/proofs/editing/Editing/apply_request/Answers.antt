@@ -7,7 +7,7 @@ use Rattle.script_read.proofs.editing.Editing.apply_request.Goals as goal
 pub returns-in-Some-clause-stops : goal.returns-in-Some-clause-stops
 returns-in-Some-clause-stops c = λ lines b.
     stops_time c.args.self.now c.args.bounds.blocks c.args.bounds.room lines c.args.block (request_data c.args.request) c.in-Some.kind c.refused.result b
-        c.requires.order.few
+    c.requires.order.few
     (sym c.fault_of_block.ensures ∙ c.in-Some.is) c.refused.ensures
 
 pub returns-in-Err-clause-stops : goal.returns-in-Err-clause-stops
@@ -23,5 +23,5 @@ returns-in-Ok-give-clause-after c = λ lines b.
 pub returns-in-Err-give-clause-stops : goal.returns-in-Err-give-clause-stops
 returns-in-Err-give-clause-stops c = λ lines b.
     stops_give c.args.self.now c.args.bounds.blocks c.args.bounds.room lines c.args.block (request_data c.args.request) c.answer.new.editor
-        (content c.in-Ok.command) c.in-Err-give.fault b
+    (content c.in-Ok.command) c.in-Err-give.fault b
     (sym c.fault_of_block.ensures ∙ c.in-None.is) c.in-Ok.ensures.answered c.in-Err-give.ensures.stops

@@ -16,7 +16,7 @@ returns-in-Some-clause-stops g c = λ lines b.
     subst (λ (why : ScriptFault). Stops why c.args.bounds.room (outcomes_after c.args.bounds.blocks [] (lines ++ parsed ∷ []))) (sym c.refused.ensures)
     (stops_line p c.args.bounds.blocks c.args.bounds.room lines parsed c.in-Some.kind b c.requires.order.few
     (feed_outcomes p c.args.bounds.blocks lines c.args.block c.args.bytes.now b
-        ∙ timed_some _ (line_after lines) _ c.in-Some.kind (sym c.fault_of_block.ensures ∙ c.in-Some.is)))
+    ∙ timed_some _ (line_after lines) _ c.in-Some.kind (sym c.fault_of_block.ensures ∙ c.in-Some.is)))
 
 pub returns-in-Ok-clause-after : goal.returns-in-Ok-clause-after
 returns-in-Ok-clause-after g c = λ lines b.
@@ -26,7 +26,7 @@ returns-in-Ok-clause-after g c = λ lines b.
     (c.in-Ok.ensures.given (stream_of lines) b.reads
     ∙ ap (λ (x : Curve). all_given p.feed.script ++ fed_outcomes (λ before. place.Line p.number) c.args.block x (stream_of lines) bytes) c.map-map.ensures
     ∙ ap (λ (os : List Outcome). all_given p.feed.script ++ os) (sym (feed_outcomes p c.args.bounds.blocks lines c.args.block bytes b
-        ∙ timed_none _ (line_after lines) _ (sym c.fault_of_block.ensures ∙ c.in-None.is))))
+    ∙ timed_none _ (line_after lines) _ (sym c.fault_of_block.ensures ∙ c.in-None.is))))
 
 pub returns-in-Err-clause-stops : goal.returns-in-Err-clause-stops
 returns-in-Err-clause-stops g c = λ lines b.
@@ -36,5 +36,5 @@ returns-in-Err-clause-stops g c = λ lines b.
     (subst (λ (os : List Outcome). Stops c.in-Err.fault c.args.bounds.room os)
     (ap (λ (x : Curve). all_given p.feed.script ++ fed_outcomes (λ before. place.Line p.number) c.args.block x (stream_of lines) bytes) c.map-map.ensures
     ∙ ap (λ (os : List Outcome). all_given p.feed.script ++ os) (sym (feed_outcomes p c.args.bounds.blocks lines c.args.block bytes b
-        ∙ timed_none _ (line_after lines) _ (sym c.fault_of_block.ensures ∙ c.in-None.is))))
+    ∙ timed_none _ (line_after lines) _ (sym c.fault_of_block.ensures ∙ c.in-None.is))))
     (c.in-Err.ensures.stops (stream_of lines) b.reads))

@@ -9,4 +9,4 @@ pub returns-clause-after : goal.returns-clause-after
 returns-clause-after c = λ blocks lines b.
     after_more c.args.self.now _ blocks lines (Maps c.args.curve) b (rw append-nil b.reads) refl refl refl refl
     (sym (ap (λ (os : List Outcome). all_given c.args.self.now.feed.script ++ os) (map_outcomes blocks lines c.args.curve)
-        ∙ append-nil (all_given c.args.self.now.feed.script)))
+    ∙ append-nil (all_given c.args.self.now.feed.script)))
