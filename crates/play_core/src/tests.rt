@@ -571,7 +571,7 @@ impl Gate for Meeting {
     fn done(&self, _actor: u32) {}
 }
 
-/// The taking half waits until the script had its turn, for a while: it has none where nothing is due.
+/// The taking half waits in each of the first three turns until the script had its own: it has something due in no more than these.
 #[derive(Drop)]
 struct AfterScript {
     turns: AtomicU64,
@@ -581,11 +581,12 @@ struct AfterScript {
 impl Gate for AfterScript {
     fn pass(&self, actor: u32) {
         if actor == 1 {
-            let wanted = self.passes.fetch_add(1, Ordering::SeqCst).wrapping_add(1);
+            let pass = self.passes.fetch_add(1, Ordering::SeqCst).wrapping_add(1);
             for _ in 0..10_000_000u64 {
-                if self.turns.load(Ordering::SeqCst) >= wanted {
+                if self.turns.load(Ordering::SeqCst) >= pass.min(3) {
                     break;
                 }
+                thread::yield_now();
             }
         }
     }
