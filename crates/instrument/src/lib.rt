@@ -1,8 +1,8 @@
 //! The instrument: sixteen slots for notes, played block by block.
 #![tactic(auto)]
 
-mod editor_law;
 mod blocks;
+mod editor_law;
 mod instrument;
 mod mix;
 mod modulation;

@@ -3,7 +3,7 @@ use Rattle.std.proofs.Common.{ℕ, ℤ, pos, ◌+ℤ◌, ◌*ℤ◌, List, lengt
 use Rattle.std.proofs.Common.{get_or-set_same, length-set}
 use Rattle.std.proofs.lemmas.Int.{ints, int_wrap-add_left, int_wrap_fits}
 use Rattle.std.proofs.Common.{SFits}
-use Rattle.dx_tables.specs.Numbers.{wrap, index_of, rest_of}
+use Rattle.dx_tables.specs.Numbers.{wrap, index_of, fraction_of}
 use Rattle.operator_kernel.specs.declared.OpBlock.{OpBlock}
 use Rattle.operator_kernel.specs.Operator.{phase_at}
 use Rattle.operator_kernel.specs.Indices.{AreIndices}
@@ -19,7 +19,7 @@ AreIndices-none op x ps rs e f = record {
 }
 
 pub AreIndices-next : (op : OpBlock) (x : ℕ → ℤ) (n : ℕ) (ps rs : List ℕ) (p : ℤ) (a b : ℕ) → n < 64 → AreIndices op x n ps rs → p ≡ phase_at op n (x n)
-    → a ≡ index_of p → b ≡ rest_of p → AreIndices op x (n + 1) (set ps n a) (set rs n b)
+    → a ≡ index_of p → b ≡ fraction_of p → AreIndices op x (n + 1) (set ps n a) (set rs n b)
 AreIndices-next op x n ps rs p a b lt m e f g = record {
   indices_len = simp length-set m.indices_len;
   fractions_len = simp length-set m.fractions_len;
@@ -28,7 +28,7 @@ AreIndices-next op x n ps rs p a b lt m e f g = record {
       (let l : n < length ps = rw m.indices_len lt in rw get_or-set_same (f ∙ ap index_of e));
   fraction = below_more _ _
       (λ j h. let ne : j ≢ n = omega arith in rw get_or-set_other (m.fraction j h))
-      (let l : n < length rs = rw m.fractions_len lt in rw get_or-set_same (g ∙ ap rest_of e));
+      (let l : n < length rs = rw m.fractions_len lt in rw get_or-set_same (g ∙ ap fraction_of e));
 }
 
 -- the running phase

@@ -116,7 +116,8 @@ pub kept_set : (ps : List FeedbackPath) (i : ℕ) (new : FeedbackPath) → lengt
 kept_set ps i new e lt eo ef = λ k kl. elim (cases_eq k i) [
   | inl s ↦
       let l : i < length ps = omega (arith, e) in
-      let P : ℕ → Type 0 = λ x. ((get_or (set ps i new) x no_path).op ≡ (path_at ps x).op) × ((get_or (set ps i new) x no_path).feedback ≡ (path_at ps x).feedback) in
+      let P : ℕ → Type 0 = λ x. ((get_or (set ps i new) x no_path).op ≡ (path_at ps x).op)
+      × ((get_or (set ps i new) x no_path).feedback ≡ (path_at ps x).feedback) in
       subst P (sym s) (rw (get_or-set_same ps i new no_path l) (eo, ef))
   | inr ne ↦ rw (get_or-set_other ps i k new no_path ne) (refl, refl)
 ]

@@ -4,7 +4,7 @@ use Rattle.std.proofs.Common.{◌≤◌, ◌≡◌, ◌∙◌, ap, add-one, List
 use Rattle.std.specs.Int.{int_shr}
 use lib.Lanes.{Each1}
 use Rattle.std.proofs.lemmas.Int.{to_z-of_z, int_wrap_fits, SFits-int_wrap, wrapping_add_is}
-use Rattle.dx_tables.specs.Numbers.{wrap, residue, index_of, rest_of}
+use Rattle.dx_tables.specs.Numbers.{wrap, residue, index_of, fraction_of}
 use Rattle.dx_tables.specs.Sine.{sine}
 use Rattle.dx_tables.proofs.Ranges.{Within, abs_Within, Within_abs, Within-mul, Within-add, Within-shr, Within-scaled, fits_from_Within}
 use Rattle.operator_kernel.specs.declared.OpBlock.{OpBlock}
@@ -33,7 +33,7 @@ pub bits_are : (xs : List ℤ) (bits : List ℕ) → length xs ≡ 4 → Each1 (
 bits_are xs bits n f e = e ∙ ap (map residue) (lanes_read xs f) ∙ ap (map residue) (four_is (pos 0) xs n)
 
 -- the sine of a phase
-pub sine_lane : (p : ℤ) (i l : ℕ) → i ≡ index_of p → l ≡ rest_of p → to_z w64 (of_z w64 (sine_past i l)) ≡ sine p
+pub sine_lane : (p : ℤ) (i l : ℕ) → i ≡ index_of p → l ≡ fraction_of p → to_z w64 (of_z w64 (sine_past i l)) ≡ sine p
 unfolding sine
 sine_lane p i l e f = rw (e, f) (sine_read (residue p))
 
