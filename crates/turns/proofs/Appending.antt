@@ -1,5 +1,6 @@
 -- The two files while bytes are appended to them.
-use Rattle.std.proofs.Common.{◌≡◌, ◌≢◌, ◌⊎◌, inl, inr, ℕ, ◌+◌, ◌≤◌, Bool, true, false, cond, List, [], ◌++◌, length, take, drop, refl, sym, ◌∙◌, ap, append_assoc, append-nil, length-append, arith}
+use Rattle.std.proofs.Common.{◌≡◌, ◌≢◌, ◌⊎◌, inl, inr, ℕ, ◌+◌, ◌≤◌, Bool, true, false, cond, List, [], ◌++◌, length, take, drop, refl, sym, ◌∙◌, ap}
+use Rattle.std.proofs.Common.{append_assoc, append-nil, length-append, arith}
 use Rattle.std.specs.Prelude.{Option, Some, None, option_map, unwrap_or, is_some}
 use Rattle.std.specs.Ordering.{nat_cmp}
 use Rattle.std.specs.FinMap.{get, insert, get-insert, same_map, slice_cmp-IsAntisymmetric, nat_cmp-IsAntisymmetric}
@@ -7,7 +8,8 @@ use Rattle.std.proofs.lemmas.Cmp.{nat_list_cmp_total}
 use Rattle.std.proofs.lemmas.List.{take-append-drop}
 use Rattle.std.proofs.Math.Seq.{take-append_seam}
 use Rattle.outside.specs.Files.{Files, content, appended, Lacks, AppendedSome}
-use Rattle.outside.proofs.Shelves.{same_name, same_name-same, get-insert_same, get-insert_other, get-first, appended_first, appended_again, then_appended, then_mapped, mapped_alike}
+use Rattle.outside.proofs.Shelves.{same_name, same_name-same, get-insert_same, get-insert_other, get-first, appended_first, appended_again, then_appended}
+use Rattle.outside.proofs.Shelves.{then_mapped, mapped_alike}
 use Rattle.turns.specs.Written.{both_appended, BothBegun}
 
 -- nothing after a file's own bytes
@@ -42,7 +44,8 @@ cut_off whole xs piece rest n is =
     ∙ append_assoc (xs ++ take n piece) (drop n piece) rest
 
 -- pieces one after the other after one file, where one stopped
-pub piece_stopped : (o before now : Option Files) (name so_far piece all rest : List ℕ) → before ≡ option_map (appended name so_far) o → AppendedSome name piece before now → all ≡ (so_far ++ piece) ++ rest
+pub piece_stopped : (o before now : Option Files) (name so_far piece all rest : List ℕ) → before ≡ option_map (appended name so_far) o
+    → AppendedSome name piece before now → all ≡ (so_far ++ piece) ++ rest
     → AppendedSome name all o now
 piece_stopped o before now name so_far piece all rest was (inl same) is =
     let at : all ≡ so_far ++ (piece ++ rest) = is ∙ append_assoc so_far piece rest in
@@ -50,7 +53,8 @@ piece_stopped o before now name so_far piece all rest was (inl same) is =
     inr (length so_far, omega (arith, l), same ∙ was ∙ ap (λ (bytes : List ℕ). option_map (appended name bytes) o) (sym (prefix all so_far (piece ++ rest) at)))
 piece_stopped o before now name so_far piece all rest was (inr (n, fits, more)) is =
     let at : all ≡ (so_far ++ take n piece) ++ (drop n piece ++ rest) = cut_off all so_far piece rest n is in
-    let l : length all ≡ length (so_far ++ take n piece) + length (drop n piece ++ rest) = ap length at ∙ length-append (so_far ++ take n piece) (drop n piece ++ rest) in
+    let l : length all ≡ length (so_far ++ take n piece) + length (drop n piece ++ rest) = ap length at
+    ∙ length-append (so_far ++ take n piece) (drop n piece ++ rest) in
     inr (
       length (so_far ++ take n piece),
       omega (arith, l),
@@ -71,17 +75,20 @@ module _ (sound order : List ℕ) (ne : sound ≢ order) where
       let x : List ℕ = content m sound ++ a in
       let x' : List ℕ = content m sound ++ (a ++ z) in
       let e : x ++ z ≡ x' = append_assoc (content m sound) a z in
-      let y : content (insert m sound x) order ++ b ≡ content (insert m sound x') order ++ b = ap (λ (ys : List ℕ). ys ++ b) (other_kept m x ∙ sym (other_kept m x')) in
+      let y : content (insert m sound x) order ++ b ≡ content (insert m sound x') order ++ b =
+      ap (λ (ys : List ℕ). ys ++ b) (other_kept m x ∙ sym (other_kept m x')) in
       appended_first m sound x order (content (insert m sound x) order ++ b) z ne ∙ (λ i. insert (insert m sound (e i)) order (y i))
 
   pub sound_grows : (o before now : Option Files) (a b z : List ℕ)
-      → before ≡ option_map (both_appended sound a order b) o → now ≡ option_map (appended sound z) before → now ≡ option_map (both_appended sound (a ++ z) order b) o
+      → before ≡ option_map (both_appended sound a order b) o → now ≡ option_map (appended sound z) before
+      → now ≡ option_map (both_appended sound (a ++ z) order b) o
   sound_grows o before now a b z was is =
       is ∙ ap (option_map (appended sound z)) was ∙ then_mapped (both_appended sound a order b) (appended sound z) o
       ∙ mapped_alike _ _ (λ m. after_both m a b z) o
 
   pub order_grows : (o before now : Option Files) (a b z : List ℕ)
-      → before ≡ option_map (both_appended sound a order b) o → now ≡ option_map (appended order z) before → now ≡ option_map (both_appended sound a order (b ++ z)) o
+      → before ≡ option_map (both_appended sound a order b) o → now ≡ option_map (appended order z) before
+      → now ≡ option_map (both_appended sound a order (b ++ z)) o
   order_grows o before now a b z was is =
       is ∙ ap (option_map (appended order z)) was ∙ then_mapped (both_appended sound a order b) (appended order z) o
       ∙ mapped_alike _ _ (λ m. appended_again (appended sound a m) order b z) o
@@ -102,27 +109,33 @@ module _ (sound order : List ℕ) (ne : sound ≢ order) where
       ap is_some (get-insert_same (appended sound a m) order (content (appended sound a m) order ++ b)) in
       cc
 
-  begun_at : (o now : Option Files) (a b samples lines rest rest' : List ℕ) → now ≡ option_map (both_appended sound a order b) o → samples ≡ a ++ rest → lines ≡ b ++ rest'
+  begun_at : (o now : Option Files) (a b samples lines rest rest' : List ℕ) → now ≡ option_map (both_appended sound a order b) o → samples ≡ a ++ rest
+      → lines ≡ b ++ rest'
       → BothBegun sound samples order lines o now
   begun_at o now a b samples lines rest rest' is at_a at_b =
       (length a, length b, is ∙ (λ i. option_map (both_appended sound (sym (prefix samples a rest at_a) i) order (sym (prefix lines b rest' at_b) i)) o))
 
   -- both are whole
-  pub whole_begun : (o now : Option Files) (samples lines : List ℕ) → now ≡ option_map (both_appended sound samples order lines) o → BothBegun sound samples order lines o now
+  pub whole_begun : (o now : Option Files) (samples lines : List ℕ) → now ≡ option_map (both_appended sound samples order lines) o
+      → BothBegun sound samples order lines o now
   whole_begun o now samples lines is = begun_at o now samples lines samples lines [] [] is (sym (append-nil samples)) (sym (append-nil lines))
 
   -- where an append stopped
 
-  pub sound_stopped : (o before now : Option Files) (a b z samples lines rest rest' : List ℕ) → before ≡ option_map (both_appended sound a order b) o → AppendedSome sound z before now
+  pub sound_stopped : (o before now : Option Files) (a b z samples lines rest rest' : List ℕ) → before ≡ option_map (both_appended sound a order b) o
+      → AppendedSome sound z before now
       → samples ≡ (a ++ z) ++ rest → lines ≡ b ++ rest' → BothBegun sound samples order lines o now
   sound_stopped o before now a b z samples lines rest rest' was (inl same) at_a at_b =
       begun_at o now a b samples lines (z ++ rest) rest' (same ∙ was) (at_a ∙ append_assoc a z rest) at_b
   sound_stopped o before now a b z samples lines rest rest' was (inr (n, fits, is)) at_a at_b =
-      begun_at o now (a ++ take n z) b samples lines (drop n z ++ rest) rest' (sound_grows o before now a b (take n z) was is) (cut_off samples a z rest n at_a) at_b
+      begun_at o now (a ++ take n z) b samples lines (drop n z ++ rest) rest' (sound_grows o before now a b (take n z) was is) (cut_off samples a z rest n at_a)
+      at_b
 
-  pub order_stopped : (o before now : Option Files) (a b z samples lines rest rest' : List ℕ) → before ≡ option_map (both_appended sound a order b) o → AppendedSome order z before now
+  pub order_stopped : (o before now : Option Files) (a b z samples lines rest rest' : List ℕ) → before ≡ option_map (both_appended sound a order b) o
+      → AppendedSome order z before now
       → samples ≡ a ++ rest → lines ≡ (b ++ z) ++ rest' → BothBegun sound samples order lines o now
   order_stopped o before now a b z samples lines rest rest' was (inl same) at_a at_b =
       begun_at o now a b samples lines rest (z ++ rest') (same ∙ was) at_a (at_b ∙ append_assoc b z rest')
   order_stopped o before now a b z samples lines rest rest' was (inr (n, fits, is)) at_a at_b =
-      begun_at o now a (b ++ take n z) samples lines rest (drop n z ++ rest') (order_grows o before now a b (take n z) was is) at_a (cut_off lines b z rest' n at_b)
+      begun_at o now a (b ++ take n z) samples lines rest (drop n z ++ rest') (order_grows o before now a b (take n z) was is) at_a
+      (cut_off lines b z rest' n at_b)

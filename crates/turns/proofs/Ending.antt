@@ -43,7 +43,8 @@ quotas_are line players fresh = same_number_lists line.quotas (map length (plans
       many : length line.quotas ≡ length (map length (plans_of players))
       many = sym (length-map (plans_of players) length ∙ long players ∙ fresh.0)
 
-player_played : (line : LineView) (t k : ℕ) (journal : List LoggedData) (p q : PlayerView) → p.end.line ≡ line → p.end.number ≡ k → HadTurns t journal k p q → HasPlayed line k p.left journal q
+player_played : (line : LineView) (t k : ℕ) (journal : List LoggedData) (p q : PlayerView) → p.end.line ≡ line → p.end.number ≡ k → HadTurns t journal k p q
+    → HasPlayed line k p.left journal q
 player_played line t k journal p q place number h = record {
   sent = h.sent;
   split = h.split;
@@ -51,11 +52,13 @@ player_played line t k journal p q place number h = record {
   line_is = h.line ∙ place;
   number = h.number ∙ number;
   logged = h.kept.many ∙ length-map h.sent (λ (c : PlannedData). c.due) ∙ sym (ap length h.list ∙ length-entries k 0 h.sent);
-  due = subst (λ (ds : List ℕ). AreDue ds (blocks_of k journal)) (sym (ap due_blocks h.split ∙ dues_append h.sent q.left)) (due_more (due_blocks h.sent) (due_blocks q.left) (blocks_of k journal) h.kept.due);
+  due = subst (λ (ds : List ℕ). AreDue ds (blocks_of k journal)) (sym (ap due_blocks h.split ∙ dues_append h.sent q.left))
+      (due_more (due_blocks h.sent) (due_blocks q.left) (blocks_of k journal) h.kept.due);
 }
 
 -- wherever the turns end
-pub have_played : (t : ℕ) (line : LineView) (before : List PlayerView) (r : RendererView) (players : List PlayerView) → AreFresh line before → AfterTurns t line before r players
+pub have_played : (t : ℕ) (line : LineView) (before : List PlayerView) (r : RendererView) (players : List PlayerView) → AreFresh line before
+    → AfterTurns t line before r players
     → HavePlayed line (plans_of before) r.journal players
 have_played t line before r players fresh h = record {
   many = h.many ∙ sym (long before);
@@ -70,9 +73,11 @@ have_played t line before r players fresh h = record {
 }
 
 -- the same of a journal that is the renderer's
-pub have_played_of : (t : ℕ) (line : LineView) (before : List PlayerView) (r : RendererView) (players : List PlayerView) (journal : List LoggedData) → AreFresh line before → AfterTurns t line before r players
+pub have_played_of : (t : ℕ) (line : LineView) (before : List PlayerView) (r : RendererView) (players : List PlayerView) (journal : List LoggedData)
+    → AreFresh line before → AfterTurns t line before r players
     → journal ≡ r.journal → HavePlayed line (plans_of before) journal players
-have_played_of t line before r players journal fresh h same = subst (λ (j : List LoggedData). HavePlayed line (plans_of before) j players) (sym same) (have_played t line before r players fresh h)
+have_played_of t line before r players journal fresh h same = subst (λ (j : List LoggedData).
+    HavePlayed line (plans_of before) j players) (sym same) (have_played t line before r players fresh h)
 
 below_left : (t : ℕ) (xs ys : List ℕ) → AllBelow t (xs ++ ys) → AllBelow t ys
 below_left t [] ys below = below
@@ -83,11 +88,14 @@ player_timed : (blocks k : ℕ) (journal : List LoggedData) (p q : PlayerView) �
 player_timed blocks k journal p q below h =
     let all : due_blocks p.left ≡ due_blocks h.sent ++ due_blocks q.left = ap due_blocks h.split ∙ dues_append h.sent q.left in
     subst (λ (ds : List ℕ). AreTimed p.end.line.places (others_of p.end) blocks ds (blocks_of k journal) q.end.refusals) (sym all)
-    (times p.end.line.places (others_of p.end) blocks (due_blocks h.sent) (due_blocks q.left) (blocks_of k journal) q.end.refusals (below_left blocks (due_blocks h.sent) (due_blocks q.left) (subst (AllBelow blocks) all below)) h.kept)
+    (times p.end.line.places (others_of p.end) blocks (due_blocks h.sent) (due_blocks q.left) (blocks_of k journal) q.end.refusals
+    (below_left blocks (due_blocks h.sent) (due_blocks q.left) (subst (AllBelow blocks) all below)) h.kept)
 
 -- after all turns
-pub are_on_time : (blocks : ℕ) (line : LineView) (before : List PlayerView) (r : RendererView) (players : List PlayerView) (journal : List LoggedData) → AreFresh line before
-    → ((k : ℕ) (d : PlayerView) → k < length before → AllBelow blocks (due_blocks (get_or before k d).left)) → AfterTurns blocks line before r players → journal ≡ r.journal
+pub are_on_time : (blocks : ℕ) (line : LineView) (before : List PlayerView) (r : RendererView) (players : List PlayerView) (journal : List LoggedData)
+    → AreFresh line before
+    → ((k : ℕ) (d : PlayerView) → k < length before → AllBelow blocks (due_blocks (get_or before k d).left)) → AfterTurns blocks line before r players
+    → journal ≡ r.journal
     → AreOnTime line blocks (plans_of before) journal players
 are_on_time blocks line before r players journal fresh below h same k d lt =
     let inside : k < length before = omega (arith, lt, long before) in

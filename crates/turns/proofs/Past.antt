@@ -21,5 +21,6 @@ at_most blocks (l ∷ ls) all =
     let first : l.block < blocks = All-head (λ x. x.block < blocks) l ls all in
     All-cons (λ x. x.block ≤ blocks - 1) l ls (omega (arith, first)) (at_most blocks ls (All-tail (λ x. x.block < blocks) l ls all))
 
-pub taken_below : (present blocks : ℕ) (journal : List LoggedData) → AreTakenUpTo present journal → All (λ l. l.block < blocks) journal → AreTakenUpTo (blocks - 1) journal
+pub taken_below : (present blocks : ℕ) (journal : List LoggedData) → AreTakenUpTo present journal → All (λ l. l.block < blocks) journal
+    → AreTakenUpTo (blocks - 1) journal
 taken_below present blocks journal taken all = record { order = taken.order; past = at_most blocks journal all }

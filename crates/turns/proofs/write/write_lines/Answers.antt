@@ -13,19 +13,29 @@ use Rattle.turns.proofs.Turning.{on_err}
 use Rattle.turns.proofs.write.write_lines.Goals as goal
 
 pub loop-logged-init : goal.loop-logged-init
-loop-logged-init g c = record { files = none_appended (g.S.Shelf.files c.args.shelf.now) c.args.order.now c.requires.told; writing = refl; reading = refl; failed = refl; reads = refl }
+loop-logged-init g c = record {
+  files = none_appended (g.S.Shelf.files c.args.shelf.now) c.args.order.now c.requires.told;
+  writing = refl;
+  reading =
+      refl;
+  failed = refl;
+  reads = refl;
+}
 
 pub order_line-requires : goal.order_line-requires
 order_line-requires g c =
-    item_has (λ (l : LoggedData). IsInRange l.entry.command) c.args.entries.now (journal_data c.args.entries.now) c.loop-logged.logged-index c.logged-item.result refl c.requires.range c.loop-logged-test.true c.logged-item.is
+    item_has (λ (l : LoggedData). IsInRange l.entry.command) c.args.entries.now (journal_data c.args.entries.now) c.loop-logged.logged-index
+    c.logged-item.result refl c.requires.range c.loop-logged-test.true c.logged-item.is
 
 pub returns-in-Err-clause-some : goal.returns-in-Err-clause-some
 returns-in-Err-clause-some g c =
     let i = c.loop-logged.logged-index in
     piece_stopped (g.S.Shelf.files c.args.shelf.now) (g.S.Shelf.files c.loop-logged.shelf) (g.S.Shelf.files c.append_all.new.shelf) c.args.order.now
-    (order_lines (journal_data (take i c.args.entries.now))) (order_line (logged_data c.logged-item.result)) (order_lines (journal_data c.args.entries.now)) (order_lines (journal_data (drop (i + 1) c.args.entries.now)))
+    (order_lines (journal_data (take i c.args.entries.now))) (order_line (logged_data c.logged-item.result)) (order_lines (journal_data c.args.entries.now))
+    (order_lines (journal_data (drop (i + 1) c.args.entries.now)))
     c.loop-logged.invariant.files
-    (subst (λ (bytes : List ℕ). AppendedSome c.args.order.now bytes (g.S.Shelf.files c.loop-logged.shelf) (g.S.Shelf.files c.append_all.new.shelf)) (c.as_slice.ensures.value ∙ c.order_line.ensures) c.in-Err.ensures.some)
+    (subst (λ (bytes : List ℕ). AppendedSome c.args.order.now bytes (g.S.Shelf.files c.loop-logged.shelf) (g.S.Shelf.files c.append_all.new.shelf))
+    (c.as_slice.ensures.value ∙ c.order_line.ensures) c.in-Err.ensures.some)
     (lines_split c.args.entries.now i c.logged-item.result c.loop-logged-test.true c.logged-item.is)
 
 pub returns-in-Err-clause-cause : goal.returns-in-Err-clause-cause
@@ -42,10 +52,12 @@ loop-logged-preserved g c =
     let e = c.in-Ok.ensures in
     let o = g.S.Shelf.files c.args.shelf.now in
     record {
-      files = e.all ∙ ap (λ (bytes : List ℕ). option_map (appended c.args.order.now bytes) (g.S.Shelf.files c.loop-logged.shelf)) (c.as_slice.ensures.value ∙ c.order_line.ensures)
+      files = e.all ∙ ap (λ (bytes : List ℕ). option_map (appended c.args.order.now bytes) (g.S.Shelf.files c.loop-logged.shelf)) (c.as_slice.ensures.value
+          ∙ c.order_line.ensures)
           ∙ ap (option_map (appended c.args.order.now (order_line (logged_data c.logged-item.result)))) i.files
           ∙ then_appended o c.args.order.now (order_lines (journal_data (take n c.args.entries.now))) (order_line (logged_data c.logged-item.result))
-          ∙ ap (λ bytes. option_map (appended c.args.order.now bytes) o) (sym (lines_push c.args.entries.now n c.logged-item.result c.loop-logged-test.true c.logged-item.is));
+          ∙ ap (λ bytes. option_map (appended c.args.order.now bytes) o) (sym
+          (lines_push c.args.entries.now n c.logged-item.result c.loop-logged-test.true c.logged-item.is));
       writing = e.cause.kept ∙ i.writing;
       reading = e.cause.other ∙ i.reading;
       failed = e.failed_kept ∙ i.failed;
