@@ -22,6 +22,7 @@ pub fn new_players(
     ensures fresh { IfOk result (λ players. AreFresh line.now players.items) }
     ensures plans { IfOk result (λ players. plans_of players.items ≡ scripts.items) }
 {
+    // the line stands in the contract alone
     let _ = line;
     let mut players = Vec::with_capacity(alloc, ends.len())?;
     let mut scripts = scripts.into_iter();

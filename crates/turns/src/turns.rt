@@ -6,6 +6,7 @@ ghost use Rattle.turns.specs.Runs.{AreWritten, CanRun, HaveRun};
 ghost use Rattle.turns.specs.Turns.{plans_of};
 ghost use Rattle.turns.specs.Written.{order_lines, Blames, HoldsNothing};
 
+use crate::half::Turn;
 use crate::target::Target;
 use crate::turn::run_turn;
 use crate::write::{write_block, write_lines, write_out_both};
@@ -70,7 +71,13 @@ fn append_turns<R: Threads + Wait + Sync, S: Shelf, G: Gate>(
     let mut samples = [0i16; 64];
     for t in 0..blocks {
         let seen = renderer.journal().len();
-        run_turn(rt, line, gate, t, actor, renderer, &mut samples, players);
+        let turn = Turn {
+            number: t,
+            line,
+            gate,
+            actor,
+        };
+        run_turn(rt, &turn, renderer, &mut samples, players);
         write_block(t, &samples, shelf, sound)?;
         let (_, new) = renderer.journal().split_at(seen);
         write_lines(new, shelf, order)?;
