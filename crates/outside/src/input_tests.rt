@@ -9,16 +9,16 @@ fn an_input_gives_pieces(rt: HostRuntime) -> Result<(), Fail> {
         let mut input = MemInput::new(alloc, b"abcdefg", piece, &[2])?;
         let mut bytes = Vec::new(alloc);
         let mut chunk = [0u8; 4];
-        let mut failed = 0;
+        let mut failed = false;
         for _ in 0..20 {
             match input.read(&mut chunk) {
                 Ok(0) => break,
                 Ok(count) => bytes.extend_from_slice(&chunk[..count])?,
-                Err(Failed) => failed += 1,
+                Err(Failed) => failed = true,
             }
         }
         assert_eq!(rt; bytes.as_slice(), b"abcdefg".as_slice());
-        assert_eq!(rt; failed, 1);
+        assert!(rt; failed);
         assert_eq!(rt; input.read(&mut chunk), Ok(0), "it has ended");
         assert_eq!(rt; input.read(&mut []), Ok(0), "there is no room");
     }
