@@ -1,0 +1,9 @@
+pub mod Places
+pub mod Chunked
+pub mod Merged
+pub mod Streams
+pub mod Headers
+pub mod Fed
+pub mod Parsing
+pub mod Law
+pub mod Whole
