@@ -2,6 +2,8 @@
 use Rattle.std.specs.Prelude.{ℕ, ◌≡◌, ◌≤◌, ◌⊎◌, List}
 use Rattle.voice_record.specs.Voice.{IsVoice, greatest_value}
 use Rattle.cartridge.specs.Cartridge.{IsCartridge}
+use Rattle.command_set.specs.declared.command.TheConstants.{MODULATION_WHEEL, HOLD_PEDAL, ALL_NOTES_OFF}
+use Rattle.voice_record.specs.declared.parameter.TheConstants.{OPERATOR_SWITCH}
 use Rattle.command_set.specs.declared.command.Command.{Command}
 use Rattle.command_set.specs.declared.command.Command.TheVariants.{NoteOn, NoteOff, Bend, Control, Program, Param, Store, Voice, Cartridge}
 
@@ -30,7 +32,7 @@ content (Cartridge boxed) = LoadsCartridge boxed.value
 
 -- the controls that act: modulation wheel, hold pedal, all notes off
 abbrev pub IsKnownControl : ℕ → Type 0
-IsKnownControl number = (number ≡ 1) ⊎ ((number ≡ 64) ⊎ (number ≡ 123))
+IsKnownControl number = (number ≡ MODULATION_WHEEL) ⊎ ((number ≡ HOLD_PEDAL) ⊎ (number ≡ ALL_NOTES_OFF))
 
 -- sixteen channels, 128 keys, velocities from 1, bends of 14 bits, parameters at most their greatest value, 32 slots
 abbrev pub IsInRange : CommandData → Type 0
@@ -39,7 +41,7 @@ IsInRange (EndsNote channel key) = (channel ≤ 15) × (key ≤ 127)
 IsInRange (Bends channel value) = (channel ≤ 15) × (value ≤ 16383)
 IsInRange (Controls channel number value) = (channel ≤ 15) × IsKnownControl number × (value ≤ 127)
 IsInRange (PicksProgram channel number) = (channel ≤ 15) × (number ≤ 127)
-IsInRange (SetsParameter number value) = (number ≤ 155) × (value ≤ greatest_value number)
+IsInRange (SetsParameter number value) = (number ≤ OPERATOR_SWITCH) × (value ≤ greatest_value number)
 IsInRange (StoresVoice slot) = slot ≤ 31
 IsInRange (LoadsVoice fields) = IsVoice fields
 IsInRange (LoadsCartridge voices) = IsCartridge voices

@@ -11,6 +11,8 @@ use Rattle.midi_stream.specs.declared.message.MidiMessage.{MidiMessage}
 use Rattle.midi_stream.specs.declared.message.MidiMessage.TheVariants.{NoteOff, NoteOn, KeyPressure, Control, Program, ChannelPressure}
 use Rattle.midi_stream.specs.declared.message.MidiMessage.TheVariants.{Bend, SysEx, SysExTooLong}
 use Rattle.velocity_map.specs.declared.curve.Curve.{Curve}
+use Rattle.command_set.specs.declared.command.TheConstants.{MODULATION_WHEEL, HOLD_PEDAL, ALL_NOTES_OFF}
+use Rattle.voice_record.specs.declared.parameter.TheConstants.{OPERATOR_SWITCH}
 use Rattle.velocity_map.specs.Curve.{curve_value}
 use Rattle.command_set.specs.Command.{CommandData, StartsNote, EndsNote, Bends, Controls, PicksProgram, SetsParameter, LoadsVoice, LoadsCartridge}
 use Rattle.command_set.specs.declared.message.CommandFault.{CommandFault}
@@ -26,7 +28,7 @@ pub data MessageOutcome : Type 0 where
 
 -- the controls that act: modulation wheel, hold pedal, all notes off
 abbrev pub acts : ℕ → Bool
-acts number = number == 1 || (number == 64 || number == 123)
+acts number = number == MODULATION_WHEEL || (number == HOLD_PEDAL || number == ALL_NOTES_OFF)
 
 -- each parameter of a voice is the lesser of its byte modulo 128 and its greatest value
 unfoldable pub clamped_voice : List ℕ → List ℕ
@@ -44,7 +46,7 @@ content_outcome (DumpRequest device) = PassedOver
 abbrev pub IsSound : Content → Type 0
 IsSound (VoiceDump device payload) = length payload ≡ 155
 IsSound (CartridgeDump device payload) = length payload ≡ 4096
-IsSound (ParamChange device number value) = (number ≤ 155) × (value ≤ greatest_value number)
+IsSound (ParamChange device number value) = (number ≤ OPERATOR_SWITCH) × (value ≤ greatest_value number)
 IsSound (OtherChange device group number) = Unit {0}
 IsSound (DumpRequest device) = Unit {0}
 

@@ -1,5 +1,6 @@
 -- What a command that edits makes of the voice.
 use Rattle.std.specs.Prelude.{ℕ, ◌≡◌, ◌==◌, if◌then◌else◌, List, [], ◌∷◌, slice_set}
+use Rattle.voice_record.specs.declared.parameter.TheConstants.{OPERATOR_SWITCH}
 use Rattle.command_set.specs.Command.{CommandData, StartsNote, EndsNote, Bends, Controls, PicksProgram, SetsParameter, StoresVoice}
 use Rattle.command_set.specs.Command.{LoadsVoice, LoadsCartridge}
 
@@ -11,7 +12,7 @@ voice_after voice (EndsNote channel key) = voice
 voice_after voice (Bends channel value) = voice
 voice_after voice (Controls channel number value) = voice
 voice_after voice (PicksProgram channel number) = voice
-voice_after voice (SetsParameter number value) = if number == 155 then voice else slice_set voice number value
+voice_after voice (SetsParameter number value) = if number == OPERATOR_SWITCH then voice else slice_set voice number value
 voice_after voice (StoresVoice slot) = voice
 voice_after voice (LoadsVoice other) = other
 voice_after voice (LoadsCartridge voices) = voice

@@ -13,6 +13,7 @@ use Rattle.take_files.specs.declared.read.OrderKind.TheVariants.{Line, Block, Sc
 use Rattle.tool_core.specs.declared.refusal.Refusal.TheVariants.{TooLong, Fault, Cut, NoVoice, NoCartridge, Order}
 use Rattle.tool_core.specs.SysEx.{SysExMessage, sysex_messages, sysex_before}
 use Rattle.tool_core.specs.Refusals.{message_content}
+use Rattle.voice_record.specs.declared.parameter.TheConstants.{NAME}
 
 unfoldable pub usage : List ℕ
 usage = codes "usage: tool COMMAND WORDS..." ++ 10 ∷ []
@@ -63,7 +64,7 @@ shown byte = if nat_le 32 byte && nat_le byte 126 then byte else 46
 
 -- the ten bytes of a voice's name
 abbrev pub shown_name : List ℕ → List ℕ
-shown_name voice = map shown (slice_range voice 145 155)
+shown_name voice = map shown (slice_range voice NAME 155)
 
 -- the line of a voice by its bytes, and that of a parameter and its new value
 unfoldable pub voice_line : List ℕ → List ℕ
